@@ -1,0 +1,23 @@
+-- Chains: what a store elsewhere leaves, and the first element.
+use mathlib.Core.Path.{_≡_, sym, ap, subst}
+use mathlib.Core.List.{List, [], _∷_}
+use Prim.Native.Nat.{ℕ, _<_}
+use native.Mathlib.Omega.{arith}
+use lib.ListN.{length}
+use Rattle.words.specs.Basics.{Chain}
+use Rattle.words.specs.Counting.{δ-same, count, count-cons}
+
+-- the two go on alike from each of its elements
+pub chain-cong : (N : ℕ) (next next' : ℕ → ℕ) (xs : List ℕ) (a : ℕ) → ((x : ℕ) → x < N → 0 < count x xs → next' x ≡ next x) → Chain next N a xs → Chain next' N a xs
+chain-cong N next next' [] a h t = t
+chain-cong N next next' (x ∷ xs) a h t = (
+  t .0,
+  t .1,
+  subst (λ (q : ℕ). Chain next' N q xs) (sym (h x (t .1) (omega (arith, count-cons x x xs, δ-same x))))
+      (chain-cong N next next' xs (next x) (λ y b o. h y b (omega (arith, count-cons y x xs))) (t .2)),
+)
+
+pub chain-head : (N : ℕ) (next : ℕ → ℕ) (a : ℕ) (xs : List ℕ) → 0 < length xs → Chain next N a xs → (ys : List ℕ) × (xs ≡ a ∷ ys) × (a < N) × Chain next N (next a) ys
+chain-head N next a [] p c = absurd (omega arith)
+chain-head N next a (x ∷ xs) p c =
+    (xs, ap (λ (q : ℕ). q ∷ xs) (sym (c .0)), subst (λ (q : ℕ). q < N) (sym (c .0)) (c .1), subst (λ (q : ℕ). Chain next N (next q) xs) (sym (c .0)) (c .2))

@@ -1,0 +1,187 @@
+-- Counting with numbers that are 0 or 1, occurrences in a list, and sums, so that facts are linear and `omega` closes them.
+use mathlib.Core.Path.{_≡_, refl, sym, ap}
+use mathlib.Core.Logic.{_≢_, _⊎_, inl, inr}
+use mathlib.Core.List.{List, [], _∷_, _++_}
+use Prim.Native.Nat.{ℕ, zero, suc, _+_, _*_, _≤_, _<_}
+use native.Mathlib.Nat.{le-refl}
+use native.Mathlib.Omega.{arith}
+use native.Mathlib.Decide.{ℕ-discrete}
+use lib.ListN.{length}
+use Rattle.words.specs.Basics.{sum}
+
+-- 1 where the two are equal, else 0
+unfoldable pub δ : ℕ → ℕ → ℕ
+δ zero zero = 1
+δ zero (suc j) = 0
+δ (suc i) zero = 0
+δ (suc i) (suc j) = δ i j
+
+pub δ-same : (i : ℕ) → δ i i ≡ 1
+unfolding δ
+δ-same zero = refl
+δ-same (suc i) = δ-same i
+
+pub δ-other : (i j : ℕ) → i ≢ j → δ i j ≡ 0
+unfolding δ
+δ-other zero zero h = absurd (h refl)
+δ-other zero (suc j) h = refl
+δ-other (suc i) zero h = refl
+δ-other (suc i) (suc j) h = δ-other i j (λ e. h (ap suc e))
+
+pub δ-le : (i j : ℕ) → δ i j ≤ 1
+unfolding δ
+δ-le zero zero = omega arith
+δ-le zero (suc j) = omega arith
+δ-le (suc i) zero = omega arith
+δ-le (suc i) (suc j) = δ-le i j
+
+pub δ-eq : (i j : ℕ) → 0 < δ i j → i ≡ j
+unfolding δ
+δ-eq zero zero h = refl
+δ-eq zero (suc j) h = omega arith
+δ-eq (suc i) zero h = omega arith
+δ-eq (suc i) (suc j) h = ap suc (δ-eq i j h)
+
+-- 1 at zero, else 0
+unfoldable pub δ₀ : ℕ → ℕ
+δ₀ zero = 1
+δ₀ (suc n) = 0
+
+pub δ₀-zero : (n : ℕ) → n ≡ 0 → δ₀ n ≡ 1
+unfolding δ₀
+δ₀-zero zero e = refl
+δ₀-zero (suc n) e = omega arith
+
+pub δ₀-pos : (n : ℕ) → 0 < n → δ₀ n ≡ 0
+unfolding δ₀
+δ₀-pos zero e = omega arith
+δ₀-pos (suc n) e = refl
+
+pub δ₀-inv : (n : ℕ) → 0 < δ₀ n → n ≡ 0
+unfolding δ₀
+δ₀-inv zero e = refl
+δ₀-inv (suc n) e = omega arith
+
+-- x if n is not zero, else 0
+unfoldable pub when : ℕ → ℕ → ℕ
+when zero x = 0
+when (suc n) x = x
+
+pub when-zero : (n x : ℕ) → n ≡ 0 → when n x ≡ 0
+unfolding when
+when-zero zero x e = refl
+when-zero (suc n) x e = omega arith
+
+pub when-pos : (n x : ℕ) → 0 < n → when n x ≡ x
+unfolding when
+when-pos zero x e = omega arith
+when-pos (suc n) x e = refl
+
+pub when-le : (n x : ℕ) → when n x ≤ x
+unfolding when
+when-le zero x = omega arith
+when-le (suc n) x = omega arith
+
+pub when-inv : (n x : ℕ) → 0 < when n x → 0 < n
+unfolding when
+when-inv zero x h = h
+when-inv (suc n) x h = omega arith
+
+unfoldable pub count : ℕ → List ℕ → ℕ
+count i [] = 0
+count i (x ∷ xs) = δ i x + count i xs
+
+pub count-nil : (i : ℕ) → count i [] ≡ 0
+unfolding count
+count-nil i = refl
+
+pub count-cons : (i x : ℕ) (xs : List ℕ) → count i (x ∷ xs) ≡ δ i x + count i xs
+unfolding count
+count-cons i x xs = refl
+
+pub count-le : (i : ℕ) (xs : List ℕ) → count i xs ≤ length xs
+unfolding count
+count-le i [] = omega arith
+count-le i (x ∷ xs) = omega (arith, δ-le i x, count-le i xs)
+
+pub sum-cong : (n : ℕ) (f g : ℕ → ℕ) → ((j : ℕ) → j < n → f j ≡ g j) → sum n f ≡ sum n g
+sum-cong zero f g h = refl
+sum-cong (suc n) f g h = omega (arith, sum-cong n f g (λ j b. h j (omega arith)), h n (omega arith))
+
+-- the two differ at k alone
+pub sum-upd : (n k : ℕ) (f g : ℕ → ℕ) → k < n → ((j : ℕ) → j < n → j ≢ k → f j ≡ g j) → sum n f + g k ≡ sum n g + f k
+sum-upd zero k f g b h = omega arith
+sum-upd (suc n) k f g b h = elim (ℕ-discrete k n) [
+  | yes e ↦ omega (arith, ap f e, ap g e, sum-cong n f g (λ j c. h j (omega arith) (omega arith)))
+  | no e ↦ omega (arith, sum-upd n k f g (omega arith) (λ j c d. h j (omega arith) d), h n (omega arith) (omega arith))
+]
+
+pub sum-ge : (n k : ℕ) (f : ℕ → ℕ) → k < n → f k ≤ sum n f
+sum-ge zero k f b = omega arith
+sum-ge (suc n) k f b = elim (ℕ-discrete k n) [
+  | yes e ↦ omega (arith, ap f e)
+  | no e ↦ omega (arith, sum-ge n k f (omega arith))
+]
+
+pub sum-pos : (n : ℕ) (f : ℕ → ℕ) → 0 < sum n f → (j : ℕ) × (j < n) × (0 < f j)
+sum-pos zero f h = absurd (omega arith)
+sum-pos (suc n) f h = elim (ℕ-discrete (f n) 0) [
+  | yes e ↦ (let r = sum-pos n f (omega arith) in (r .0, omega (arith, r .1), r .2))
+  | no e ↦ (n, omega arith, omega arith)
+]
+
+pub sum-le : (n c : ℕ) (f : ℕ → ℕ) → ((j : ℕ) → f j ≤ c) → sum n f ≤ n * c
+sum-le zero c f h = omega arith
+sum-le (suc n) c f h = omega (arith, sum-le n c f h, h n)
+
+pub sum-add : (n : ℕ) (f g : ℕ → ℕ) → sum n (λ j. f j + g j) ≡ sum n f + sum n g
+sum-add zero f g = refl
+sum-add (suc n) f g = omega (arith, sum-add n f g)
+
+pub sum-zero : (n : ℕ) (f : ℕ → ℕ) → ((j : ℕ) → j < n → f j ≡ 0) → sum n f ≡ 0
+sum-zero zero f h = refl
+sum-zero (suc n) f h = omega (arith, sum-zero n f (λ j b. h j (omega arith)), h n (omega arith))
+
+pub sum-one : (n k : ℕ) (f : ℕ → ℕ) → k < n → ((j : ℕ) → j < n → j ≢ k → f j ≡ 0) → sum n f ≡ f k
+sum-one n k f b h = omega (arith, sum-upd n k f (λ j. 0) b h, sum-zero n (λ j. 0) (λ j b. refl))
+
+pub sum-mono : (k : ℕ) {f g : ℕ → ℕ} → ((i : ℕ) → f i ≤ g i) → sum k f ≤ sum k g
+sum-mono zero h = le-refl 0
+sum-mono (suc k) h = let r = sum-mono k h in let s = h k in omega arith
+
+pub sum-const : (k c : ℕ) → sum k (λ i. c) ≡ k * c
+sum-const zero c = omega arith
+sum-const (suc k) c = omega (arith, sum-const k c)
+
+-- f 0 + .. + f n
+pub sum-first : (n : ℕ) (f : ℕ → ℕ) → sum (suc n) f ≡ f 0 + sum n (λ j. f (suc j))
+sum-first zero f = omega arith
+sum-first (suc n) f = omega (arith, sum-first n f)
+
+pub count-append : (i : ℕ) (xs ys : List ℕ) → count i (xs ++ ys) ≡ count i xs + count i ys
+count-append i [] ys = omega (arith, count-nil i)
+count-append i (x ∷ xs) ys = omega (arith, count-cons i x (xs ++ ys), count-cons i x xs, count-append i xs ys)
+
+-- each element once
+unfoldable pub Once : List ℕ → Type 0
+Once xs = (i : ℕ) → count i xs ≤ 1
+
+-- ---- the numbers a, a + 1, .., a + c - 1
+
+unfoldable pub range : ℕ → ℕ → List ℕ
+range zero a = []
+range (suc c) a = a ∷ range c (suc a)
+
+pub count-range-out : (c a i : ℕ) → (i < a) ⊎ (a + c ≤ i) → count i (range c a) ≡ 0
+unfolding range
+count-range-out zero a i h = count-nil i
+count-range-out (suc c) a i (inl h) = omega (arith, count-cons i a (range c (suc a)), δ-other i a (omega arith), count-range-out c (suc a) i (inl (omega arith)))
+count-range-out (suc c) a i (inr h) = omega (arith, count-cons i a (range c (suc a)), δ-other i a (omega arith), count-range-out c (suc a) i (inr (omega arith)))
+
+pub count-range-in : (c a i : ℕ) → a ≤ i → i < a + c → count i (range c a) ≡ 1
+unfolding range
+count-range-in zero a i h b = omega arith
+count-range-in (suc c) a i h b = elim (ℕ-discrete i a) [
+  | yes e ↦ omega (arith, count-cons i a (range c (suc a)), ap (δ i) (sym e), δ-same i, count-range-out c (suc a) i (inl (omega arith)))
+  | no e ↦ omega (arith, count-cons i a (range c (suc a)), δ-other i a e, count-range-in c (suc a) i (omega arith) (omega arith))
+]

@@ -1,0 +1,7 @@
+-- Basics has the definitions. The rest are laws that several crates cite.
+pub mod Basics
+pub mod Tests
+pub mod Counting
+pub mod Lists
+pub mod Distinct
+pub mod Chains
