@@ -1,9 +1,9 @@
 -- Numbers and lists that the definitions of every crate are made of. Definitions only.
 use mathlib.Core.Path.{_≡_}
-use mathlib.Core.Bool.{Bool, true, false, cond, _||_, _&&_}
+use mathlib.Core.Bool.{Bool, true, false, cond, not, _||_, _&&_}
 use mathlib.Core.List.{List, [], _∷_, _++_}
 use Prim.Native.Nat.{ℕ, zero, suc, _+_, _%_, _^_, _<_}
-use lib.Dec.{eqb}
+use lib.Dec.{eqb, ltb}
 
 -- document 01: "None is 4,294,967,295"
 abbrev pub none : ℕ
@@ -41,3 +41,35 @@ distinct (x ∷ xs) = let r = distinct xs in let r′ = suc r in cond (among x x
 abbrev pub Chain : (ℕ → ℕ) → ℕ → ℕ → List ℕ → Type 0
 Chain next N a [] = a ≡ none
 Chain next N a (x ∷ xs) = (a ≡ x) × (x < N) × Chain next N (next x) xs
+
+-- f holds of every number below n
+abbrev pub all : ℕ → (ℕ → Bool) → Bool
+all zero f = true
+all (suc n) f = all n f && f n
+
+-- of how many numbers below n it holds
+abbrev pub howMany : ℕ → (ℕ → Bool) → ℕ
+howMany n f = sum n (λ i. cond (f i) 1 0)
+
+-- b, where a
+abbrev pub implies : Bool → Bool → Bool
+implies a b = not a || b
+
+-- 1 where the two are equal, else 0
+unfoldable pub δ : ℕ → ℕ → ℕ
+δ i j = cond (eqb i j) 1 0
+
+-- how often i stands in a list
+unfoldable pub count : ℕ → List ℕ → ℕ
+count i [] = 0
+count i (x ∷ xs) = δ i x + count i xs
+
+-- the chain from a on by next until none, c elements at most
+abbrev pub follow : ℕ → (ℕ → ℕ) → ℕ → List ℕ
+follow zero next a = []
+follow (suc c) next a = elim (eqb a none) [ true ↦ [] | false ↦ a ∷ follow c next (next a) ]
+
+-- every element is below N
+abbrev pub below : ℕ → List ℕ → Bool
+below N [] = true
+below N (x ∷ xs) = ltb x N && below N xs

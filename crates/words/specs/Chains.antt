@@ -4,8 +4,8 @@ use mathlib.Core.List.{List, [], _∷_}
 use Prim.Native.Nat.{ℕ, _<_}
 use native.Mathlib.Omega.{arith}
 use lib.ListN.{length}
-use Rattle.words.specs.Basics.{Chain}
-use Rattle.words.specs.Counting.{δ-same, count, count-cons}
+use Rattle.words.specs.Basics.{Chain, count}
+use Rattle.words.specs.Counting.{δ-same, count-cons}
 
 -- the two go on alike from each of its elements
 pub chain-cong : (N : ℕ) (next next' : ℕ → ℕ) (xs : List ℕ) (a : ℕ) → ((x : ℕ) → x < N → 0 < count x xs → next' x ≡ next x) → Chain next N a xs → Chain next' N a xs

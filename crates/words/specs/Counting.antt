@@ -1,5 +1,5 @@
 -- Counting with numbers that are 0 or 1, occurrences in a list, and sums, so that facts are linear and `omega` closes them.
-use mathlib.Core.Path.{_≡_, refl, sym, ap}
+use mathlib.Core.Path.{_≡_, refl, sym, ap, _∙_}
 use mathlib.Core.Logic.{_≢_, _⊎_, inl, inr}
 use mathlib.Core.List.{List, [], _∷_, _++_}
 use Prim.Native.Nat.{ℕ, zero, suc, _+_, _*_, _≤_, _<_}
@@ -7,40 +7,25 @@ use native.Mathlib.Nat.{le-refl}
 use native.Mathlib.Omega.{arith}
 use native.Mathlib.Decide.{ℕ-discrete}
 use lib.ListN.{length}
-use Rattle.words.specs.Basics.{sum}
-
--- 1 where the two are equal, else 0
-unfoldable pub δ : ℕ → ℕ → ℕ
-δ zero zero = 1
-δ zero (suc j) = 0
-δ (suc i) zero = 0
-δ (suc i) (suc j) = δ i j
+use borrow.Author.Tests.{eq-eqb, ne-eqb}
+use mathlib.Core.Bool.{Bool, true, false, cond}
+use Rattle.words.specs.Tests.{decided, both}
+use Rattle.words.specs.Basics.{sum, howMany, all}
+unfoldable pub use Rattle.words.specs.Basics.{δ, count}
 
 pub δ-same : (i : ℕ) → δ i i ≡ 1
 unfolding δ
-δ-same zero = refl
-δ-same (suc i) = δ-same i
+δ-same i = rw (eq-eqb i i refl)
 
 pub δ-other : (i j : ℕ) → i ≢ j → δ i j ≡ 0
 unfolding δ
-δ-other zero zero h = absurd (h refl)
-δ-other zero (suc j) h = refl
-δ-other (suc i) zero h = refl
-δ-other (suc i) (suc j) h = δ-other i j (λ e. h (ap suc e))
+δ-other i j h = rw (ne-eqb i j h)
 
 pub δ-le : (i j : ℕ) → δ i j ≤ 1
-unfolding δ
-δ-le zero zero = omega arith
-δ-le zero (suc j) = omega arith
-δ-le (suc i) zero = omega arith
-δ-le (suc i) (suc j) = δ-le i j
+δ-le i j = elim (ℕ-discrete i j) [ yes e ↦ omega (arith, ap (δ i) (sym e), δ-same i) | no e ↦ omega (arith, δ-other i j e) ]
 
 pub δ-eq : (i j : ℕ) → 0 < δ i j → i ≡ j
-unfolding δ
-δ-eq zero zero h = refl
-δ-eq zero (suc j) h = omega arith
-δ-eq (suc i) zero h = omega arith
-δ-eq (suc i) (suc j) h = ap suc (δ-eq i j h)
+δ-eq i j h = elim (ℕ-discrete i j) [ yes e ↦ e | no e ↦ absurd (omega (arith, δ-other i j e)) ]
 
 -- 1 at zero, else 0
 unfoldable pub δ₀ : ℕ → ℕ
@@ -86,10 +71,6 @@ pub when-inv : (n x : ℕ) → 0 < when n x → 0 < n
 unfolding when
 when-inv zero x h = h
 when-inv (suc n) x h = omega arith
-
-unfoldable pub count : ℕ → List ℕ → ℕ
-count i [] = 0
-count i (x ∷ xs) = δ i x + count i xs
 
 pub count-nil : (i : ℕ) → count i [] ≡ 0
 unfolding count
@@ -185,3 +166,37 @@ count-range-in (suc c) a i h b = elim (ℕ-discrete i a) [
   | yes e ↦ omega (arith, count-cons i a (range c (suc a)), ap (δ i) (sym e), δ-same i, count-range-out c (suc a) i (inl (omega arith)))
   | no e ↦ omega (arith, count-cons i a (range c (suc a)), δ-other i a e, count-range-in c (suc a) i (omega arith) (omega arith))
 ]
+
+-- ---- bounded tests
+
+pub all-at : (n : ℕ) (f : ℕ → Bool) → all n f ≡ true → (i : ℕ) → i < n → f i ≡ true
+all-at zero f e i b = absurd (omega arith)
+all-at (suc n) f e i b =
+    let p = both (all n f) (f n) e in
+    elim (ℕ-discrete i n) [ yes q ↦ ap f q ∙ p .1 | no q ↦ all-at n f (p .0) i (omega arith) ]
+
+pub all-of : (n : ℕ) (f : ℕ → Bool) → ((i : ℕ) → i < n → f i ≡ true) → all n f ≡ true
+all-of zero f h = refl
+all-of (suc n) f h = rw (all-of n f (λ i b. h i (omega arith)), h n (omega arith))
+
+-- a test counted
+pub hit : {b : Bool} → b ≡ true → _≡_ {A = ℕ} (cond b 1 0) 1
+hit e = rw e
+
+pub miss : {b : Bool} → b ≡ false → _≡_ {A = ℕ} (cond b 1 0) 0
+miss e = rw e
+
+pub hit-le : (b : Bool) → cond b 1 0 ≤ 1
+hit-le true = omega arith
+hit-le false = omega arith
+
+pub howMany-zero : (n : ℕ) (f : ℕ → Bool) → howMany n f ≡ 0 → (i : ℕ) → i < n → f i ≡ false
+howMany-zero n f e i b = elim (decided (f i)) [ inl t ↦ absurd (omega (arith, sum-ge n i (λ j. cond (f j) 1 0) b, hit t)) | inr t ↦ t ]
+
+pub howMany-none : (n : ℕ) (f : ℕ → Bool) → ((i : ℕ) → i < n → f i ≡ false) → howMany n f ≡ 0
+howMany-none n f h = sum-zero n (λ j. cond (f j) 1 0) (λ j b. miss (h j b))
+
+pub howMany-some : (n : ℕ) (f : ℕ → Bool) → 0 < howMany n f → (i : ℕ) × (i < n) × (f i ≡ true)
+howMany-some n f h =
+    let r = sum-pos n (λ j. cond (f j) 1 0) h in
+    (r .0, r .1, elim (decided (f (r .0))) [ inl t ↦ t | inr t ↦ absurd (omega (arith, r .2, miss t)) ])

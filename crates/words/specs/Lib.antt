@@ -5,3 +5,4 @@ pub mod Counting
 pub mod Lists
 pub mod Distinct
 pub mod Chains
+pub mod NoDup

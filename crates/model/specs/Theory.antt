@@ -1,0 +1,44 @@
+-- ---- demand 3
+-- which names a frame may still bring
+pub mod Names
+-- the child-first list by recursion on the trace
+pub mod ChildFirst
+-- nodes in use depend only on which histories there are
+pub mod Histories
+-- a history that has grown by writes of one frame
+pub mod Extends
+-- a run as its live frames see it, without deques
+pub mod LiveRun
+-- the test for a live child
+pub mod Children
+-- the child-first list keeps each frame's steps
+pub mod StepsKept
+-- the document's child-first list is the one by recursion
+pub mod LiteralList
+-- the chain from Main to the frame that acts: no more frames and nodes than in the given run
+pub mod Ancestors
+-- what an accepted turn does to the live frames
+pub mod Effects
+-- accepted and refused steps; what is kept along a run; a run is a LiveRun
+pub mod RunSteps
+-- one worker does the child-first list
+pub mod OneWorker
+-- the live frames are a tree with unique names
+pub mod FrameTree
+-- Main has returned just when no frame lives
+pub mod MainEnds
+-- the theorem
+pub mod Demand3Proof
+-- ---- invariants of the machine, for those who relate another state to it
+-- the shape of a deque
+pub mod DequeShape
+-- deques keep their shape, and suspended frames have live children
+pub mod Deques
+-- nodes in use are at most the nodes
+pub mod PoolBound
+-- a write's mark is new
+pub mod FreshMarks
+-- at most 64 frames, a value for each splitter, writes below n
+pub mod Bounds
+-- all of them together, along a run from a start
+pub mod Invariant

@@ -1,0 +1,80 @@
+-- Demand 3 on the plain machine.
+use mathlib.Core.Path.{_≡_, refl, sym, ap, _∙_, subst}
+use mathlib.Core.Logic.{_↔_, inl, inr}
+use mathlib.Core.List.{List·Memᴰ·head as here, List·Memᴰ·not-nil as not-in-nil, List·Memᴰ·eq-of-singleton as In-one}
+use mathlib.Core.List.{List, [], _∷_, map}
+use Prim.Native.Nat.{ℕ, suc, _≤_}
+use native.Mathlib.Nat.{le-refl}
+use native.Mathlib.Omega.{arith}
+use lib.ListN.{length}
+use Rattle.model.specs.declared.Step.{Step}
+use Rattle.model.specs.Machine.{Name, Machine, live, inUse, freeNodes, main, start}
+use Rattle.model.specs.Run.{run, Returned, Entry, entriesOf, stepsOf, reads, readsOf, spawns, IsFrame, childFirstList}
+use Rattle.model.specs.Demand3.{traceOf, oneWorkerOf, Demand3}
+use Rattle.model.specs.Theory.Names.{owns-or-not}
+use Rattle.model.specs.Theory.ChildFirst.{childFirst, of-foreign}
+use Rattle.model.specs.Theory.Histories.{inUse-none}
+use Rattle.model.specs.Theory.LiveRun.{LiveRun, Disjoint}
+use Rattle.model.specs.Theory.StepsKept.{unowned, steps-kept}
+use Rattle.model.specs.Theory.LiteralList.{list-is}
+use Rattle.model.specs.Theory.Effects.{live-start}
+use Rattle.model.specs.Theory.RunSteps.{sizes-run, live-run}
+use Rattle.model.specs.Theory.OneWorker.{solo, Performs, performs-accepted, performs-run, performs-trace, child-first-runs}
+use Rattle.model.specs.Theory.FrameTree.{tree-start}
+use Rattle.model.specs.Theory.MainEnds.{returned-ends, ends-returned}
+
+pub free-when-over : (M : Machine) → live M ≡ [] → freeNodes M ≡ M .nodes
+free-when-over M e = let z : inUse (M .splitters) (live M) ≡ 0 = ap (inUse (M .splitters)) e ∙ inUse-none (M .splitters) in omega arith
+
+same-frame : (es fs : List Entry) → ((p : Name) → stepsOf p es ≡ stepsOf p fs) → (p : Name) → IsFrame es p ↔ IsFrame fs p
+same-frame es fs h [] = ((λ u. u), (λ u. u))
+same-frame es fs h (k ∷ p) = ((λ u. (u .0, subst (λ z. k ≤ spawns z) (h p) (u .1))), (λ u. (u .0, subst (λ z. k ≤ spawns z) (sym (h p)) (u .1))))
+
+module _ (w : ℕ) (vs : List ℕ) (nodes : ℕ) (ss : List Step) (returned : Returned (start w vs nodes) ss) where
+  over : live (run (start w vs nodes) ss) ≡ []
+  over = returned-ends (start w vs nodes) ss (tree-start w vs nodes) returned
+
+  run-of : LiveRun (length vs) nodes (main vs ∷ []) (traceOf w vs nodes ss)
+  run-of = subst (λ L. LiveRun (length vs) nodes L (traceOf w vs nodes ss)) (live-start w vs nodes) (live-run (length vs) nodes (start w vs nodes) ss refl refl over)
+
+  disjoint : Disjoint (main vs ∷ [])
+  disjoint = ((λ g m r o o′. not-in-nil m), tt)
+
+  -- Main's child-first list, entries and all
+  abbrev list : List Entry
+  list = childFirstList (suc (length (traceOf w vs nodes ss))) (traceOf w vs nodes ss) []
+
+  main-list : list ≡ childFirst (traceOf w vs nodes ss) [] 1
+  main-list = list-is (length vs) nodes run-of disjoint (main vs) (here refl) (length (traceOf w vs nodes ss)) (le-refl (length (traceOf w vs nodes ss)))
+
+  performs : Performs list (start 1 vs nodes) (solo (length vs) nodes [])
+  performs = subst (λ z. Performs z (start 1 vs nodes) (solo (length vs) nodes [])) (sym main-list) (child-first-runs (length vs) nodes run-of disjoint (main vs) [] (here refl) (refl, tt))
+
+  -- the one-worker run's trace is the child-first list itself
+  pub same-trace : traceOf 1 vs nodes (oneWorkerOf w vs nodes ss) ≡ list
+  same-trace = performs-trace list (start 1 vs nodes) (solo (length vs) nodes []) performs
+
+  same-of-name : (p : Name) → entriesOf p list ≡ entriesOf p (traceOf w vs nodes ss)
+  same-of-name p =
+      ap (entriesOf p) main-list ∙
+      elim (owns-or-not [] 0 p) [
+        | inl o ↦ steps-kept (length vs) nodes run-of disjoint (main vs) (here refl) p o
+        | inr o ↦ of-foreign p (traceOf w vs nodes ss) [] 0 o ∙ sym (unowned run-of p (λ f m o′. o (rw (In-one m) at o′)))
+      ]
+
+  same-actions : (p : Name) → stepsOf p (traceOf 1 vs nodes (oneWorkerOf w vs nodes ss)) ≡ stepsOf p (traceOf w vs nodes ss)
+  same-actions p = ap (stepsOf p) same-trace ∙ ap (map (λ e. e .action)) (same-of-name p)
+
+  over-alone : live (run (start 1 vs nodes) (oneWorkerOf w vs nodes ss)) ≡ []
+  over-alone = ap live (performs-run list (start 1 vs nodes) (solo (length vs) nodes []) performs)
+
+  pub demand3 : Demand3 w vs nodes ss
+  demand3 = record {
+    none-refused = performs-accepted list (start 1 vs nodes) (solo (length vs) nodes []) performs;
+    returns = ends-returned (start 1 vs nodes) (oneWorkerOf w vs nodes ss) (tree-start 1 vs nodes) refl over-alone;
+    same-frames = same-frame (traceOf 1 vs nodes (oneWorkerOf w vs nodes ss)) (traceOf w vs nodes ss) same-actions;
+    same-steps = same-actions;
+    same-reads = λ p. ap (readsOf p) same-trace ∙ ap reads (same-of-name p);
+    all-free = free-when-over (run (start w vs nodes) ss) over ∙ (sizes-run (start w vs nodes) ss) .nodes;
+    all-free-alone = free-when-over (run (start 1 vs nodes) (oneWorkerOf w vs nodes ss)) over-alone ∙ (sizes-run (start 1 vs nodes) (oneWorkerOf w vs nodes ss)) .nodes;
+  }
