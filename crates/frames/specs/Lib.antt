@@ -1,0 +1,6 @@
+-- Frames, Deques and Steps have the definitions, Promises the contracts that are more than one equation; Theory has the laws.
+pub mod Frames
+pub mod Deques
+pub mod Steps
+pub mod Promises
+pub mod Theory

@@ -1,0 +1,41 @@
+-- What the definitions of Pool mean. No contract cites anything here.
+-- Nodes: what is read after a store
+pub mod Nodes
+-- Invariant: the invariant of the reference counts, and the stores that keep it
+pub mod Invariant
+-- FreeCount: the length of the free list
+pub mod FreeCount
+-- Changes: what nodes in use keep while the pool grows, and while it shrinks
+pub mod Changes
+-- Retain: one more outside link
+pub mod Retain
+-- Release: one outside link less
+pub mod Release
+-- Take: a node leaves the free list
+pub mod Take
+-- Walk: the node of a level on the way to a splitter
+pub mod Walk
+-- PathNode: one node of a write's new path
+pub mod PathNode
+-- CopyPath: the whole new path
+pub mod CopyPath
+-- Operations: spawn, return and write on a pool with live roots
+pub mod Operations
+-- Reached: in use is reached from a live root
+pub mod Reached
+-- Trees: document 01's soundness of the pool, and the nodes of its trees
+pub mod Trees
+-- Soundness: soundness of the pool is the invariant
+pub mod Soundness
+-- Sharing: frames share a node where their last writes are the same
+pub mod Sharing
+-- InUse: the nodes in use are as many as the model says
+pub mod InUse
+-- Start: a pool that is filled as the start says is live
+pub mod Start
+-- Init: initPool fills it so
+pub mod Init
+-- Good: the pool of a run from a start, and its operations: what other crates cite
+pub mod Good
+-- Examples: the definitions computed
+pub mod Examples

@@ -1,0 +1,43 @@
+-- Document 01's words for the answers. Definitions only.
+use Prim.Native.Nat.{ℕ}
+use Rattle.frames.specs.Steps.{returnedNumber, syncedNumber}
+use Rattle.semantics.specs.declared.Done.{Done}
+use Rattle.semantics.specs.declared.Done.the-variants.{Spawned, Ended, Stolen, Waited, Value, Written}
+use Rattle.semantics.specs.declared.Refusal.{Refusal}
+use Rattle.semantics.specs.declared.Refusal.the-variants.{Values, Workers, Nodes, Tape, Work, Unsound, Record, NoWorker, MainReturned, WorkerIdle, ThiefBusy, NoVictim, FramesFull, ChildLives, NoSplitter, PoolFull}
+use Rattle.semantics.specs.declared.Answer.{Answer}
+use Rattle.semantics.specs.declared.Answer.the-variants.{Accepted, Refused}
+
+-- "Refused, in checking order"
+abbrev pub refusalNumber : Refusal → ℕ
+refusalNumber Values = 1
+refusalNumber Workers = 2
+refusalNumber Nodes = 3
+refusalNumber Tape = 4
+refusalNumber Work = 5
+refusalNumber Unsound = 6
+refusalNumber Record = 7
+refusalNumber NoWorker = 8
+refusalNumber MainReturned = 9
+refusalNumber WorkerIdle = 10
+refusalNumber ThiefBusy = 11
+refusalNumber NoVictim = 12
+refusalNumber FramesFull = 13
+refusalNumber ChildLives = 14
+refusalNumber NoSplitter = 15
+refusalNumber PoolFull = 16
+
+-- "100 plus the kind, then a number: spawn the child's depth, steal the stolen frame's depth, return and sync the outcome,
+-- read the value, write the free nodes left"
+abbrev pub doneWords : Done → ℕ × ℕ
+doneWords (Spawned d) = (101, d)
+doneWords (Ended o) = (102, returnedNumber o)
+doneWords (Stolen d) = (103, d)
+doneWords (Waited o) = (104, syncedNumber o)
+doneWords (Value v) = (105, v)
+doneWords (Written k) = (106, k)
+
+-- "A refused record gives its refusal and 0"
+abbrev pub answerWords : Answer → ℕ × ℕ
+answerWords (Accepted d) = doneWords d
+answerWords (Refused r) = (refusalNumber r, 0)

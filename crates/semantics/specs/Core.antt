@@ -1,0 +1,122 @@
+-- What a step does to the state and the pool, and what it answers: refusals 8 to 16 in checking order, then the step.
+-- Definitions only; every one is total.
+use mathlib.Core.Bool.{Bool, cond, not, _||_}
+use mathlib.Core.List.{List, [], _∷_, _++_}
+use Prim.Native.Nat.{ℕ, suc, _-_}
+use lib.Dec.{eqb, ltb, leb}
+use Rattle.words.specs.Basics.{none, plus, all}
+use Rattle.pool.specs.Pool.{readAt, retain, release, write}
+use Rattle.frames.specs.declared.Frame.{Frame}
+use Rattle.frames.specs.Frames.{setFrame, withRoot}
+use Rattle.frames.specs.Deques.{size, bottom}
+use Rattle.frames.specs.Steps.{Table, acting, spawn, return, returned, steal, stolen, sync, synced}
+use Rattle.model.specs.declared.Step.{Step}
+use Rattle.model.specs.declared.Step.the-variants.{Spawn, Return, Steal, Sync, Read, Write}
+use Rattle.semantics.specs.declared.Head.{Head}
+use Rattle.semantics.specs.declared.Done.{Done}
+use Rattle.semantics.specs.declared.Done.the-variants.{Spawned, Ended, Stolen, Waited, Value, Written}
+use Rattle.semantics.specs.declared.Refusal.{Refusal}
+use Rattle.semantics.specs.declared.Refusal.the-variants.{NoWorker, MainReturned, WorkerIdle, ThiefBusy, NoVictim, FramesFull, ChildLives, NoSplitter, PoolFull}
+use Rattle.semantics.specs.declared.Answer.{Answer}
+use Rattle.semantics.specs.declared.Answer.the-variants.{Accepted, Refused}
+
+-- what steps act on: the numbers, the words of the deques and of the frame table, and the pool's words
+pub record Core : Type 0 where
+  pub head : Head
+  pub deques : List ℕ
+  pub frames : List ℕ
+  pub pool : List ℕ
+
+-- a core and the answer of the step that led to it
+pub record Did : Type 0 where
+  pub core : Core
+  pub answer : Answer
+
+abbrev pub did : Head → List ℕ → List ℕ → List ℕ → Answer → Did
+did h ds fs ws a = record { core = record { head = h; deques = ds; frames = fs; pool = ws }; answer = a }
+
+abbrev pub tableOf : Core → Table
+tableOf c = record { deques = c .deques; frames = c .frames; free = c .head .vacant }
+
+-- the frame that worker w executes
+abbrev pub actingIn : Core → ℕ → Frame
+actingIn c w = acting (tableOf c) w
+
+-- ---- numbers
+
+-- with another first free place
+abbrev pub withVacant : Head → ℕ → Head
+withVacant h p =
+    record { workers = h .workers; splitters = h .splitters; nodes = h .nodes; free = h .free; vacant = p; height = h .height; spare = h .spare }
+
+-- with another first free node and number of free nodes
+abbrev pub withFree : Head → ℕ → ℕ → Head
+withFree h f k =
+    record { workers = h .workers; splitters = h .splitters; nodes = h .nodes; free = f; vacant = h .vacant; height = h .height; spare = k }
+
+-- ---- refusals
+
+abbrev pub idle : Core → ℕ → Bool
+idle c w = eqb (size (c .deques) w) 0
+
+abbrev pub noWorker : Core → ℕ → Bool
+noWorker c w = not (ltb w (c .head .workers))
+
+-- "Main has returned": in a sound state a frame that lives is in a deque, or a frame below it is
+abbrev pub allIdle : Core → Bool
+allIdle c = all (c .head .workers) (idle c)
+
+-- the first test that holds refuses, and nothing changes
+abbrev pub judged : List (Bool × Refusal) → Core → Did → Did
+judged [] c d = d
+judged (t ∷ ts) c d = cond (t .0) (record { core = c; answer = Refused (t .1) }) (judged ts c d)
+
+-- refusals 8, 9 and 10
+abbrev pub actingTests : Core → ℕ → List (Bool × Refusal)
+actingTests c w = (noWorker c w, NoWorker) ∷ (allIdle c, MainReturned) ∷ (idle c w, WorkerIdle) ∷ []
+
+-- ---- the six kinds
+
+unfoldable pub spawned : Core → ℕ → Did
+spawned c w =
+    let t : Table = spawn (tableOf c) w in
+    did (withVacant (c .head) (t .free)) (t .deques) (t .frames) (retain (c .pool) (actingIn c w .root)) (Accepted (Spawned (plus (actingIn c w .depth) 1)))
+
+unfoldable pub ended : Core → ℕ → Did
+ended c w =
+    let t : Table = return (tableOf c) w in
+    let p : List ℕ × ℕ × ℕ = release (c .head .height) (c .pool) (c .head .free) (c .head .spare) (actingIn c w .root) in
+    did (withFree (withVacant (c .head) (t .free)) (p .1) (p .2)) (t .deques) (t .frames) (p .0) (Accepted (Ended (returned (tableOf c) w)))
+
+unfoldable pub robbed : Core → ℕ → ℕ → Did
+robbed c w v =
+    let t : Table = steal (tableOf c) w v in
+    did (c .head) (t .deques) (c .frames) (c .pool) (Accepted (Stolen (stolen (tableOf c) v .depth)))
+
+unfoldable pub waited : Core → ℕ → Did
+waited c w =
+    let t : Table = sync (tableOf c) w in
+    did (c .head) (t .deques) (t .frames) (c .pool) (Accepted (Waited (synced (tableOf c) w)))
+
+unfoldable pub valued : Core → ℕ → ℕ → Did
+valued c w x = record { core = c; answer = Accepted (Value (readAt (c .head .height) (c .pool) (actingIn c w .root) x)) }
+
+unfoldable pub wrote : Core → ℕ → ℕ → ℕ → Did
+wrote c w x v =
+    let p : List ℕ × ℕ × ℕ = write (c .head .height) (c .pool) (c .head .free) (c .head .spare) (actingIn c w .root) x v in
+    did (withFree (c .head) (p .1) (p .2)) (c .deques) (setFrame (c .frames) (bottom (c .deques) w) (withRoot (actingIn c w) (c .head .free))) (p .0)
+    (Accepted (Written (p .2)))
+
+-- ---- a step
+
+unfoldable pub stepOn : Core → Step → Did
+stepOn c (Spawn w) = judged (actingTests c w ++ (eqb (c .head .vacant) none, FramesFull) ∷ []) c (spawned c w)
+stepOn c (Return w) = judged (actingTests c w ++ (not (eqb (actingIn c w .outstanding) 0), ChildLives) ∷ []) c (ended c w)
+stepOn c (Steal w v) =
+    judged
+    ((noWorker c w, NoWorker) ∷ (allIdle c, MainReturned) ∷ (not (idle c w), ThiefBusy) ∷ (noWorker c v || ltb (size (c .deques) v) 2, NoVictim) ∷ []) c
+    (robbed c w v)
+stepOn c (Sync w) = judged (actingTests c w) c (waited c w)
+stepOn c (Read w x) = judged (actingTests c w ++ (not (ltb x (c .head .splitters)), NoSplitter) ∷ []) c (valued c w x)
+stepOn c (Write w x v) =
+    judged (actingTests c w ++ (not (ltb x (c .head .splitters)), NoSplitter) ∷ (leb (c .head .spare) (c .head .height), PoolFull) ∷ []) c (wrote c w x v)

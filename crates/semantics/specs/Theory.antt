@@ -1,0 +1,46 @@
+-- ---- the relation with a plain machine, and what each step makes of it
+-- the relation
+pub mod Relation
+-- places, children, records
+pub mod Places
+-- more about the relation
+pub mod RelationFacts
+-- one live frame's record stored anew
+pub mod Stored
+pub mod SimRead
+pub mod SimWrite
+pub mod SimSteal
+pub mod SimSync
+pub mod SimSpawn
+-- what a return leaves
+pub mod EndedFrame
+pub mod SimReturn
+-- the engine refuses as the plain machine does
+pub mod Refusals
+-- all six kinds
+pub mod Simulation
+-- ---- pools, soundness
+-- the two predicates on pools
+pub mod Pools
+-- chains that the check follows
+pub mod FreeLists
+-- the sentences of soundness as facts
+pub mod Facts
+pub mod Sentences
+pub mod PoolSentences
+-- from a sound state to a plain machine
+pub mod FromSound
+pub mod FromSoundNames
+pub mod FromSoundPlaces
+pub mod FromSoundTree
+pub mod FromSoundRelates
+-- ---- runs
+-- answer words
+pub mod Words
+-- when a start is accepted
+pub mod Starts
+pub mod StartRelates
+-- calls, tapes
+pub mod Runs
+-- demands 2 and 3 from a relation that steps keep
+pub mod DemandsProof

@@ -1,0 +1,86 @@
+-- The plain machine of a sound state and pool, however obtained. Document 01: "a sound state handed in otherwise has the values its
+-- trees hold". Definitions only.
+use mathlib.Core.Bool.{cond, _&&_}
+use mathlib.Core.List.{List, [], _∷_, _++_, map}
+use Prim.Native.Nat.{ℕ, zero, suc, _+_, _-_}
+use lib.Dec.{eqb}
+use Rattle.words.specs.Basics.{joined}
+use Rattle.words.specs.Counting.{range}
+use Rattle.sizes.specs.Sizes.{height}
+use Rattle.pool.specs.Pool.{readAt}
+use Rattle.frames.specs.Frames.{frameAt}
+use Rattle.frames.specs.Theory.Lists.{dequeList}
+use Rattle.soundness.specs.declared.Numbers.{Numbers}
+use Rattle.soundness.specs.Soundness.{lives, inDeques, freeCount}
+use Rattle.model.specs.Machine.{Name, Frame, Machine, inUse}
+use Rattle.semantics.specs.Core.{Core}
+
+-- ---- names: a frame has its parent's name with its own place after it, counted from 1
+
+-- of the frame of depth d at place p
+unfoldable pub nameFrom : ℕ → List ℕ → ℕ → Name
+nameFrom zero fs p = []
+nameFrom (suc d) fs p = suc p ∷ nameFrom d fs (frameAt fs p .parent)
+
+abbrev pub nameOf : List ℕ → ℕ → Name
+nameOf fs p = nameFrom (frameAt fs p .depth) fs p
+
+-- back to the place; Main is at m
+abbrev pub placeOf : ℕ → Name → ℕ
+placeOf m [] = m
+placeOf m (k ∷ r) = k - 1
+
+-- ---- frames: no history, and 64 spawns, so that the children to come have names that are not there
+
+abbrev pub frameOf : ℕ → List ℕ → List ℕ → ℕ → Frame
+frameOf n fs ws p = record { name = nameOf fs p; values = map (readAt (height n) ws (frameAt fs p .root)) (range n 0); history = []; spawned = 64 }
+
+abbrev pub framesOf : ℕ → List ℕ → List ℕ → List ℕ → List Frame
+framesOf n fs ws ps = map (frameOf n fs ws) ps
+
+-- ---- places
+
+-- the live frames below place c that stand in no deque
+unfoldable pub waitingBelow : List ℕ → List ℕ → ℕ → List ℕ
+waitingBelow ds fs zero = []
+waitingBelow ds fs (suc c) = waitingBelow ds fs c ++ cond (lives fs c && eqb (inDeques ds c) 0) (c ∷ []) []
+
+abbrev pub waitingPlaces : List ℕ → List ℕ → List ℕ
+waitingPlaces ds fs = waitingBelow ds fs 64
+
+-- the workers' deques
+abbrev pub runningPlaces : ℕ → List ℕ → List (List ℕ)
+runningPlaces workers ds = map (dequeList ds) (range workers 0)
+
+abbrev pub livePlaces : ℕ → List ℕ → List ℕ → List ℕ
+livePlaces workers ds fs = waitingPlaces ds fs ++ joined (runningPlaces workers ds)
+
+-- ---- the machine; its pool has the nodes in use and those on the free chain
+
+abbrev pub machineOf : Numbers → List ℕ → List ℕ → List ℕ → Machine
+machineOf s ds fs ws =
+    record {
+      splitters = s .splitters;
+      nodes = inUse (s .splitters) (framesOf (s .splitters) fs ws (livePlaces (s .workers) ds fs)) + freeCount s ws;
+      deques = map (framesOf (s .splitters) fs ws) (runningPlaces (s .workers) ds);
+      suspended = framesOf (s .splitters) fs ws (waitingPlaces ds fs);
+    }
+
+-- the engine's words, with the free nodes counted
+abbrev pub coreWith : Numbers → List ℕ → List ℕ → List ℕ → Core
+coreWith s ds fs ws =
+    record {
+      head =
+          record {
+            workers = s .workers;
+            splitters = s .splitters;
+            nodes = s .nodes;
+            free = s .free;
+            vacant = s .vacant;
+            height = height (s .splitters);
+            spare = freeCount s ws;
+          };
+      deques = ds;
+      frames = fs;
+      pool = ws;
+    }

@@ -1,0 +1,255 @@
+-- A sound state and pool, however obtained, relate to a plain machine that has what a run's machines have.
+use mathlib.Core.Path.{_≡_, refl, sym, ap, _∙_, subst}
+use mathlib.Core.Logic.{inl, inr}
+use mathlib.Core.List.{List·Memᴰ as In, List·Memᴰ·head as here, List·Memᴰ·not-nil as not-in-nil, List·Memᴰ·eq-of-singleton as In-one, Memᴰ·map as In-map, Memᴰ·of-map as In-unmap}
+use mathlib.Core.List.{List, [], _∷_, _++_, map}
+use mathlib.Core.Bool.{true}
+use Prim.Native.Nat.{ℕ, zero, suc, _+_, _≤_, _<_}
+use native.Mathlib.Omega.{arith}
+use native.Mathlib.Decide.{decLt}
+use lib.ListN.{length, getD, length-map, List·getD-map, List·getD-eq-default}
+use Rattle.words.specs.Basics.{joined, count}
+use Rattle.words.specs.Counting.{range}
+use Rattle.sizes.specs.Sizes.{height, treeNodes}
+use Rattle.pool.specs.Pool.{readAt}
+use Rattle.pool.specs.Theory.Sharing.{rootsOf as treeRoots}
+use Rattle.frames.specs.Frames.{frameAt}
+use Rattle.frames.specs.Theory.Lists.{dequeList, list-empty}
+use Rattle.soundness.specs.declared.Numbers.{Numbers}
+use Rattle.soundness.specs.Soundness.{children, freeCount, sound}
+use Rattle.model.specs.Machine.{Frame, Machine, live, deque, main, freeNodes, inUse}
+use Rattle.model.specs.Theory.Bounds.{Sized, Bounded}
+use Rattle.model.specs.Theory.DequeShape.{DequeShape, DequeInvariant}
+use Rattle.model.specs.Theory.FrameTree.{FrameTree}
+use Rattle.model.specs.Theory.FreshMarks.{MarkInvariant}
+use Rattle.model.specs.Theory.Histories.{inUse-within, inUse-none}
+use Rattle.model.specs.Theory.PoolBound.{inUse-main}
+use Rattle.semantics.specs.Core.{Core}
+use Rattle.semantics.specs.Theory.Relation.{childCount, rootsOf, placesOf, Recorded, Relates}
+use Rattle.semantics.specs.Theory.Pools.{LiveTrees}
+use Rattle.semantics.specs.Theory.Sentences.{Lives, FramesFacts, SoundFacts, sound-facts}
+use Rattle.semantics.specs.Theory.PoolSentences.{pool-live}
+use Rattle.semantics.specs.Theory.FromSound.{nameOf, placeOf, frameOf, framesOf, waitingPlaces, runningPlaces, livePlaces, machineOf, coreWith}
+use Rattle.semantics.specs.Theory.FromSoundNames.{Rooted, rooted-facts, length-name, place-name, parent-name}
+use Rattle.semantics.specs.Theory.FromSoundPlaces.{deque-live, running-of, waiting-of, live-of, of-live, live-one, live-none, live-once, live-short, live-roots, live-children}
+use Rattle.semantics.specs.Theory.FromSoundTree.{AllLive, places-frames, roots-frames, children-frames, disjoint-frames, rooted-frames, waits-frames, shape-frames}
+
+-- ---- lists
+
+length-range : (c a : ℕ) → length (range c a) ≡ c
+unfolding range
+length-range zero a = refl
+length-range (suc c) a = ap suc (length-range c (suc a))
+
+getD-range : {A : Type 0} (h : ℕ → A) (d : A) (c a x : ℕ) → x < c → getD (map h (range c a)) x d ≡ h (a + x)
+unfolding range
+getD-range h d zero a x b = absurd (omega arith)
+getD-range h d (suc c) a zero b = (let e : a ≡ a + 0 = omega arith in ap h e)
+getD-range h d (suc c) a (suc x) b = (let e : suc a + x ≡ a + suc x = omega arith in getD-range h d c (suc a) x (omega arith) ∙ ap h e)
+
+map-append : {A B : Type 0} (h : A → B) (l m : List A) → map h (l ++ m) ≡ map h l ++ map h m
+map-append h [] m = refl
+map-append h (x ∷ l) m = ap (λ z. h x ∷ z) (map-append h l m)
+
+joined-map : {A B : Type 0} (h : A → B) (ls : List (List A)) → joined (map (map h) ls) ≡ map h (joined ls)
+joined-map h [] = refl
+joined-map h (l ∷ ls) = ap (λ z. map h l ++ z) (joined-map h ls) ∙ sym (map-append h l (joined ls))
+
+-- ---- the machine's lists
+
+module _ (s : Numbers) (ds fs ws : List ℕ) where
+  abbrev M : Machine
+  M = machineOf s ds fs ws
+
+  abbrev L : List ℕ
+  L = livePlaces (s .workers) ds fs
+
+  abbrev framed : ℕ → Frame
+  framed = frameOf (s .splitters) fs ws
+
+  live-frames : live M ≡ map framed L
+  live-frames = ap (λ z. map framed (waitingPlaces ds fs) ++ z) (joined-map framed (runningPlaces (s .workers) ds)) ∙ sym (map-append framed (waitingPlaces ds fs) (joined (runningPlaces (s .workers) ds)))
+
+  deques-many : length (M .deques) ≡ s .workers
+  deques-many = length-map (runningPlaces (s .workers) ds) (map framed) ∙ length-map (range (s .workers) 0) (dequeList ds) ∙ length-range (s .workers) 0
+
+  deque-some : (w : ℕ) → w < s .workers → deque M w ≡ map framed (dequeList ds w)
+  deque-some w b =
+      let e : 0 + w ≡ w = omega arith in
+      List·getD-map (map framed) (runningPlaces (s .workers) ds) w [] ∙ ap (map framed) (getD-range (dequeList ds) [] (s .workers) 0 w b ∙ ap (dequeList ds) e)
+
+  deque-none : (w : ℕ) → s .workers ≤ w → deque M w ≡ []
+  deque-none w h = List·getD-eq-default (M .deques) [] {n = w} (omega (arith, deques-many))
+
+  -- ---- what soundness gives
+
+  module _ (S : SoundFacts s ds fs ws) where
+    abbrev F : FramesFacts (s .workers) (s .vacant) ds fs
+    F = S .frames
+
+    few : s .workers ≤ 8
+    few = S .numbers .few-workers
+
+    R : Rooted fs
+    R = rooted-facts F
+
+    abbrev at : List ℕ → ℕ
+    at = placeOf (R .main)
+
+    live-there : AllLive fs L
+    live-there p m = live-of F few p m
+
+    recorded : (p z : ℕ) → p < 64 → Lives fs p → frameAt fs p .suspended ≡ z → Recorded fs at (live M) z (framed p)
+    recorded p z b l e =
+        let q = place-name fs R p b l in
+        record {
+          inside = omega (arith, q);
+          live = ap (λ k. frameAt fs k .live) q ∙ l;
+          parent = ap (λ k. frameAt fs k .parent) q ∙ parent-name fs R p b l;
+          depth = ap (λ k. frameAt fs k .depth) q ∙ sym (length-name fs p);
+          outstanding =
+              ap (λ k. frameAt fs k .outstanding) q ∙ F .outstanding p b l
+              ∙ sym (ap (childCount (nameOf fs p)) live-frames ∙ children-frames (s .splitters) fs ws R L live-there p b l ∙ live-children F few p);
+          suspended = ap (λ k. frameAt fs k .suspended) q ∙ e;
+        }
+
+    running-recorded : (f : Frame) → In f (joined (M .deques)) → Recorded fs at (live M) 0 f
+    running-recorded f m =
+        let x = In-unmap framed (joined (runningPlaces (s .workers) ds)) (subst (In f) (joined-map framed (runningPlaces (s .workers) ds)) m) in
+        let l = running-of F few (x .0) (x .1) in
+        subst (Recorded fs at (live M) 0) (x .2) (recorded (x .0) 0 (l .0) (l .1) (elim (F .placed (x .0) (l .0) (l .1)) [ inl r ↦ r .1 | inr r ↦ absurd (omega (arith, l .2, r .0)) ]))
+
+    waiting-recorded : (f : Frame) → In f (M .suspended) → Recorded fs at (live M) 1 f
+    waiting-recorded f m =
+        let x = In-unmap framed (waitingPlaces ds fs) m in
+        let l = waiting-of ds fs (x .0) (x .1) in
+        subst (Recorded fs at (live M) 1) (x .2) (recorded (x .0) 1 (l .0) (l .1) (elim (F .placed (x .0) (l .0) (l .1)) [ inl r ↦ absurd (omega (arith, l .2, r .0)) | inr r ↦ r .1 ]))
+
+    deques-places : (w : ℕ) → w < 8 → dequeList ds w ≡ placesOf at (deque M w)
+    deques-places w b = elim (decLt w (s .workers)) [
+      | yes h ↦ sym (ap (placesOf at) (deque-some w h) ∙ places-frames (s .splitters) fs ws R (dequeList ds w) (λ p m. deque-live F few w p b m))
+      | no h ↦ list-empty ds w (F .absent w b (omega arith)) ∙ ap (placesOf at) (sym (deque-none w (omega arith)))
+    ]
+
+    once-there : (p : ℕ) → p < 64 → count p (F .places .gs) + count p (placesOf at (live M)) ≡ 1
+    once-there p b =
+        let e : placesOf at (live M) ≡ L = ap (placesOf at) live-frames ∙ places-frames (s .splitters) fs ws R L live-there in
+        elim (F .places .each p b) [
+          | inl h ↦ omega (arith, h .1, ap (count p) e, live-one F few p b (h .0))
+          | inr h ↦ omega (arith, h .1, ap (count p) e, live-none F few p (λ l. omega (arith, l, ap (λ f. f .live) (h .0 .1))))
+        ]
+
+    trees-there : LiveTrees (s .nodes) (s .splitters) ws (s .free) (freeCount s ws) (rootsOf fs at (live M))
+    trees-there =
+        pool-live (s .splitters) (s .nodes) (S .numbers .few-nodes) (S .numbers .some-splitter) ws (s .free) _ (rootsOf fs at (live M))
+        (λ i. live-roots F few i ∙ ap (count i) (sym (ap (λ z. treeRoots (rootsOf fs at z)) live-frames ∙ roots-frames (s .splitters) fs ws R L live-there)))
+        (S .numbers .room) (S .pool)
+
+    values-there : (f : Frame) → In f (live M) → (x : ℕ) → x < s .splitters → readAt (height (s .splitters)) ws (frameAt fs (at (f .name)) .root) x ≡ getD (f .values) x 0
+    values-there f m x b =
+        let y = In-unmap framed L (subst (In f) live-frames m) in
+        let l = live-there (y .0) (y .1) in
+        let e : 0 + x ≡ x = omega arith in
+        let read : ℕ → ℕ = readAt (height (s .splitters)) ws (frameAt fs (y .0) .root) in
+        subst (λ (g : Frame). readAt (height (s .splitters)) ws (frameAt fs (at (g .name)) .root) x ≡ getD (g .values) x 0) (y .2)
+        (ap (λ q. readAt (height (s .splitters)) ws (frameAt fs q .root) x) (place-name fs R (y .0) (l .0) (l .1)) ∙ sym (getD-range read 0 (s .splitters) 0 x b ∙ ap read e))
+
+    relates-there : length ds ≡ 520 → length fs ≡ 384 → Relates (LiveTrees (s .nodes) (s .splitters)) M (coreWith s ds fs ws)
+    relates-there dlen flen = record {
+      at = at;
+      gs = F .places .gs;
+      numbers = record {
+        workers = sym deques-many;
+        some-worker = omega (arith, deques-many, S .numbers .some-worker);
+        few-workers = omega (arith, deques-many, few);
+        splitters = refl;
+        some-splitter = S .numbers .some-splitter;
+        few-splitters = S .numbers .few-splitters;
+        tall = refl;
+        enough = S .numbers .enough;
+        few-nodes = S .numbers .few-nodes;
+      };
+      formed = record { shaped = record { long = dlen; within = F .within; zeros = F .zeros }; long = flen; places = F .places .chain };
+      deques = deques-places;
+      running = running-recorded;
+      waiting = waiting-recorded;
+      once = once-there;
+      vacant = λ p b h. elim (F .places .each p b) [ inl r ↦ absurd (omega (arith, r .1)) | inr r ↦ r .0 ];
+      trees = trees-there;
+      values = values-there;
+    }
+
+    tree-there : FrameTree M
+    tree-there = record {
+      disjoint = rw live-frames (disjoint-frames (s .splitters) fs ws R L live-there (live-once F few));
+      rooted = rw live-frames (rooted-frames (s .splitters) fs ws R L live-there (of-live F few));
+    }
+
+    shape-there : (v : ℕ) → DequeShape (live M) (deque M v)
+    shape-there v = elim (decLt v (s .workers)) [
+      | yes h ↦ rw (live-frames, deque-some v h) (shape-frames (s .splitters) fs ws R L live-there (of-live F few) F v (omega (arith, few)))
+      | no h ↦ subst (DequeShape (live M)) (sym (deque-none v (omega arith))) (tt, tt)
+    ]
+
+    deques-there : DequeInvariant M
+    deques-there = record {
+      shape = shape-there;
+      waits = λ f m.
+          let x = In-unmap framed (waitingPlaces ds fs) m in
+          let l = waiting-of ds fs (x .0) (x .1) in
+          let c : 0 < children fs (x .0) = elim (F .placed (x .0) (l .0) (l .1)) [ inl r ↦ absurd (omega (arith, l .2, r .0)) | inr r ↦ r .2 ] in
+          rw (live-frames, ← x .2) (waits-frames (s .splitters) fs ws R L live-there (of-live F few) (x .0) (l .0) c);
+    }
+
+    marks-there : MarkInvariant (live M)
+    marks-there f m v i g k = (let x = In-unmap framed L (subst (In f) live-frames m) in absurd (not-in-nil (subst (λ (g : Frame). In v (g .history)) (sym (x .2)) i)))
+
+    bounds-there : Bounded (s .splitters) (live M)
+    bounds-there = rw live-frames (
+      omega (arith, length-map L framed, live-short F few),
+      λ f m.
+          let x = In-unmap framed L m in
+          let read : ℕ → ℕ = readAt (height (s .splitters)) ws (frameAt fs (x .0) .root) in
+          subst (Sized (s .splitters)) (x .2) (record { values = length-map (range (s .splitters) 0) read ∙ length-range (s .splitters) 0; writes = λ v i. absurd (not-in-nil i) }),
+    )
+
+    -- the nodes in use and those on the chain are all that the machine has
+    spare-there : freeCount s ws ≡ freeNodes M
+    spare-there = omega (arith, ap (inUse (s .splitters)) live-frames)
+
+-- ---- the theorem
+
+pub from-sound : (s : Numbers) (ds fs ws : List ℕ) → sound s ds fs ws ≡ true → length ds ≡ 520 → length fs ≡ 384
+    → let M : Machine = machineOf s ds fs ws in
+    let c : Core = coreWith s ds fs ws in
+    Relates (LiveTrees (s .nodes) (s .splitters)) M c × FrameTree M × DequeInvariant M × MarkInvariant (live M) × Bounded (M .splitters) (live M) × (c .head .spare ≡ freeNodes M)
+from-sound s ds fs ws e dlen flen =
+    let S = sound-facts s ds fs ws e in
+    (relates-there s ds fs ws S dlen flen, tree-there s ds fs ws S, deques-there s ds fs ws S, marks-there s ds fs ws S, bounds-there s ds fs ws S, spare-there s ds fs ws S)
+
+-- ---- the machine's nodes: a tree's worth while a frame lives, and those on the free chain
+
+module _ (s : Numbers) (ds fs ws : List ℕ) (S : SoundFacts s ds fs ws) where
+  framed-history : (L : List ℕ) (f : Frame) → In f (framesOf (s .splitters) fs ws L) → f .history ≡ []
+  framed-history L f m = (let x = In-unmap (frameOf (s .splitters) fs ws) L m in ap (λ (g : Frame). g .history) (sym (x .2)))
+
+  pub nodes-alive : (p : ℕ) → p < 64 → Lives fs p → machineOf s ds fs ws .nodes ≡ treeNodes (s .splitters) + freeCount s ws
+  nodes-alive p b l =
+      let n = s .splitters in
+      let A : List Frame = framesOf n fs ws (livePlaces (s .workers) ds fs) in
+      let vs : List ℕ = range n 0 in
+      let B : List Frame = main vs ∷ [] in
+      let mine : In (frameOf n fs ws p) A = In-map (frameOf n fs ws) (of-live (S .frames) (S .numbers .few-workers) p b l) in
+      omega (
+        arith,
+        inUse-within n A B (λ f m. (main vs, here refl, framed-history (livePlaces (s .workers) ds fs) f m)),
+        inUse-within n B A (λ f m. (frameOf n fs ws p, mine, ap (λ (g : Frame). g .history) (In-one m))),
+        subst (λ k. inUse k B ≡ treeNodes k) (length-range n 0) (inUse-main vs),
+      )
+
+  pub nodes-ended : ((p : ℕ) → p < 64 → Lives fs p → ⊥) → machineOf s ds fs ws .nodes ≡ freeCount s ws
+  nodes-ended h = go (livePlaces (s .workers) ds fs) (live-of (S .frames) (S .numbers .few-workers))
+    where
+      go : (L : List ℕ) → AllLive fs L → inUse (s .splitters) (framesOf (s .splitters) fs ws L) + freeCount s ws ≡ freeCount s ws
+      go [] a = omega (arith, inUse-none (s .splitters))
+      go (p ∷ L) a = absurd (h p (a p (here refl) .0) (a p (here refl) .1))

@@ -1,0 +1,307 @@
+-- Facts about the relation: frames under permutation, one live frame to a place, children counted, records built anew.
+use mathlib.Core.Path.{_≡_, refl, sym, ap, ap₂, _∙_, subst}
+use mathlib.Core.Logic.{_≢_, inl, inr}
+use mathlib.Core.Bool.{false, cond, not}
+use mathlib.Core.List.{List·Memᴰ as In, List·Memᴰ·head as here, List·Memᴰ·tail as there, List·Memᴰ·not-nil as not-in-nil, List·Memᴰ·eq-of-singleton as In-one, List·Memᴰ·cases-cons as In-cons, List·Memᴰ·append-cases as In-cases, Memᴰ·append-left as In-left, Memᴰ·append-right as In-right, Memᴰ·cast, Memᴰ·map as In-map, Memᴰ·of-map as In-unmap}
+use mathlib.Core.List.{List, [], _∷_, _++_, map, List·Permᴰ, List·Permᴰ·nil, List·Permᴰ·cons, List·Permᴰ·swap, List·Permᴰ·trans, Permᴰ·symm}
+use Prim.Native.Nat.{ℕ, zero, suc, _+_, _*_, _≤_, _<_}
+use native.Mathlib.Omega.{arith}
+use native.Mathlib.Decide.{decLt}
+use lib.ListN.{length, getD, set, length-map}
+use lib.Seq.{set-getD}
+use lib.Dec.{eqb}
+use borrow.Author.Tests.{eq-eqb, ne-eqb}
+use Rattle.words.specs.Basics.{sum, joined, same}
+use Rattle.words.specs.Lists.{In-perm, joined-set}
+use Rattle.words.specs.Tests.{decided, true≢false}
+use Rattle.words.specs.Distinct.{same-eq, same-of}
+use Rattle.words.specs.NoDup.{NoDup, length-le}
+use Rattle.words.specs.Counting.{δ, δ-same, δ-other, count, count-nil, count-cons, sum-cong, sum-add, sum-zero, sum-one, sum-const, miss, hit-le}
+use Rattle.sizes.specs.Sizes.{treeNodes}
+use Rattle.frames.specs.declared.Frame.{Frame as FrameWords}
+use Rattle.frames.specs.Frames.{frameAt}
+use Rattle.frames.specs.Deques.{bottom}
+use Rattle.frames.specs.Theory.Lists.{dequeList}
+use Rattle.frames.specs.Theory.Lists.{list-head}
+use Rattle.model.specs.History.{History}
+use Rattle.model.specs.Machine.{Name, Frame, Machine, live, deque, isChild, hasChild, named}
+use Rattle.model.specs.Theory.LiveRun.{Disjoint}
+use Rattle.model.specs.Theory.FrameTree.{Rooted, names-apart}
+use Rattle.semantics.specs.Core.{Core, actingIn}
+use Rattle.semantics.specs.Theory.Relation.{Trees, Relates, Recorded, SameNumbers, parentPlace, childCount, placesOf, rootOf}
+
+-- ---- permutations
+
+pub length-perm : {A : Type 0} {l m : List A} → List·Permᴰ l m → length l ≡ length m
+length-perm List·Permᴰ·nil = refl
+length-perm (List·Permᴰ·cons e p) = ap suc (length-perm p)
+length-perm (List·Permᴰ·swap e e′) = refl
+length-perm (List·Permᴰ·trans p q) = length-perm p ∙ length-perm q
+
+pub count-perm : (i : ℕ) {l m : List ℕ} → List·Permᴰ l m → count i l ≡ count i m
+count-perm i List·Permᴰ·nil = refl
+count-perm i (List·Permᴰ·cons {a = a} {b = b} {l₁ = l} {l₂ = m} e p) = omega (arith, count-cons i a l, count-cons i b m, ap (δ i) e, count-perm i p)
+count-perm i (List·Permᴰ·swap {a = a} {b = b} {a′ = a′} {b′ = b′} {l = l} e e′) =
+    omega (arith, count-cons i a (b ∷ l), count-cons i b l, count-cons i a′ (b′ ∷ l), count-cons i b′ l, ap (δ i) e, ap (δ i) e′)
+count-perm i (List·Permᴰ·trans p q) = count-perm i p ∙ count-perm i q
+
+-- 1 for a child of p, else 0
+abbrev childBit : Name → Frame → ℕ
+childBit p f = cond (isChild p (f .name)) 1 0
+
+pub childCount-perm : (p : Name) {L L′ : List Frame} → List·Permᴰ L L′ → childCount p L ≡ childCount p L′
+childCount-perm p List·Permᴰ·nil = refl
+childCount-perm p (List·Permᴰ·cons e π) = omega (arith, ap (childBit p) e, childCount-perm p π)
+childCount-perm p (List·Permᴰ·swap e e′) = omega (arith, ap (childBit p) e, ap (childBit p) e′)
+childCount-perm p (List·Permᴰ·trans π ρ) = childCount-perm p π ∙ childCount-perm p ρ
+
+pub map-cong : {A B : Type 0} (f g : A → B) (l : List A) → ((x : A) → In x l → f x ≡ g x) → map f l ≡ map g l
+map-cong f g [] h = refl
+map-cong f g (x ∷ l) h = ap₂ _∷_ (h x (here refl)) (map-cong f g l (λ y m. h y (there m)))
+
+-- one deque, and the others joined
+pub joined-at : {A : Type 0} (ds : List (List A)) (w : ℕ) (d : List A) → w < length ds → getD ds w [] ≡ d → List·Permᴰ (joined ds) (d ++ joined (set ds w []))
+joined-at ds w d h e = subst (λ z. List·Permᴰ (joined z) (d ++ joined (set ds w []))) (ap (set ds w) (sym e) ∙ set-getD ds w []) (joined-set ds w d h)
+
+pub in-deque : {A : Type 0} {h : A} (ds : List (List A)) (v : ℕ) → In h (getD ds v []) → In h (joined ds)
+in-deque [] v m = absurd (not-in-nil m)
+in-deque (d ∷ ds) zero m = In-left (joined ds) m
+in-deque (d ∷ ds) (suc v) m = In-right d (in-deque ds v m)
+
+-- ---- one live frame to a place
+
+-- "each place is free or some live frame's, and only one's"
+abbrev pub PlacedOnce : (Name → ℕ) → List ℕ → List Frame → Type 0
+PlacedOnce at gs L = (p : ℕ) → p < 64 → count p gs + count p (placesOf at L) ≡ 1
+
+pub not-head : (p g : ℕ) (gs : List ℕ) → count p (g ∷ gs) ≡ 0 → p ≢ g
+not-head p g gs o e = omega (arith, count-cons p g gs, ap (δ p) e, δ-same p)
+
+pub count-place : (at : Name → ℕ) {f : Frame} {L : List Frame} → In f L → 0 < count (at (f .name)) (placesOf at L)
+count-place at {f} (here {x = y} {xs = l} e) =
+    omega (arith, count-cons (at (f .name)) (at (y .name)) (placesOf at l), ap (λ (g : Frame). δ (at (f .name)) (at (g .name))) e, δ-same (at (f .name)))
+count-place at {f} (there {x = y} {xs = l} m) = omega (arith, count-cons (at (f .name)) (at (y .name)) (placesOf at l), count-place at m)
+
+-- two frames in one place are counted twice
+count-two : (at : Name → ℕ) (f g : Frame) (L : List Frame) → In f L → In g L → f .name ≢ g .name → at (f .name) ≡ at (g .name) → 1 < count (at (f .name)) (placesOf at L)
+count-two at f g [] mf mg ne e = absurd (not-in-nil mf)
+count-two at f g (x ∷ l) mf mg ne e =
+    let k = count-cons (at (f .name)) (at (x .name)) (placesOf at l) in
+    let z : count (at (f .name)) (placesOf at l) ≡ count (at (g .name)) (placesOf at l) = ap (λ (p : ℕ). count p (placesOf at l)) e in
+    let y : δ (at (f .name)) (at (x .name)) ≡ δ (at (g .name)) (at (x .name)) = ap (λ (p : ℕ). δ p (at (x .name))) e in
+    elim (In-cons mf) [
+      | inl ef ↦ elim (In-cons mg) [
+        | inl eg ↦ absurd (ne (ap (λ (h : Frame). h .name) (ef ∙ sym eg)))
+        | inr ig ↦ omega (arith, k, z, count-place at ig, ap (λ (h : Frame). δ (at (f .name)) (at (h .name))) ef, δ-same (at (f .name)))
+      ]
+      | inr jf ↦ elim (In-cons mg) [
+        | inl eg ↦ omega (arith, k, y, count-place at jf, ap (λ (h : Frame). δ (at (g .name)) (at (h .name))) eg, δ-same (at (g .name)))
+        | inr ig ↦ omega (arith, k, count-two at f g l jf ig ne e)
+      ]
+    ]
+
+-- ---- how many
+
+sum-δ-le : (N x : ℕ) → sum N (λ i. δ i x) ≤ 1
+sum-δ-le N x =
+    elim (decLt x N) [
+      | yes b ↦ omega (arith, sum-one N x (λ i. δ i x) b (λ j c ne. δ-other j x ne), δ-same x)
+      | no b ↦ omega (arith, sum-zero N (λ i. δ i x) (λ j c. δ-other j x (λ e. b (omega arith))))
+    ]
+
+sum-cons : (N x : ℕ) (l : List ℕ) → sum N (λ i. count i (x ∷ l)) ≡ sum N (λ i. δ i x) + sum N (λ i. count i l)
+sum-cons N x l = sum-cong N (λ i. count i (x ∷ l)) (λ i. δ i x + count i l) (λ j b. count-cons j x l) ∙ sum-add N (λ i. δ i x) (λ i. count i l)
+
+pub sum-count-le : (N : ℕ) (l : List ℕ) → sum N (λ i. count i l) ≤ length l
+sum-count-le N [] = omega (arith, sum-zero N (λ i. count i []) (λ j b. count-nil j))
+sum-count-le N (x ∷ l) = omega (arith, sum-cons N x l, sum-δ-le N x, sum-count-le N l)
+
+pub sum-count : (N : ℕ) (l : List ℕ) → ((x : ℕ) → In x l → x < N) → sum N (λ i. count i l) ≡ length l
+sum-count N [] h = sum-zero N (λ i. count i []) (λ j b. count-nil j)
+sum-count N (x ∷ l) h =
+    omega (arith, sum-cons N x l, sum-one N x (λ i. δ i x) (h x (here refl)) (λ j c ne. δ-other j x ne), δ-same x, sum-count N l (λ y m. h y (there m)))
+
+-- each number below N stands once in one of the two lists
+module _ (N : ℕ) (gs ps : List ℕ) (once : (p : ℕ) → p < N → count p gs + count p ps ≡ 1) where
+  pub all-once : sum N (λ i. count i gs) + sum N (λ i. count i ps) ≡ N * 1
+  all-once = sym (sum-add N (λ i. count i gs) (λ i. count i ps)) ∙ sum-cong N (λ i. count i gs + count i ps) (λ i. 1) once ∙ sum-const N 1
+
+  at-least : N ≤ length gs + length ps
+  at-least = omega (arith, all-once, sum-count-le N gs, sum-count-le N ps)
+
+  at-most : ((x : ℕ) → In x ps → x < N) → length ps ≤ N
+  at-most h = omega (arith, all-once, sum-count N ps h)
+
+module _ (at : Name → ℕ) (gs : List ℕ) (L : List Frame) (once : PlacedOnce at gs L) where
+  pub few-frames : ((f : Frame) → In f L → at (f .name) < 64) → length L ≤ 64
+  few-frames h = omega (arith, length-map L (λ (f : Frame). at (f .name)), at-most 64 gs (placesOf at L) once (λ x m. inside x (In-unmap (λ (f : Frame). at (f .name)) L m)))
+    where
+      inside : (x : ℕ) → (f : Frame) × In f L × (at (f .name) ≡ x) → x < 64
+      inside x u = omega (arith, h (u .0) (u .1), u .2)
+
+  -- with fewer a place is free
+  pub place-left : length L < 64 → 0 < length gs
+  place-left h = omega (arith, length-map L (λ (f : Frame). at (f .name)), at-least 64 gs (placesOf at L) once)
+
+-- ---- children
+
+pub childCount-le : (p : Name) (L : List Frame) → childCount p L ≤ length L
+childCount-le p [] = omega arith
+childCount-le p (f ∷ L) = omega (arith, hit-le (isChild p (f .name)), childCount-le p L)
+
+-- an outstanding count of 0 says that there is no live child
+pub childCount-test : (p : Name) (L : List Frame) → eqb (childCount p L) 0 ≡ not (hasChild p L)
+childCount-test p [] = eq-eqb 0 0 refl
+childCount-test p (f ∷ L) =
+    elim (decided (isChild p (f .name))) [
+      | inl s ↦ rw s (ne-eqb (1 + childCount p L) 0 (λ e. omega arith))
+      | inr s ↦ (let z : cond (isChild p (f .name)) 1 0 + childCount p L ≡ childCount p L = omega (arith, miss s) in ap (λ (n : ℕ). eqb n 0) z ∙ childCount-test p L ∙ rw s)
+    ]
+
+pub childless-count : (p : Name) (L : List Frame) → hasChild p L ≡ false → childCount p L ≡ 0
+childless-count p [] h = refl
+childless-count p (f ∷ L) h =
+    elim (decided (isChild p (f .name))) [ inl s ↦ absurd (true≢false (rw s at h)) | inr s ↦ omega (arith, miss s, childless-count p L (rw s at h)) ]
+
+-- ---- names
+
+abbrev suffixes : Name → List Name
+suffixes [] = [] ∷ []
+suffixes (k ∷ p) = (k ∷ p) ∷ suffixes p
+
+suffixes-length : (r : Name) → length (suffixes r) ≡ suc (length r)
+suffixes-length [] = refl
+suffixes-length (k ∷ p) = ap suc (suffixes-length p)
+
+suffix-short : (r x : Name) → In x (suffixes r) → length x ≤ length r
+suffix-short [] x m = omega (arith, ap length (In-one m))
+suffix-short (k ∷ p) x m = elim (In-cons m) [ inl e ↦ omega (arith, ap length e) | inr i ↦ omega (arith, suffix-short p x i) ]
+
+suffixes-nodup : (r : Name) → NoDup (suffixes r)
+suffixes-nodup [] = (not-in-nil, tt)
+suffixes-nodup (k ∷ p) = ((λ m. omega (arith, suffix-short p (k ∷ p) m)), suffixes-nodup p)
+
+abbrev names : List Frame → List Name
+names L = map (λ (f : Frame). f .name) L
+
+suffixes-live : (L : List Frame) → Rooted L → (r : Name) (f : Frame) → In f L → f .name ≡ r → (x : Name) → In x (suffixes r) → In x (names L)
+suffixes-live L rooted [] f m e x i = Memᴰ·cast (In-one i ∙ sym e) (In-map (λ (g : Frame). g .name) m)
+suffixes-live L rooted (k ∷ p) f m e x i =
+    let y = rooted f m k p e in
+    elim (In-cons i) [ inl d ↦ Memᴰ·cast (d ∙ sym e) (In-map (λ (g : Frame). g .name) m) | inr j ↦ suffixes-live L rooted p (y .0) (y .1) (y .2) x j ]
+
+-- a frame's ancestors live, so that it is no deeper than there are others
+pub depth-few : (L : List Frame) → Rooted L → (f : Frame) → In f L → length (f .name) < length L
+depth-few L rooted f m =
+    omega (arith, suffixes-length (f .name), length-map L (λ (g : Frame). g .name), length-le (suffixes (f .name)) (names L) (suffixes-nodup (f .name)) (suffixes-live L rooted (f .name) f m refl))
+
+pub in-named : (p : Name) (l : List Frame) (f : Frame) → In f (named p l) → In f l × (f .name ≡ p)
+in-named p [] f m = absurd (not-in-nil m)
+in-named p (g ∷ l) f m =
+    elim (decided (same (g .name) p)) [
+      | inl s ↦ elim (In-cons (rw s at m)) [ inl e ↦ (here e, ap (λ (z : Frame). z .name) e ∙ same-eq (g .name) p s) | inr i ↦ (let r = in-named p l f i in (there (r .0), r .1)) ]
+      | inr s ↦ (let r = in-named p l f (rw s at m) in (there (r .0), r .1))
+    ]
+
+-- no frame has the name
+pub named-none : (p : Name) (l : List Frame) → ((f : Frame) → In f l → f .name ≢ p) → named p l ≡ []
+named-none p [] h = refl
+named-none p (f ∷ l) h =
+    elim (decided (same (f .name) p)) [ inl s ↦ absurd (h f (here refl) (same-eq (f .name) p s)) | inr s ↦ rw s (named-none p l (λ g m. h g (there m))) ]
+
+-- just one has it
+pub named-one : (p : Name) (l : List Frame) (f : Frame) → Disjoint l → In f l → f .name ≡ p → named p l ≡ f ∷ []
+named-one p [] f c m e = absurd (not-in-nil m)
+named-one p (g ∷ l) f c m e =
+    elim (In-cons m) [
+      | inl d ↦ (let gp : g .name ≡ p = ap (λ (z : Frame). z .name) (sym d) ∙ e in rw (same-of gp) (ap₂ _∷_ (sym d) (named-none p l (λ h i z. names-apart g h l c i (gp ∙ sym z)))))
+      | inr i ↦ elim (decided (same (g .name) p)) [
+        | inl s ↦ absurd (names-apart g f l c i (same-eq (g .name) p s ∙ sym e))
+        | inr s ↦ rw s (named-one p l f (c .1) i e)
+      ]
+    ]
+
+-- ---- records
+
+-- the frame's place and its record there
+pub recorded-as : (fs : List ℕ) (at : Name → ℕ) (L : List Frame) (s : ℕ) (f : Frame) (p : ℕ) (F : FrameWords) → at (f .name) ≡ p → frameAt fs p ≡ F → p < 64
+    → F .live ≡ 1 → F .parent ≡ parentPlace at (f .name) → F .depth ≡ length (f .name) → F .outstanding ≡ childCount (f .name) L → F .suspended ≡ s → Recorded fs at L s f
+recorded-as fs at L s f p F ep eF b h₁ h₂ h₃ h₄ h₅ =
+    let e : frameAt fs (at (f .name)) ≡ F = ap (frameAt fs) ep ∙ eF in
+    record {
+      inside = subst (λ (x : ℕ). x < 64) (sym ep) b;
+      live = ap (λ (G : FrameWords). G .live) e ∙ h₁;
+      parent = ap (λ (G : FrameWords). G .parent) e ∙ h₂;
+      depth = ap (λ (G : FrameWords). G .depth) e ∙ h₃;
+      outstanding = ap (λ (G : FrameWords). G .outstanding) e ∙ h₄;
+      suspended = ap (λ (G : FrameWords). G .suspended) e ∙ h₅;
+    }
+
+-- it stays where it was, as it was
+pub recorded-kept : (fs fs′ : List ℕ) (at at′ : Name → ℕ) (L L′ : List Frame) (s : ℕ) (f : Frame) → at′ (f .name) ≡ at (f .name)
+    → frameAt fs′ (at (f .name)) ≡ frameAt fs (at (f .name)) → parentPlace at′ (f .name) ≡ parentPlace at (f .name) → childCount (f .name) L′ ≡ childCount (f .name) L
+    → Recorded fs at L s f → Recorded fs′ at′ L′ s f
+recorded-kept fs fs′ at at′ L L′ s f ea eF ep ec R =
+    recorded-as fs′ at′ L′ s f (at (f .name)) (frameAt fs (at (f .name))) ea eF (R .inside) (R .live) (R .parent ∙ sym ep) (R .depth) (R .outstanding ∙ sym ec) (R .suspended)
+
+-- ---- a live frame's place
+
+module _ {P : Trees} {M : Machine} {c : Core} (r : Relates P M c) where
+  -- each live frame has a record
+  pub recorded : (f : Frame) → In f (live M) → (s : ℕ) × Recorded (c .frames) (r .at) (live M) s f
+  recorded f m = elim (In-cases (M .suspended) m) [ inl i ↦ (1, r .waiting f i) | inr i ↦ (0, r .running f i) ]
+
+  pub placed-inside : (f : Frame) → In f (live M) → r .at (f .name) < 64
+  placed-inside f m = recorded f m .1 .inside
+
+  -- it is not free
+  pub placed-taken : (f : Frame) → In f (live M) → count (r .at (f .name)) (r .gs) ≡ 0
+  placed-taken f m = omega (arith, r .once (r .at (f .name)) (placed-inside f m), count-place (r .at) m)
+
+  -- it is no other's
+  pub placed-apart : (f g : Frame) → In f (live M) → In g (live M) → f .name ≢ g .name → r .at (f .name) ≢ r .at (g .name)
+  placed-apart f g mf mg ne z = omega (arith, r .once (r .at (f .name)) (placed-inside f mf), count-two (r .at) f g (live M) mf mg ne z)
+
+  -- "At most 64 live frames."
+  pub live-few : length (live M) ≤ 64
+  live-few = few-frames (r .at) (r .gs) (live M) (r .once) placed-inside
+
+-- ---- trees and numbers
+
+-- the frame's root with its history
+abbrev pub treeOf : List ℕ → (Name → ℕ) → Frame → ℕ × History
+treeOf fs at f = (rootOf fs at f, f .history)
+
+-- a deque is another; the core's numbers but the first free place and node and the free nodes' number are the same
+pub same-numbers : (M : Machine) (c : Core) (c′ : Core) (ds : List (List Frame)) (ss : List Frame) → length ds ≡ length (M .deques) → SameNumbers M c
+    → c′ .head .workers ≡ c .head .workers → c′ .head .splitters ≡ c .head .splitters → c′ .head .height ≡ c .head .height → c′ .head .nodes ≡ c .head .nodes
+    → SameNumbers (record { splitters = M .splitters; nodes = M .nodes; deques = ds; suspended = ss }) c′
+same-numbers M c c′ ds ss e n e₁ e₂ e₃ e₄ = record {
+  workers = e₁ ∙ n .workers ∙ sym e;
+  some-worker = omega (arith, n .some-worker, e);
+  few-workers = omega (arith, n .few-workers, e);
+  splitters = e₂ ∙ n .splitters;
+  some-splitter = n .some-splitter;
+  few-splitters = n .few-splitters;
+  tall = e₃ ∙ n .tall;
+  enough = subst (λ (x : ℕ). treeNodes (M .splitters) ≤ x) (sym e₄) (n .enough);
+  few-nodes = subst (λ (x : ℕ). x ≤ 16384) (sym e₄) (n .few-nodes);
+}
+
+-- ---- the acting frame: q is the bottom of worker w's deque, d are the frames above it
+
+module _ {P : Trees} {M : Machine} {c : Core} (r : Relates P M c) (w : ℕ) (q : Frame) (d : List Frame) (lt : w < length (M .deques)) (e : deque M w ≡ q ∷ d) where
+  pub worker-few : w < 8
+  worker-few = omega (arith, lt, r .numbers .few-workers)
+
+  pub acting-deque : dequeList (c .deques) w ≡ r .at (q .name) ∷ placesOf (r .at) d
+  acting-deque = r .deques w worker-few ∙ ap (placesOf (r .at)) e
+
+  pub acting-place : bottom (c .deques) w ≡ r .at (q .name)
+  acting-place = list-head (c .deques) w (r .at (q .name)) (placesOf (r .at) d) acting-deque
+
+  pub acting-frame : actingIn c w ≡ frameAt (c .frames) (r .at (q .name))
+  acting-frame = ap (frameAt (c .frames)) acting-place
+
+  pub acting-record : Recorded (c .frames) (r .at) (live M) 0 q
+  acting-record = r .running q (In-perm (Permᴰ·symm (joined-at (M .deques) w (q ∷ d) lt e)) (here refl))

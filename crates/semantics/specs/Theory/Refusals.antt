@@ -1,0 +1,248 @@
+-- The engine refuses as the plain machine does: each of its tests is the plain machine's test of that number.
+use mathlib.Core.Path.{_≡_, refl, sym, ap, ap₂, _∙_, subst}
+use mathlib.Core.Logic.{inl, inr}
+use mathlib.Core.Bool.{Bool, true, false, not, _||_}
+use mathlib.Core.List.{List·Memᴰ as In, List·Memᴰ·head as here, List·Memᴰ·not-nil as not-in-nil, Memᴰ·append-right as In-right, List·Memᴰ·append-cases as In-cases, Memᴰ·of-map as In-unmap}
+use mathlib.Core.List.{List, [], _∷_, _++_}
+use Prim.Native.Nat.{ℕ, zero, suc, _+_, _*_, _≤_, _<_}
+use native.Mathlib.Omega.{arith}
+use native.Mathlib.Decide.{decLt}
+use lib.ListN.{length, getD, length-map, List·getD-eq-default}
+use lib.Dec.{eqb, ltb, leb, leb·suc-suc}
+use borrow.Author.Tests.{eq-eqb, ne-eqb}
+use Rattle.words.specs.Basics.{none, joined}
+use Rattle.words.specs.Tests.{decided, true≢false, ltb-of, nltb-of}
+use Rattle.words.specs.Counting.{δ-same, count, count-nil, count-cons, sum-zero, sum-ge, all-at, all-of}
+use Rattle.sizes.specs.Sizes.{height}
+use Rattle.frames.specs.Deques.{size}
+use Rattle.frames.specs.Theory.Lists.{list-length}
+use Rattle.frames.specs.Theory.Places.{FreePlaces}
+use Rattle.model.specs.declared.Step.{Step}
+use Rattle.model.specs.declared.Step.the-variants.{Spawn, Return, Steal, Sync, Read, Write}
+use Rattle.model.specs.Machine.{Frame, Machine, live, deque, isEmpty, hasChild, freeNodes}
+use Rattle.model.specs.Steps.{Action, spawn, return, sync, read, write, acting, turnOf, firstTrue, notBelow, actionTests, turnTests, refusal}
+use Rattle.model.specs.Steps.{noWorker as missing}
+use Rattle.model.specs.Theory.Children.{hasChild-In}
+use Rattle.model.specs.Theory.FrameTree.{FrameTree}
+use Rattle.model.specs.Theory.DequeShape.{DequeInvariant}
+use Rattle.model.specs.Theory.Effects.{isEmpty-nil, there-is-worker}
+use Rattle.semantics.specs.declared.Refusal.{Refusal}
+use Rattle.semantics.specs.declared.Refusal.the-variants.{Values, Workers, Nodes, Tape, Work, Unsound, Record, NoWorker, MainReturned, WorkerIdle, ThiefBusy, NoVictim, FramesFull, ChildLives, NoSplitter, PoolFull}
+use Rattle.semantics.specs.declared.Answer.the-variants.{Refused}
+use Rattle.semantics.specs.Answers.{refusalNumber}
+use Rattle.semantics.specs.Core.{Core, Did, actingIn, idle, noWorker, allIdle, judged, actingTests, spawned, ended, robbed, waited, valued, wrote, stepOn}
+use Rattle.semantics.specs.Theory.Relation.{Trees, placesOf, Relates}
+use Rattle.semantics.specs.Theory.Places.{in-deque, sum-count, all-once, childCount-test, depth-few, placed-inside, acting-frame, acting-record}
+
+-- ---- two lists of tests
+
+-- in order, as far as none before holds, the tests are equal, and their numbers
+abbrev pub Alike : List (Bool × Refusal) → List (Bool × ℕ) → Type 0
+Alike [] [] = Unit {0}
+Alike [] (u ∷ us) = ⊥
+Alike (t ∷ ts) [] = ⊥
+Alike (t ∷ ts) (u ∷ us) = (t .0 ≡ u .0) × (refusalNumber (t .1) ≡ u .1) × (u .0 ≡ false → Alike ts us)
+
+abbrev pub refusedBy : Core → Refusal → Did
+refusedBy c r = record { core = c; answer = Refused r }
+
+some-number : (r : Refusal) → 0 < refusalNumber r
+some-number Values = omega arith
+some-number Workers = omega arith
+some-number Nodes = omega arith
+some-number Tape = omega arith
+some-number Work = omega arith
+some-number Unsound = omega arith
+some-number Record = omega arith
+some-number NoWorker = omega arith
+some-number MainReturned = omega arith
+some-number WorkerIdle = omega arith
+some-number ThiefBusy = omega arith
+some-number NoVictim = omega arith
+some-number FramesFull = omega arith
+some-number ChildLives = omega arith
+some-number NoSplitter = omega arith
+some-number PoolFull = omega arith
+
+judged-passes : (ts : List (Bool × Refusal)) (us : List (Bool × ℕ)) (c : Core) (d : Did) → Alike ts us → firstTrue 0 us ≡ 0 → judged ts c d ≡ d
+judged-passes [] [] c d a e = refl
+judged-passes (t ∷ ts) (u ∷ us) c d a e = elim (decided (u .0)) [
+  | inl s ↦ absurd (omega (arith, some-number (t .1), a .1, rw s at e))
+  | inr s ↦ rw (a .0 ∙ s) (judged-passes ts us c d (a .2 s) (rw s at e))
+]
+
+judged-refuses : (ts : List (Bool × Refusal)) (us : List (Bool × ℕ)) (c : Core) (d : Did) → Alike ts us → (k : ℕ) → firstTrue 0 us ≡ suc k
+    → (r : Refusal) × (judged ts c d ≡ refusedBy c r) × (refusalNumber r ≡ suc k)
+judged-refuses [] [] c d a k e = absurd (omega arith)
+judged-refuses (t ∷ ts) (u ∷ us) c d a k e = elim (decided (u .0)) [
+  | inl s ↦ (t .1, rw (a .0 ∙ s), a .1 ∙ (rw s at e))
+  | inr s ↦ rw (a .0 ∙ s) (judged-refuses ts us c d (a .2 s) k (rw s at e))
+]
+
+-- ---- lists and tests
+
+empty-test : {A : Type 0} (l : List A) → eqb (length l) 0 ≡ isEmpty l
+empty-test [] = eq-eqb 0 0 refl
+empty-test (x ∷ l) = ne-eqb (suc (length l)) 0 (λ e. omega arith)
+
+not-not : (b : Bool) → not (not b) ≡ b
+not-not true = refl
+not-not false = refl
+
+in-some : {A : Type 0} {h : A} (ds : List (List A)) → In h (joined ds) → (v : ℕ) × (v < length ds) × In h (getD ds v [])
+in-some [] m = absurd (not-in-nil m)
+in-some (d ∷ ds) m = elim (In-cases d m) [
+  | inl i ↦ (0, omega arith, i)
+  | inr i ↦ (let x = in-some ds i in (suc (x .0), omega (arith, x .1), x .2))
+]
+
+-- each number below N stands once in one of the two lists
+module _ (N : ℕ) (gs ps : List ℕ) (once : (p : ℕ) → p < N → count p gs + count p ps ≡ 1) (inside : (p : ℕ) → In p ps → p < N) where
+  none-free : gs ≡ [] → length ps ≡ N
+  none-free e = omega (arith, all-once N gs ps once, sum-count N ps inside, sum-zero N (λ p. count p gs) (λ p b. ap (count p) e ∙ count-nil p))
+
+  some-free : (x : ℕ) (xs : List ℕ) → x < N → gs ≡ x ∷ xs → length ps < N
+  some-free x xs h e = omega (arith, all-once N gs ps once, sum-count N ps inside, sum-ge N x (λ p. count p gs) h, ap (count x) e, count-cons x x xs, δ-same x)
+
+-- ---- single tests
+
+module _ {P : Trees} {M : Machine} {c : Core} (r : Relates P M c) where
+  -- of every number, a worker's or not
+  pub size-same : (w : ℕ) → size (c .deques) w ≡ length (deque M w)
+  unfolding size
+  size-same w = elim (decLt w 8) [
+    | yes h ↦ sym (list-length (c .deques) w) ∙ ap length (r .deques w h) ∙ length-map (deque M w) (λ (f : Frame). r .at (f .name))
+    | no h ↦ List·getD-eq-default (c .deques) 0 {n = 65 * w} (omega (arith, r .formed .shaped .long))
+        ∙ sym (ap length (List·getD-eq-default (M .deques) [] {n = w} (omega (arith, r .numbers .few-workers))))
+  ]
+
+  pub idle-same : (w : ℕ) → idle c w ≡ isEmpty (deque M w)
+  idle-same w = ap (λ (n : ℕ). eqb n 0) (size-same w) ∙ empty-test (deque M w)
+
+  pub worker-same : (w : ℕ) → noWorker c w ≡ missing M w
+  worker-same w = ap (λ (n : ℕ). not (ltb w n)) (r .numbers .workers)
+
+  pub splitter-same : (x : ℕ) → not (ltb x (c .head .splitters)) ≡ notBelow x (M .splitters)
+  splitter-same x = ap (λ (n : ℕ). not (ltb x n)) (r .numbers .splitters)
+
+  pub victim-same : (v : ℕ) → noWorker c v || ltb (size (c .deques) v) 2 ≡ missing M v || ltb (length (deque M v)) 2
+  victim-same v = ap₂ _||_ (worker-same v) (ap (λ (n : ℕ). ltb n 2) (size-same v))
+
+  pub room-same : c .head .spare ≡ freeNodes M → leb (c .head .spare) (c .head .height) ≡ ltb (freeNodes M) (suc (height (M .splitters)))
+  room-same e = ap₂ leb e (r .numbers .tall) ∙ sym (leb·suc-suc (freeNodes M) (height (M .splitters)))
+
+  pub child-same : (w : ℕ) (q : Frame) (d : List Frame) → w < length (M .deques) → deque M w ≡ q ∷ d → not (eqb (actingIn c w .outstanding) 0) ≡ hasChild (q .name) (live M)
+  child-same w q d lt e =
+      rw (acting-frame r w q d lt e, acting-record r w q d lt e .outstanding, childCount-test (q .name) (live M)) (not-not (hasChild (q .name) (live M)))
+
+  -- ---- 64 frames live
+
+  placed : (p : ℕ) → In p (placesOf (r .at) (live M)) → p < 64
+  placed p m = let u = In-unmap (λ (f : Frame). r .at (f .name)) (live M) m in omega (arith, placed-inside r (u .0) (u .1), u .2)
+
+  full : (gs : List ℕ) → r .gs ≡ gs → eqb (c .head .vacant) none ≡ notBelow (length (live M)) 64
+  full [] e =
+      let z : c .head .vacant ≡ none = subst (λ (g : List ℕ). FreePlaces (c .frames) (c .head .vacant) g) e (r .formed .places) in
+      let many : 64 ≤ length (live M) = omega (arith, none-free 64 (r .gs) (placesOf (r .at) (live M)) (r .once) placed e, length-map (live M) (λ (f : Frame). r .at (f .name))) in
+      eq-eqb (c .head .vacant) none z ∙ sym (ap not (nltb-of many))
+  full (g ∷ gs) e =
+      let z = subst (λ (l : List ℕ). FreePlaces (c .frames) (c .head .vacant) l) e (r .formed .places) in
+      let few : length (live M) < 64 = omega (arith, some-free 64 (r .gs) (placesOf (r .at) (live M)) (r .once) placed g gs (z .1) e, length-map (live M) (λ (f : Frame). r .at (f .name))) in
+      ne-eqb (c .head .vacant) none (λ n. omega (arith, z .0, z .1)) ∙ sym (ap not (ltb-of few))
+
+  pub vacant-same : eqb (c .head .vacant) none ≡ notBelow (length (live M)) 64
+  vacant-same = full (r .gs) refl
+
+  -- ---- Main has returned
+
+  module _ (tree : FrameTree M) (shape : DequeInvariant M) where
+    -- with all workers idle each live frame is suspended, and has a live child
+    deeper : ((g : Frame) → In g (live M) → In g (M .suspended)) → (n : ℕ) (f : Frame) → In f (live M) → (g : Frame) × In g (live M) × (n ≤ length (g .name))
+    deeper waits zero f m = (f, m, omega arith)
+    deeper waits (suc n) f m =
+        let x = deeper waits n f m in
+        let y = hasChild-In (x .0 .name) (live M) (shape .waits (x .0) (waits (x .0) (x .1))) in
+        (y .0, y .1, omega (arith, ap length (y .3), x .2))
+
+    not-all-idle : (f : Frame) → In f (live M) → allIdle c ≡ true → ⊥
+    not-all-idle f m s =
+        let x = deeper waits (length (live M)) f m in
+        omega (arith, x .2, depth-few (live M) (tree .rooted) (x .0) (x .1))
+      where
+        none-runs : (g : Frame) → In g (joined (M .deques)) → ⊥
+        none-runs g i =
+            let x = in-some (M .deques) i in
+            let empty = sym (idle-same (x .0)) ∙ all-at (c .head .workers) (idle c) s (x .0) (rw (r .numbers .workers) (x .1)) in
+            not-in-nil (subst (λ (d : List Frame). In g d) (isEmpty-nil (deque M (x .0)) empty) (x .2))
+
+        waits : (g : Frame) → In g (live M) → In g (M .suspended)
+        waits g i = elim (In-cases (M .suspended) i) [ inl j ↦ j | inr j ↦ absurd (none-runs g j) ]
+
+    pub ended-same : allIdle c ≡ isEmpty (live M)
+    ended-same = go (live M) refl
+      where
+        no-frame : (w : ℕ) → live M ≡ [] → (d : List Frame) → deque M w ≡ d → isEmpty d ≡ true
+        no-frame w e [] z = refl
+        no-frame w e (f ∷ d) z =
+            absurd (not-in-nil (subst (λ (L : List Frame). In f L) e (In-right (M .suspended) (in-deque (M .deques) w (subst (λ (y : List Frame). In f y) (sym z) (here refl))))))
+
+        go : (L : List Frame) → live M ≡ L → allIdle c ≡ isEmpty L
+        go [] e = all-of (c .head .workers) (idle c) (λ w b. idle-same w ∙ no-frame w e (deque M w) refl)
+        go (f ∷ L) e = elim (decided (allIdle c)) [ inl s ↦ absurd (not-all-idle f (subst (λ (K : List Frame). In f K) (sym e) (here refl)) s) | inr s ↦ s ]
+
+    -- ---- all tests of a step
+
+    acting-alike : (w : ℕ) (a : Action) (ts : List (Bool × Refusal)) → ((q : Frame) (d : List Frame) → w < length (M .deques) → deque M w ≡ q ∷ d → Alike ts (actionTests M (q ∷ d) a))
+        → Alike (actingTests c w ++ ts) (turnTests M (acting w a))
+    acting-alike w a ts h = (worker-same w, refl, λ x. (ended-same, refl, λ y. (idle-same w, refl, go (deque M w) refl)))
+      where
+        go : (d : List Frame) → deque M w ≡ d → isEmpty (deque M w) ≡ false → Alike ts (actionTests M d a)
+        go [] e i = absurd (true≢false (rw e at i))
+        go (q ∷ d) e i = h q d (there-is-worker M w (omega (arith, ap length e))) e
+
+-- the step's tests, and what it does if none holds
+abbrev pub testsOf : Core → Step → List (Bool × Refusal)
+testsOf c (Spawn w) = actingTests c w ++ (eqb (c .head .vacant) none, FramesFull) ∷ []
+testsOf c (Return w) = actingTests c w ++ (not (eqb (actingIn c w .outstanding) 0), ChildLives) ∷ []
+testsOf c (Steal w v) =
+    (noWorker c w, NoWorker) ∷ (allIdle c, MainReturned) ∷ (not (idle c w), ThiefBusy) ∷ (noWorker c v || ltb (size (c .deques) v) 2, NoVictim) ∷ []
+testsOf c (Sync w) = actingTests c w ++ []
+testsOf c (Read w x) = actingTests c w ++ (not (ltb x (c .head .splitters)), NoSplitter) ∷ []
+testsOf c (Write w x v) = actingTests c w ++ (not (ltb x (c .head .splitters)), NoSplitter) ∷ (leb (c .head .spare) (c .head .height), PoolFull) ∷ []
+
+abbrev pub doneBy : Core → Step → Did
+doneBy c (Spawn w) = spawned c w
+doneBy c (Return w) = ended c w
+doneBy c (Steal w v) = robbed c w v
+doneBy c (Sync w) = waited c w
+doneBy c (Read w x) = valued c w x
+doneBy c (Write w x v) = wrote c w x v
+
+pub step-judged : (c : Core) (st : Step) → stepOn c st ≡ judged (testsOf c st) c (doneBy c st)
+unfolding stepOn
+step-judged c (Spawn w) = refl
+step-judged c (Return w) = refl
+step-judged c (Steal w v) = refl
+step-judged c (Sync w) = refl
+step-judged c (Read w x) = refl
+step-judged c (Write w x v) = refl
+
+module _ {P : Trees} {M : Machine} {c : Core} (r : Relates P M c) (tree : FrameTree M) (shape : DequeInvariant M) (spare : c .head .spare ≡ freeNodes M) where
+  alike : (st : Step) → Alike (testsOf c st) (turnTests M (turnOf st))
+  alike (Spawn w) = acting-alike r tree shape w spawn ((eqb (c .head .vacant) none, FramesFull) ∷ []) (λ q d lt e. (vacant-same r, refl, λ x. tt))
+  alike (Return w) = acting-alike r tree shape w return ((not (eqb (actingIn c w .outstanding) 0), ChildLives) ∷ []) (λ q d lt e. (child-same r w q d lt e, refl, λ x. tt))
+  alike (Steal w v) = (worker-same r w, refl, λ x. (ended-same r tree shape, refl, λ y. (ap not (idle-same r w), refl, λ z. (victim-same r v, refl, λ u. tt))))
+  alike (Sync w) = acting-alike r tree shape w sync [] (λ q d lt e. tt)
+  alike (Read w x) = acting-alike r tree shape w (read x) ((not (ltb x (c .head .splitters)), NoSplitter) ∷ []) (λ q d lt e. (splitter-same r x, refl, λ y. tt))
+  alike (Write w x v) =
+      acting-alike r tree shape w (write x v) ((not (ltb x (c .head .splitters)), NoSplitter) ∷ (leb (c .head .spare) (c .head .height), PoolFull) ∷ [])
+      (λ q d lt e. (splitter-same r x, refl, λ y. (room-same r spare, refl, λ z. tt)))
+
+  pub refused-alike : (st : Step)
+      → (refusal M st ≡ 0 → stepOn c st ≡ doneBy c st)
+      × ((k : ℕ) → refusal M st ≡ suc k → (o : Refusal) × (stepOn c st ≡ record { core = c; answer = Refused o }) × (refusalNumber o ≡ suc k))
+  unfolding refusal
+  refused-alike st = (
+    λ e. step-judged c st ∙ judged-passes (testsOf c st) (turnTests M (turnOf st)) c (doneBy c st) (alike st) e,
+    λ k e. rw (step-judged c st) (judged-refuses (testsOf c st) (turnTests M (turnOf st)) c (doneBy c st) (alike st) k e),
+  )

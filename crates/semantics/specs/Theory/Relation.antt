@@ -1,0 +1,109 @@
+-- The relation between a plain machine and the engine's words: where each live frame stands, what its record holds, and what its
+-- tree reads. It is stated over a predicate `Trees` on the pool, so that it serves both sound states from anywhere and runs from
+-- a start.
+use mathlib.Core.Path.{_≡_}
+use mathlib.Core.Logic.{_≢_}
+use mathlib.Core.Bool.{cond}
+use mathlib.Core.List.{List·Memᴰ as In, List·Permᴰ}
+use mathlib.Core.List.{List, [], _∷_, map}
+use Prim.Native.Nat.{ℕ, _+_, _*_, _≤_, _<_}
+use lib.ListN.{length, getD, drop}
+use Rattle.words.specs.Basics.{none, count, joined}
+use Rattle.sizes.specs.Sizes.{height, treeNodes}
+use Rattle.pool.specs.Pool.{readAt, retain, release, write}
+use Rattle.frames.specs.Frames.{frameAt, freePlace}
+use Rattle.frames.specs.Theory.Lists.{dequeList}
+use Rattle.frames.specs.Theory.Tables.{Formed}
+use Rattle.model.specs.History.{Mark, Event, History}
+use Rattle.model.specs.Machine.{Name, Frame, Machine, live, deque, isChild}
+use Rattle.semantics.specs.Core.{Core, tableOf}
+
+-- ---- the pool of live frames
+
+-- of the pool's words, the first free node, the number of free nodes, and the live frames' roots with their histories
+abbrev pub Trees : Type 1
+Trees = List ℕ → ℕ → ℕ → List (ℕ × History) → Type 0
+
+-- these frames read what they read before
+abbrev pub Kept : ℕ → ℕ → List ℕ → List ℕ → List (ℕ × History) → Type 0
+Kept h n ws ws' Fs = (F : ℕ × History) → In F Fs → (y : ℕ) → y < n → readAt h ws' (F .0) y ≡ readAt h ws (F .0) y
+
+-- no event of the frames has the mark m
+abbrev pub Fresh : Mark → List (ℕ × History) → Type 0
+Fresh m Fs = (F : ℕ × History) → In F Fs → (e : Event) → In e (F .1) → e .mark ≢ m
+
+abbrev pub event : ℕ → Mark → Event
+event x m = record { splitter = x; mark = m }
+
+-- what spawn, return and write do to it, for N nodes and n splitters
+pub record TreeLaws (N n : ℕ) (P : Trees) : Type 0 where
+  pub perm : (ws : List ℕ) (free k : ℕ) (Fs Fs' : List (ℕ × History)) → List·Permᴰ Fs Fs' → P ws free k Fs → P ws free k Fs'
+  pub spawn : (ws : List ℕ) (free k : ℕ) (F : ℕ × History) (Fs : List (ℕ × History)) → length Fs < 64 → P ws free k (F ∷ Fs)
+    → P (retain ws (F .0)) free k (F ∷ F ∷ Fs) × Kept (height n) n ws (retain ws (F .0)) (F ∷ Fs)
+  pub return : (ws : List ℕ) (free k : ℕ) (F : ℕ × History) (Fs : List (ℕ × History)) → P ws free k (F ∷ Fs)
+    → P (release (height n) ws free k (F .0) .0) (release (height n) ws free k (F .0) .1) (release (height n) ws free k (F .0) .2) Fs
+      × Kept (height n) n ws (release (height n) ws free k (F .0) .0) Fs
+  pub write : (ws : List ℕ) (free k root : ℕ) (h : History) (Fs : List (ℕ × History)) (x v : ℕ) (m : Mark) → length Fs < 64 → x < n → height n < k → m ≢ []
+    → Fresh m ((root, h) ∷ Fs) → P ws free k ((root, h) ∷ Fs)
+    → P (write (height n) ws free k root x v .0) (write (height n) ws free k root x v .1) (write (height n) ws free k root x v .2) ((free, event x m ∷ h) ∷ Fs)
+      × Kept (height n) n ws (write (height n) ws free k root x v .0) Fs
+      × (readAt (height n) (write (height n) ws free k root x v .0) free x ≡ v)
+      × ((y : ℕ) → y < n → y ≢ x → readAt (height n) (write (height n) ws free k root x v .0) free y ≡ readAt (height n) ws root y)
+
+-- ---- frames and their places
+
+-- Main has no parent; another frame's parent stands where its name says
+abbrev pub parentPlace : (Name → ℕ) → Name → ℕ
+parentPlace at [] = none
+parentPlace at (k ∷ p) = at p
+
+-- how many of the frames are children of p
+abbrev pub childCount : Name → List Frame → ℕ
+childCount p [] = 0
+childCount p (f ∷ fs) = cond (isChild p (f .name)) 1 0 + childCount p fs
+
+abbrev pub placesOf : (Name → ℕ) → List Frame → List ℕ
+placesOf at fs = map (λ f. at (f .name)) fs
+
+abbrev pub rootOf : List ℕ → (Name → ℕ) → Frame → ℕ
+rootOf fs at f = frameAt fs (at (f .name)) .root
+
+-- the frames' roots with their histories
+abbrev pub rootsOf : List ℕ → (Name → ℕ) → List Frame → List (ℕ × History)
+rootsOf fs at L = map (λ f. (rootOf fs at f, f .history)) L
+
+-- the record of the frame f, one of the live frames L: suspended (s is 1) or not (0)
+pub record Recorded (fs : List ℕ) (at : Name → ℕ) (L : List Frame) (s : ℕ) (f : Frame) : Type 0 where
+  pub inside : at (f .name) < 64
+  pub live : frameAt fs (at (f .name)) .live ≡ 1
+  pub parent : frameAt fs (at (f .name)) .parent ≡ parentPlace at (f .name)
+  pub depth : frameAt fs (at (f .name)) .depth ≡ length (f .name)
+  pub outstanding : frameAt fs (at (f .name)) .outstanding ≡ childCount (f .name) L
+  pub suspended : frameAt fs (at (f .name)) .suspended ≡ s
+
+-- the numbers that no step changes
+pub record SameNumbers (M : Machine) (c : Core) : Type 0 where
+  pub workers : c .head .workers ≡ length (M .deques)
+  pub some-worker : 1 ≤ length (M .deques)
+  pub few-workers : length (M .deques) ≤ 8
+  pub splitters : c .head .splitters ≡ M .splitters
+  pub some-splitter : 1 ≤ M .splitters
+  pub few-splitters : M .splitters ≤ 256
+  pub tall : c .head .height ≡ height (M .splitters)
+  pub enough : treeNodes (M .splitters) ≤ c .head .nodes
+  pub few-nodes : c .head .nodes ≤ 16384
+
+-- `at` gives each live frame's place, gs are the free places
+pub record Relates (P : Trees) (M : Machine) (c : Core) : Type 0 where
+  pub at : Name → ℕ
+  pub gs : List ℕ
+  pub numbers : SameNumbers M c
+  pub formed : Formed (tableOf c) gs
+  pub deques : (w : ℕ) → w < 8 → dequeList (c .deques) w ≡ placesOf at (deque M w)
+  pub running : (f : Frame) → In f (joined (M .deques)) → Recorded (c .frames) at (live M) 0 f
+  pub waiting : (f : Frame) → In f (M .suspended) → Recorded (c .frames) at (live M) 1 f
+  -- each place is free or some live frame's, and only one's
+  pub once : (p : ℕ) → p < 64 → count p gs + count p (placesOf at (live M)) ≡ 1
+  pub vacant : (p : ℕ) → p < 64 → 0 < count p gs → (q : ℕ) × (frameAt (c .frames) p ≡ freePlace q)
+  pub trees : P (c .pool) (c .head .free) (c .head .spare) (rootsOf (c .frames) at (live M))
+  pub values : (f : Frame) → In f (live M) → (x : ℕ) → x < M .splitters → readAt (height (M .splitters)) (c .pool) (rootOf (c .frames) at f) x ≡ getD (f .values) x 0

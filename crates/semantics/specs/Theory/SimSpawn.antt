@@ -1,0 +1,298 @@
+-- An accepted spawn of the plain machine is matched by the engine's words: the child stands in the first free place.
+use mathlib.Core.Path.{_≡_, refl, sym, ap, ap₂, _∙_, subst}
+use mathlib.Core.Logic.{_≢_, inl, inr}
+use mathlib.Core.Bool.{false, cond}
+use mathlib.Core.List.{List·Memᴰ as In, List·Memᴰ·head as here, List·Memᴰ·tail as there, List·Memᴰ·cases-cons as In-cons, List·Memᴰ·append-cases as In-cases, Memᴰ·append-left as In-left, Memᴰ·append-right as In-right, Memᴰ·map as In-map}
+use mathlib.Core.List.{List, [], _∷_, _++_, List·Permᴰ, Permᴰ·symm, Permᴰ·map}
+use Prim.Native.Nat.{ℕ, suc, _<_}
+use native.Mathlib.Omega.{arith}
+use native.Mathlib.Decide.{ℕ-discrete}
+use lib.ListN.{length, getD, set, length-map, length-set, length-append}
+use lib.Seq.{getD-set-same, getD-set-other}
+use Rattle.words.specs.Basics.{plus, joined, same}
+use Rattle.words.specs.Tests.{decided}
+use Rattle.words.specs.Lists.{In-perm, joined-set}
+use Rattle.words.specs.Distinct.{same-refl, same-differ}
+use Rattle.words.specs.Counting.{δ-same, count, count-cons, hit, miss}
+use Rattle.sizes.specs.Sizes.{height}
+use Rattle.pool.specs.Pool.{readAt, retain}
+use Rattle.frames.specs.declared.Frame.{Frame as FrameWords}
+use Rattle.frames.specs.Frames.{frameAt, freePlace, childOf, withChild}
+use Rattle.frames.specs.Steps.{Table, spawn as spawnTable}
+use Rattle.frames.specs.Theory.Cells.{plus-one}
+use Rattle.frames.specs.Theory.Lists.{dequeList}
+use Rattle.frames.specs.Theory.Tables.{Formed}
+use Rattle.frames.specs.Theory.Summary.{Spawned, spawn-does as spawned-table}
+use Rattle.model.specs.Machine.{Name, Frame, Machine, live, deque, withDeque, hasChild}
+use Rattle.model.specs.Steps.{spawn, acting, child, afterSpawn, afterAction, afterTurn, actionAnswer, turnAnswer}
+use Rattle.model.specs.Theory.LiveRun.{Disjoint, disjoint-perm}
+use Rattle.model.specs.Theory.Children.{hasChild-In}
+use Rattle.model.specs.Theory.Effects.{Passes, acts, rest, live-at, live-with}
+use Rattle.model.specs.Theory.FrameTree.{Rooted, rooted-perm, FrameTree, names-apart}
+use Rattle.semantics.specs.Answers.{answerWords}
+use Rattle.semantics.specs.Core.{Core, tableOf, actingIn, spawned}
+use Rattle.semantics.specs.Theory.Relation.{Trees, TreeLaws, Kept, parentPlace, childCount, placesOf, rootOf, rootsOf, Recorded, Relates}
+use Rattle.semantics.specs.Theory.Places.{length-perm, count-perm, childCount-perm, map-cong, joined-at, PlacedOnce, not-head, place-left, childCount-le, childless-count, depth-few, recorded-as, recorded-kept, placed-inside, placed-taken, placed-apart, in-deque, treeOf, same-numbers, worker-few, acting-deque, acting-frame, acting-record}
+
+-- ---- the child's place
+
+-- `at` with the name n at the place g
+abbrev placed : (Name → ℕ) → Name → ℕ → Name → ℕ
+placed at n g r = cond (same r n) g (at r)
+
+placed-new : (at : Name → ℕ) (n : Name) (g : ℕ) → placed at n g n ≡ g
+placed-new at n g = rw (same-refl n)
+
+placed-other : (at : Name → ℕ) (n : Name) (g : ℕ) (r : Name) → r ≢ n → placed at n g r ≡ at r
+placed-other at n g r ne = rw (same-differ ne)
+
+-- ---- the step: q spawns, g is the first free place and hs are the others
+
+module _ {P : Trees} {M : Machine} {c : Core} (r : Relates P M c) (tree : FrameTree M) (w : ℕ) (q : Frame) (d : List Frame)
+    (lt : w < length (M .deques)) (e : deque M w ≡ q ∷ d) (few : length (live M) < 64) (g : ℕ) (hs : List ℕ) (eg : r .gs ≡ g ∷ hs) where
+  abbrev others : List Frame
+  others = d ++ rest M w
+
+  abbrev M′ : Machine
+  M′ = withDeque M w (child q ∷ afterSpawn q ∷ d)
+
+  abbrev t′ : Table
+  t′ = spawnTable (tableOf c) w
+
+  abbrev at′ : Name → ℕ
+  at′ = placed (r .at) (child q .name) g
+
+  before : List·Permᴰ (live M) (q ∷ others)
+  before = live-at M w (q ∷ d) lt e
+
+  after : List·Permᴰ (live M′) (child q ∷ afterSpawn q ∷ others)
+  after = live-with M w (child q ∷ afterSpawn q ∷ d) lt
+
+  disjoint : Disjoint (q ∷ others)
+  disjoint = disjoint-perm before (tree .disjoint)
+
+  rooted : Rooted (q ∷ others)
+  rooted = rooted-perm before (tree .rooted)
+
+  old : (f : Frame) → In f (q ∷ others) → In f (live M)
+  old f m = In-perm (Permᴰ·symm before) m
+
+  others-few : length others < 63
+  others-few = omega (arith, few, length-perm before)
+
+  -- ---- names
+
+  -- the child's name is new
+  name-new : (f : Frame) → In f (q ∷ others) → f .name ≢ child q .name
+  name-new f m z =
+      elim (In-cons m) [
+        | inl y ↦ omega (arith, ap (λ (x : Frame). length (x .name)) y, ap length z)
+        | inr i ↦ disjoint .0 f i (child q .name) (inr (inl (refl, omega arith))) (inl (sym z))
+      ]
+
+  -- it has no child yet
+  no-child : (f : Frame) → In f (child q ∷ afterSpawn q ∷ others) → (k : ℕ) → f .name ≢ k ∷ child q .name
+  no-child f (here y) k z = omega (arith, ap (λ (x : Frame). length (x .name)) y, ap length z)
+  no-child f (there (here y)) k z = omega (arith, ap (λ (x : Frame). length (x .name)) y, ap length z)
+  no-child f (there (there i)) k z = let x = rooted f (there i) k (child q .name) z in name-new (x .0) (x .1) (x .2)
+
+  childless : hasChild (child q .name) (live M′) ≡ false
+  childless =
+      elim (decided (hasChild (child q .name) (live M′))) [
+        | inl t ↦ (let x = hasChild-In (child q .name) (live M′) t in absurd (no-child (x .0) (In-perm after (x .1)) (x .2) (x .3)))
+        | inr t ↦ t
+      ]
+
+  apart : (f : Frame) → In f others → f .name ≢ q .name
+  apart f i z = names-apart q f others disjoint i (sym z)
+
+  -- ---- places
+
+  new-place : at′ (child q .name) ≡ g
+  new-place = placed-new (r .at) (child q .name) g
+
+  same-place : (f : Frame) → In f (q ∷ others) → at′ (f .name) ≡ r .at (f .name)
+  same-place f m = placed-other (r .at) (child q .name) g (f .name) (name-new f m)
+
+  same-places : (l : List Frame) → ((f : Frame) → In f l → In f (q ∷ others)) → placesOf at′ l ≡ placesOf (r .at) l
+  same-places l h = map-cong (λ f. at′ (f .name)) (λ f. r .at (f .name)) l (λ f m. same-place f (h f m))
+
+  same-parent : (f : Frame) → In f (q ∷ others) → parentPlace at′ (f .name) ≡ parentPlace (r .at) (f .name)
+  same-parent f m = go (f .name) refl
+    where
+      go : (n : Name) → f .name ≡ n → parentPlace at′ n ≡ parentPlace (r .at) n
+      go [] z = refl
+      go (k ∷ p) z = let x = rooted f m k p z in placed-other (r .at) (child q .name) g p (λ y. name-new (x .0) (x .1) (x .2 ∙ y))
+
+  formed : Formed (tableOf c) (g ∷ hs)
+  formed = subst (Formed (tableOf c)) eg (r .formed)
+
+  once : PlacedOnce (r .at) (g ∷ hs) (live M)
+  once = subst (λ (z : List ℕ). PlacedOnce (r .at) z (live M)) eg (r .once)
+
+  taken : (f : Frame) → In f (q ∷ others) → count (r .at (f .name)) (g ∷ hs) ≡ 0
+  taken f m = subst (λ (z : List ℕ). count (r .at (f .name)) z ≡ 0) eg (placed-taken r f (old f m))
+
+  g-once : count g hs ≡ 0
+  g-once = omega (arith, once g (formed .places .1), count-cons g g hs, δ-same g)
+
+  S : Spawned (tableOf c) t′ w (r .at (q .name)) g (placesOf (r .at) d) hs
+  S =
+      spawned-table (tableOf c) w (r .at (q .name)) g (placesOf (r .at) d) hs formed (worker-few r w q d lt e) (acting-deque r w q d lt e)
+      (omega (arith, others-few, length-append d (rest M w), length-map d (λ (f : Frame). r .at (f .name)))) (placed-inside r q (old q (here refl))) (taken q (here refl)) g-once
+
+  places : List·Permᴰ (placesOf at′ (live M′)) (g ∷ placesOf (r .at) (q ∷ others))
+  places = subst (List·Permᴰ (placesOf at′ (live M′))) (ap₂ _∷_ new-place (same-places (q ∷ others) (λ f m. m))) (Permᴰ·map (λ (f : Frame). at′ (f .name)) after)
+
+  once-after : PlacedOnce at′ hs (live M′)
+  once-after p b =
+      omega (arith, once p b, count-perm p places, count-perm p (Permᴰ·map (λ (f : Frame). r .at (f .name)) before), count-cons p g (placesOf (r .at) (q ∷ others)), count-cons p g hs)
+
+  vacant-after : (p : ℕ) → p < 64 → 0 < count p hs → (x : ℕ) × (frameAt (t′ .frames) p ≡ freePlace x)
+  vacant-after p b h =
+      let o = r .vacant p b (subst (λ (z : List ℕ). 0 < count p z) (sym eg) (omega (arith, count-cons p g hs))) in
+      let not-g : p ≢ g = λ z. omega (arith, g-once, ap (λ (x : ℕ). count x hs) z) in
+      let not-q : p ≢ r .at (q .name) = λ z. omega (arith, count-cons p g hs, taken q (here refl), ap (λ (x : ℕ). count x (g ∷ hs)) z) in
+      (o .0, S .after .records p (not-g, (not-q, tt)) ∙ o .1)
+
+  deques-after : (v : ℕ) → v < 8 → dequeList (t′ .deques) v ≡ placesOf at′ (deque M′ v)
+  deques-after v b =
+      elim (ℕ-discrete v w) [
+        | yes x ↦ rw (x, getD-set-same (M .deques) w (child q ∷ afterSpawn q ∷ d) [] lt)
+            (S .after .deque ∙ sym (ap₂ _∷_ new-place (same-places (q ∷ d) (λ f m. In-left (rest M w) m))))
+        | no x ↦ rw (getD-set-other (M .deques) w v (child q ∷ afterSpawn q ∷ d) [] x)
+            (S .after .deques v b x ∙ r .deques v b ∙ sym (same-places (deque M v) (λ f m. In-perm before (In-right (M .suspended) (in-deque (M .deques) v m)))))
+      ]
+
+  -- ---- records
+
+  same-record : (f : Frame) → In f others → frameAt (t′ .frames) (r .at (f .name)) ≡ frameAt (c .frames) (r .at (f .name))
+  same-record f i =
+      S .after .records (r .at (f .name))
+      (not-head (r .at (f .name)) g hs (taken f (there i)), (placed-apart r f q (old f (there i)) (old q (here refl)) (apart f i), tt))
+
+  kept : (f : Frame) → In f others → (s : ℕ) → Recorded (c .frames) (r .at) (live M) s f → Recorded (t′ .frames) at′ (live M′) s f
+  kept f i s R =
+      recorded-kept (c .frames) (t′ .frames) (r .at) at′ (live M) (live M′) s f (same-place f (there i)) (same-record f i) (same-parent f (there i))
+      (omega (arith, childCount-perm (f .name) after, childCount-perm (f .name) before, miss {b = same (q .name) (f .name)} (same-differ (λ z. apart f i (sym z))))) R
+
+  q-record : Recorded (c .frames) (r .at) (live M) 0 q
+  q-record = acting-record r w q d lt e
+
+  one-more : suc (childCount (q .name) (live M)) ≡ childCount (q .name) (live M′)
+  one-more = omega (arith, childCount-perm (q .name) after, childCount-perm (q .name) before, hit {b = same (q .name) (q .name)} (same-refl (q .name)))
+
+  parent-record : Recorded (t′ .frames) at′ (live M′) 0 (afterSpawn q)
+  parent-record =
+      recorded-as (t′ .frames) at′ (live M′) 0 (afterSpawn q) (r .at (q .name)) (withChild (frameAt (c .frames) (r .at (q .name)))) (same-place q (here refl)) (S .parent)
+      (q-record .inside) (q-record .live) (q-record .parent ∙ sym (same-parent q (here refl))) (q-record .depth)
+      (ap (λ (n : ℕ). plus n 1) (q-record .outstanding) ∙ plus-one (childCount (q .name) (live M)) (omega (arith, few, childCount-le (q .name) (live M))) ∙ one-more) (q-record .suspended)
+
+  child-depth : plus (frameAt (c .frames) (r .at (q .name)) .depth) 1 ≡ suc (length (q .name))
+  child-depth =
+      ap (λ (n : ℕ). plus n 1) (q-record .depth) ∙ plus-one (length (q .name)) (omega (arith, few, depth-few (live M) (tree .rooted) q (old q (here refl))))
+
+  child-record : Recorded (t′ .frames) at′ (live M′) 0 (child q)
+  child-record =
+      recorded-as (t′ .frames) at′ (live M′) 0 (child q) g (childOf (frameAt (c .frames) (r .at (q .name))) (r .at (q .name))) new-place (S .child) (formed .places .1)
+      refl (sym (same-place q (here refl))) child-depth (sym (childless-count (child q .name) (live M′) childless)) refl
+
+  running-after : (f : Frame) → In f (joined (M′ .deques)) → Recorded (t′ .frames) at′ (live M′) 0 f
+  running-after f m =
+      elim (In-cons (In-perm (joined-set (M .deques) w (child q ∷ afterSpawn q ∷ d) lt) m)) [
+        | inl x ↦ subst (Recorded (t′ .frames) at′ (live M′) 0) (sym x) child-record
+        | inr i ↦ elim (In-cons i) [
+          | inl x ↦ subst (Recorded (t′ .frames) at′ (live M′) 0) (sym x) parent-record
+          | inr j ↦ kept f (elim (In-cases d j) [ inl x ↦ In-left (rest M w) x | inr x ↦ In-right d (In-right (M .suspended) x) ]) 0
+              (r .running f (In-perm (Permᴰ·symm (joined-at (M .deques) w (q ∷ d) lt e)) (there j)))
+        ]
+      ]
+
+  waiting-after : (f : Frame) → In f (M .suspended) → Recorded (t′ .frames) at′ (live M′) 1 f
+  waiting-after f m = kept f (In-right d (In-left (joined (set (M .deques) w [])) m)) 1 (r .waiting f m)
+
+  -- ---- trees
+
+  same-root : (f : Frame) → In f others → rootOf (t′ .frames) at′ f ≡ rootOf (c .frames) (r .at) f
+  same-root f i = ap (λ (p : ℕ). frameAt (t′ .frames) p .root) (same-place f (there i)) ∙ ap (λ (G : FrameWords). G .root) (same-record f i)
+
+  parent-root : rootOf (t′ .frames) at′ (afterSpawn q) ≡ rootOf (c .frames) (r .at) q
+  parent-root = ap (λ (p : ℕ). frameAt (t′ .frames) p .root) (same-place q (here refl)) ∙ ap (λ (G : FrameWords). G .root) (S .parent)
+
+  child-root : rootOf (t′ .frames) at′ (child q) ≡ rootOf (c .frames) (r .at) q
+  child-root = ap (λ (p : ℕ). frameAt (t′ .frames) p .root) new-place ∙ ap (λ (G : FrameWords). G .root) (S .child)
+
+  roots : rootsOf (t′ .frames) at′ (child q ∷ afterSpawn q ∷ others) ≡ treeOf (c .frames) (r .at) q ∷ rootsOf (c .frames) (r .at) (q ∷ others)
+  roots =
+      ap₂ _∷_ (ap (λ (x : ℕ). (x, q .history)) child-root)
+      (ap₂ _∷_ (ap (λ (x : ℕ). (x, q .history)) parent-root)
+      (map-cong (treeOf (t′ .frames) at′) (treeOf (c .frames) (r .at)) others (λ f i. ap (λ (x : ℕ). (x, f .history)) (same-root f i))))
+
+  acting-root : actingIn c w .root ≡ rootOf (c .frames) (r .at) q
+  acting-root = ap (λ (G : FrameWords). G .root) (acting-frame r w q d lt e)
+
+  module _ (laws : TreeLaws (c .head .nodes) (M .splitters) P) where
+    retained : P (retain (c .pool) (rootOf (c .frames) (r .at) q)) (c .head .free) (c .head .spare) (treeOf (c .frames) (r .at) q ∷ rootsOf (c .frames) (r .at) (q ∷ others))
+        × Kept (height (M .splitters)) (M .splitters) (c .pool) (retain (c .pool) (rootOf (c .frames) (r .at) q)) (rootsOf (c .frames) (r .at) (q ∷ others))
+    retained =
+        laws .spawn (c .pool) (c .head .free) (c .head .spare) (treeOf (c .frames) (r .at) q) (rootsOf (c .frames) (r .at) others)
+        (omega (arith, others-few, length-map others (treeOf (c .frames) (r .at))))
+        (laws .perm (c .pool) (c .head .free) (c .head .spare) (rootsOf (c .frames) (r .at) (live M)) (rootsOf (c .frames) (r .at) (q ∷ others))
+        (Permᴰ·map (treeOf (c .frames) (r .at)) before) (r .trees))
+
+    trees-after : P (retain (c .pool) (actingIn c w .root)) (c .head .free) (c .head .spare) (rootsOf (t′ .frames) at′ (live M′))
+    trees-after =
+        rw acting-root
+        (laws .perm (retain (c .pool) (rootOf (c .frames) (r .at) q)) (c .head .free) (c .head .spare)
+        (rootsOf (t′ .frames) at′ (child q ∷ afterSpawn q ∷ others)) (rootsOf (t′ .frames) at′ (live M′)) (Permᴰ·map (treeOf (t′ .frames) at′) (Permᴰ·symm after))
+        (subst (P (retain (c .pool) (rootOf (c .frames) (r .at) q)) (c .head .free) (c .head .spare)) (sym roots) (retained .0)))
+
+    -- f has the tree and the values of h
+    reads : (f h : Frame) → In h (q ∷ others) → rootOf (t′ .frames) at′ f ≡ rootOf (c .frames) (r .at) h → f .values ≡ h .values
+        → (x : ℕ) → x < M .splitters → readAt (height (M .splitters)) (retain (c .pool) (actingIn c w .root)) (rootOf (t′ .frames) at′ f) x ≡ getD (f .values) x 0
+    reads f h m er ev x b = rw (acting-root, er, ev) (retained .1 (treeOf (c .frames) (r .at) h) (In-map (treeOf (c .frames) (r .at)) m) x b ∙ r .values h (old h m) x b)
+
+    values-after : (f : Frame) → In f (live M′) → (x : ℕ) → x < M .splitters
+        → readAt (height (M .splitters)) (retain (c .pool) (actingIn c w .root)) (rootOf (t′ .frames) at′ f) x ≡ getD (f .values) x 0
+    values-after f m =
+        elim (In-cons (In-perm after m)) [
+          | inl y ↦ reads f q (here refl) (ap (rootOf (t′ .frames) at′) y ∙ child-root) (ap (λ (z : Frame). z .values) y)
+          | inr i ↦ elim (In-cons i) [
+            | inl y ↦ reads f q (here refl) (ap (rootOf (t′ .frames) at′) y ∙ parent-root) (ap (λ (z : Frame). z .values) y)
+            | inr j ↦ reads f f (there j) (same-root f j) refl
+          ]
+        ]
+
+    spawn-relates : Relates P (afterAction M w (q ∷ d) spawn) (spawned c w .core)
+    unfolding spawned
+    spawn-relates = record {
+      at = at′;
+      gs = hs;
+      numbers = same-numbers M c (spawned c w .core) (M′ .deques) (M .suspended) (length-set (M .deques) w (child q ∷ afterSpawn q ∷ d)) (r .numbers) refl refl refl refl;
+      formed = S .after .formed;
+      deques = deques-after;
+      running = running-after;
+      waiting = waiting-after;
+      once = once-after;
+      vacant = vacant-after;
+      trees = trees-after;
+      values = values-after;
+    }
+
+  spawn-answer : answerWords (spawned c w .answer) ≡ actionAnswer M w (q ∷ d) spawn
+  unfolding spawned
+  spawn-answer = ap (λ (n : ℕ). (101, n)) (ap (λ (G : FrameWords). plus (G .depth) 1) (acting-frame r w q d lt e) ∙ child-depth)
+
+pub sim-spawn : (P : Trees) (M : Machine) (c : Core) (w : ℕ) → TreeLaws (c .head .nodes) (M .splitters) P → FrameTree M → Passes M (acting w spawn) → Relates P M c
+    → Relates P (afterTurn M (acting w spawn)) (spawned c w .core) × (answerWords (spawned c w .answer) ≡ turnAnswer M (acting w spawn))
+sim-spawn P M c w laws tree h r =
+    let x = acts M w spawn h in
+    let y = first-free (r .gs) (place-left (r .at) (r .gs) (live M) (r .once) (x .allowed)) in
+    subst (λ (z : List Frame). Relates P (afterAction M w z spawn) (spawned c w .core) × (answerWords (spawned c w .answer) ≡ actionAnswer M w z spawn)) (sym (x .at)) (
+      spawn-relates r tree w (x .actor) (x .above) (x .worker) (x .at) (x .allowed) (y .0) (y .1) (y .2) laws,
+      spawn-answer r tree w (x .actor) (x .above) (x .worker) (x .at) (x .allowed) (y .0) (y .1) (y .2),
+    )
+  where
+    first-free : (gs : List ℕ) → 0 < length gs → (g : ℕ) × (hs : List ℕ) × (gs ≡ g ∷ hs)
+    first-free [] b = absurd (omega arith)
+    first-free (g ∷ hs) b = (g, hs, refl)

@@ -1,0 +1,152 @@
+-- A write gives the bottom frame a new tree; "Write alters one place of the bottom frame's list".
+use mathlib.Core.Path.{_≡_, refl, sym, _∙_, subst}
+use mathlib.Core.Logic.{_≢_, inl, inr}
+use mathlib.Core.List.{List·Memᴰ as In, List·Memᴰ·tail as there, List·Memᴰ·cases-cons as In-cons, Memᴰ·append-left as In-left, Memᴰ·append-right as In-right, List·Memᴰ·append-cases as In-cases}
+use mathlib.Core.List.{List, [], _∷_, _++_, cons≢nil, Memᴰ·map, Memᴰ·of-map, List·Permᴰ, Permᴰ·symm}
+use Prim.Native.Nat.{ℕ, _<_}
+use native.Mathlib.Omega.{arith}
+use native.Mathlib.Decide.{ℕ-discrete}
+use lib.ListN.{length, getD, set, length-map, length-set}
+use lib.Seq.{getD-set-same, getD-set-other}
+use Rattle.words.specs.Basics.{joined}
+use Rattle.words.specs.Lists.{In-perm, joined-set}
+use Rattle.sizes.specs.Sizes.{height}
+use Rattle.pool.specs.Pool.{readAt}
+use Rattle.pool.specs.Pool.{write as path}
+use Rattle.frames.specs.declared.Frame.{Frame as Words}
+use Rattle.frames.specs.Frames.{frameAt, setFrame, withRoot}
+use Rattle.frames.specs.Theory.Records.{length-setFrame, frame-set-same, frame-set-other}
+use Rattle.frames.specs.Theory.Places.{free-elsewhere}
+use Rattle.model.specs.History.{History}
+use Rattle.model.specs.Machine.{Frame, Machine, live, deque, withDeque, freeNodes}
+use Rattle.model.specs.Steps.{write, acting, written, afterTurn}
+use Rattle.model.specs.Theory.Effects.{Passes, acts, rest, live-at, live-with}
+use Rattle.model.specs.Theory.FreshMarks.{MarkInvariant, mark-fresh}
+use Rattle.model.specs.Theory.Bounds.{Bounded}
+use Rattle.semantics.specs.declared.Answer.the-variants.{Accepted}
+use Rattle.semantics.specs.declared.Done.the-variants.{Written}
+use Rattle.semantics.specs.Answers.{answerWords}
+use Rattle.semantics.specs.Core.{Core, Did, did, withFree, wrote}
+use Rattle.semantics.specs.Theory.Relation.{Trees, Kept, Fresh, event, TreeLaws, rootOf, rootsOf, Recorded, Relates}
+use Rattle.semantics.specs.Theory.Places.{length-perm, placed-inside, placed-taken, treeOf, same-numbers, acting-deque, acting-place, acting-record}
+use Rattle.semantics.specs.Theory.RelationFacts.{trees-perm, in-rest, lists-with, bottom-lives, above-runs}
+use Rattle.semantics.specs.Theory.Stored.{Carried, carried}
+
+module _ (P : Trees) (M : Machine) (c : Core) (w x v : ℕ) (q : Frame) (d : List Frame) (lt : w < length (M .deques)) (e : deque M w ≡ q ∷ d) (r : Relates P M c) where
+  abbrev root : ℕ
+  root = rootOf (c .frames) (r .at) q
+
+  -- the new pool, first free node and number of free nodes
+  abbrev after : List ℕ × ℕ × ℕ
+  after = path (height (M .splitters)) (c .pool) (c .head .free) (c .head .spare) root x v
+
+  abbrev new-record : Words
+  new-record = withRoot (frameAt (c .frames) (r .at (q .name))) (c .head .free)
+
+  abbrev new-frames : List ℕ
+  new-frames = setFrame (c .frames) (r .at (q .name)) new-record
+
+  abbrev new-did : Did
+  new-did = did (withFree (c .head) (after .1) (after .2)) (c .deques) new-frames (after .0) (Accepted (Written (after .2)))
+
+  wrote-is : wrote c w x v ≡ new-did
+  unfolding wrote
+  wrote-is = rw (acting-place r w q d lt e, r .numbers .tall)
+
+  abbrev others : List Frame
+  others = d ++ rest M w
+
+  abbrev next : Machine
+  next = withDeque M w (written q x v ∷ d)
+
+  before : List·Permᴰ (live M) (q ∷ others)
+  before = live-at M w (q ∷ d) lt e
+
+  afterwards : List·Permᴰ (written q x v ∷ others) (live next)
+  afterwards = Permᴰ·symm (live-with M w (written q x v ∷ d) lt)
+
+  q-lives : In q (live M)
+  q-lives = bottom-lives r w q d e
+
+  -- ---- the record
+
+  carries : Carried r next new-frames q (written q x v) others (new-record .suspended) (c .head .free)
+  carries =
+      carried r next new-frames q (written q x v) others (new-record .suspended) (c .head .free) refl before afterwards
+      (frame-set-same (c .frames) (r .at (q .name)) new-record (r .formed .long) (placed-inside r q q-lives))
+      (λ p n. frame-set-other (c .frames) (r .at (q .name)) p new-record n)
+
+  recorded : Recorded new-frames (r .at) (live next) 0 (written q x v)
+  recorded =
+      let k = acting-record r w q d lt e in
+      subst (λ (z : ℕ). Recorded new-frames (r .at) (live next) z (written q x v)) (k .suspended) (carries .own-record 0 k)
+
+  -- ---- the tree
+
+  fresh : MarkInvariant (live M) → Fresh (length (q .history) ∷ q .name) (rootsOf (c .frames) (r .at) (q ∷ others))
+  fresh marks F m v mv =
+      let o = Memᴰ·of-map (treeOf (c .frames) (r .at)) (q ∷ others) m in
+      mark-fresh (live M) marks q (o .0) q-lives (In-perm (Permᴰ·symm before) (o .1)) v (subst (λ (z : ℕ × History). In v (z .1)) (sym (o .2)) mv)
+
+  module _ (laws : TreeLaws (c .head .nodes) (M .splitters) P) (marks : MarkInvariant (live M)) (bounds : Bounded (M .splitters) (live M)) (below : x < M .splitters)
+      (room : height (M .splitters) < c .head .spare) where
+    few : length (rootsOf (c .frames) (r .at) others) < 64
+    few = omega (arith, length-map others (treeOf (c .frames) (r .at)), length-perm before, bounds .0)
+
+    law : P (after .0) (after .1) (after .2) ((c .head .free, event x (length (q .history) ∷ q .name) ∷ q .history) ∷ rootsOf (c .frames) (r .at) others)
+        × Kept (height (M .splitters)) (M .splitters) (c .pool) (after .0) (rootsOf (c .frames) (r .at) others)
+        × (readAt (height (M .splitters)) (after .0) (c .head .free) x ≡ v)
+        × ((y : ℕ) → y < M .splitters → y ≢ x → readAt (height (M .splitters)) (after .0) (c .head .free) y ≡ readAt (height (M .splitters)) (c .pool) root y)
+    law = laws .write (c .pool) (c .head .free) (c .head .spare) root (q .history) (rootsOf (c .frames) (r .at) others) x v (length (q .history) ∷ q .name) few below room
+        cons≢nil (fresh marks) (trees-perm (c .frames) (r .at) laws before (r .trees))
+
+    -- ---- what each frame reads
+
+    new-value : (y : ℕ) → y < M .splitters → readAt (height (M .splitters)) (after .0) (rootOf new-frames (r .at) (written q x v)) y ≡ getD (set (q .values) x v) y 0
+    new-value y h = rw (carries .own-root) (elim (ℕ-discrete y x) [
+      | yes z ↦ rw z (law .2 ∙ sym (getD-set-same (q .values) x v 0 (rw (bounds .1 q q-lives .values) below)))
+      | no z ↦ law .3 y h z ∙ r .values q q-lives y h ∙ sym (getD-set-other (q .values) x y v 0 z)
+    ])
+
+    old-value : (f : Frame) → In f others → (y : ℕ) → y < M .splitters → readAt (height (M .splitters)) (after .0) (rootOf new-frames (r .at) f) y ≡ getD (f .values) y 0
+    old-value f m y h =
+        rw (carries .other-root f m)
+        (law .1 (treeOf (c .frames) (r .at) f) (Memᴰ·map (treeOf (c .frames) (r .at)) m) y h
+        ∙ r .values f (In-perm (Permᴰ·symm before) (there m)) y h)
+
+    related : Relates P next (new-did .core)
+    related = record {
+      at = r .at;
+      gs = r .gs;
+      numbers = same-numbers M c (new-did .core) (next .deques) (M .suspended) (length-set (M .deques) w (written q x v ∷ d)) (r .numbers) refl refl refl refl;
+      formed = record {
+        shaped = r .formed .shaped;
+        long = length-setFrame (c .frames) (r .at (q .name)) new-record ∙ r .formed .long;
+        places = free-elsewhere (c .frames) (c .head .vacant) (r .at (q .name)) (r .gs) (placed-taken r q q-lives) (r .formed .places) new-record;
+      };
+      deques = lists-with (r .at) (c .deques) (M .deques) w (written q x v ∷ d) lt (acting-deque r w q d lt e) (λ u h n. r .deques u h);
+      running = λ f m. elim (In-cases (written q x v ∷ d) (In-perm (joined-set (M .deques) w (written q x v ∷ d) lt) m)) [
+        | inl i ↦ elim (In-cons i) [
+          | inl z ↦ subst (λ (g : Frame). Recorded new-frames (r .at) (live next) 0 g) (sym z) recorded
+          | inr j ↦ carries .other-record 0 f (In-left (rest M w) j) (r .running f (above-runs r w q d e f j))
+        ]
+        | inr i ↦ carries .other-record 0 f (In-right d (In-right (M .suspended) i)) (r .running f (in-rest (M .deques) w i))
+      ];
+      waiting = λ f m. carries .other-record 1 f (In-right d (In-left (joined (set (M .deques) w [])) m)) (r .waiting f m);
+      once = carries .once;
+      vacant = carries .vacant;
+      trees = trees-perm new-frames (r .at) laws afterwards (rw (carries .other-roots, carries .own-root) (law .0));
+      values = λ f m y h. elim (In-cons (In-perm (Permᴰ·symm afterwards) m)) [
+        | inl z ↦ subst (λ (g : Frame). readAt (height (M .splitters)) (after .0) (rootOf new-frames (r .at) g) y ≡ getD (g .values) y 0) (sym z) (new-value y h)
+        | inr i ↦ old-value f i y h
+      ];
+    }
+
+pub sim-write : (P : Trees) (M : Machine) (c : Core) (w x v : ℕ) → TreeLaws (c .head .nodes) (M .splitters) P → MarkInvariant (live M) → Bounded (M .splitters) (live M)
+    → c .head .spare ≡ freeNodes M → Passes M (acting w (write x v)) → Relates P M c
+    → Relates P (afterTurn M (acting w (write x v))) (wrote c w x v .core) × (answerWords (wrote c w x v .answer) ≡ (106, wrote c w x v .core .head .spare))
+sim-write P M c w x v laws marks bounds spare h r =
+    let a = acts M w (write x v) h in
+    let room : height (M .splitters) < c .head .spare = omega (arith, spare, a .allowed .1) in
+    rw (a .at, wrote-is P M c w x v (a .actor) (a .above) (a .worker) (a .at) r)
+    (related P M c w x v (a .actor) (a .above) (a .worker) (a .at) r laws marks bounds (a .allowed .0) room, refl)

@@ -1,0 +1,61 @@
+-- One live frame's record is stored anew, but for its suspension and its tree; the frame keeps its name, the other frames stay.
+use mathlib.Core.Path.{_≡_, refl, sym, ap, _∙_}
+use mathlib.Core.Logic.{_≢_}
+use mathlib.Core.List.{List·Memᴰ as In, List·Memᴰ·head as here}
+use mathlib.Core.List.{List, _∷_, List·Permᴰ, Permᴰ·symm, Permᴰ·map}
+use Prim.Native.Nat.{ℕ, _<_}
+use native.Mathlib.Omega.{arith}
+use Rattle.words.specs.Counting.{count}
+use Rattle.words.specs.Lists.{In-perm}
+use Rattle.frames.specs.declared.Frame.{Frame as Words}
+use Rattle.frames.specs.Frames.{frameAt, freePlace}
+use Rattle.model.specs.Machine.{Name, Frame, Machine, live}
+use Rattle.semantics.specs.Core.{Core}
+use Rattle.semantics.specs.Theory.Relation.{Trees, childCount, placesOf, rootOf, rootsOf, Recorded, Relates}
+use Rattle.semantics.specs.Theory.Places.{count-perm, childCount-perm, PlacedOnce, recorded-kept, placed-taken}
+use Rattle.semantics.specs.Theory.RelationFacts.{roots-same, stored, recorded-stored, places-apart}
+
+-- what is known then: q became q′, the others are R; the record has suspension s and root t
+pub record Carried {P : Trees} {M : Machine} {c : Core} (r : Relates P M c) (M′ : Machine) (fs′ : List ℕ) (q q′ : Frame) (R : List Frame) (s t : ℕ) : Type 0 where
+  pub own-record : (u : ℕ) → Recorded (c .frames) (r .at) (live M) u q → Recorded fs′ (r .at) (live M′) s q′
+  pub other-record : (u : ℕ) (f : Frame) → In f R → Recorded (c .frames) (r .at) (live M) u f → Recorded fs′ (r .at) (live M′) u f
+  pub own-root : rootOf fs′ (r .at) q′ ≡ t
+  pub other-root : (f : Frame) → In f R → rootOf fs′ (r .at) f ≡ rootOf (c .frames) (r .at) f
+  pub other-roots : rootsOf fs′ (r .at) R ≡ rootsOf (c .frames) (r .at) R
+  pub once : PlacedOnce (r .at) (r .gs) (live M′)
+  pub vacant : (p : ℕ) → p < 64 → 0 < count p (r .gs) → (n : ℕ) × (frameAt fs′ p ≡ freePlace n)
+
+module _ {P : Trees} {M : Machine} {c : Core} (r : Relates P M c) (M′ : Machine) (fs′ : List ℕ) (q q′ : Frame) (R : List Frame) (s t : ℕ) (named : q′ .name ≡ q .name)
+    (before : List·Permᴰ (live M) (q ∷ R)) (after : List·Permᴰ (q′ ∷ R) (live M′))
+    (at-q : frameAt fs′ (r .at (q .name)) ≡ stored (frameAt (c .frames) (r .at (q .name))) s t)
+    (elsewhere : (p : ℕ) → p ≢ r .at (q .name) → frameAt fs′ p ≡ frameAt (c .frames) p) where
+  apart : (f : Frame) → In f R → frameAt fs′ (r .at (f .name)) ≡ frameAt (c .frames) (r .at (f .name))
+  apart f m = elsewhere (r .at (f .name)) (places-apart r before f m)
+
+  same-children : (p : Name) → childCount p (live M) ≡ childCount p (live M′)
+  same-children p =
+      childCount-perm p before
+      ∙ ap (λ (z : Name). childCount p (record { name = z; values = q .values; history = q .history; spawned = q .spawned } ∷ R)) (sym named)
+      ∙ childCount-perm p after
+
+  same-places : (p : ℕ) → count p (placesOf (r .at) (live M)) ≡ count p (placesOf (r .at) (live M′))
+  same-places p =
+      count-perm p (Permᴰ·map (λ (f : Frame). r .at (f .name)) before)
+      ∙ ap (λ (z : Name). count p (r .at z ∷ placesOf (r .at) R)) (sym named)
+      ∙ count-perm p (Permᴰ·map (λ (f : Frame). r .at (f .name)) after)
+
+  still-free : (p : ℕ) → p < 64 → 0 < count p (r .gs) → (n : ℕ) × (frameAt fs′ p ≡ freePlace n)
+  still-free p h g =
+      let x = r .vacant p h g in
+      (x .0, elsewhere p (λ e. omega (arith, g, ap (λ (z : ℕ). count z (r .gs)) e, placed-taken r q (In-perm (Permᴰ·symm before) (here refl)))) ∙ x .1)
+
+  pub carried : Carried r M′ fs′ q q′ R s t
+  carried = record {
+    own-record = λ u k. recorded-stored fs′ (live M′) s t q′ named at-q (same-children (q .name)) k;
+    other-record = λ u f m k. recorded-kept (c .frames) fs′ (r .at) (r .at) (live M) (live M′) u f refl (apart f m) refl (sym (same-children (f .name))) k;
+    own-root = ap (λ (z : Name). frameAt fs′ (r .at z) .root) named ∙ ap (λ (z : Words). z .root) at-q;
+    other-root = λ f m. ap (λ (z : Words). z .root) (apart f m);
+    other-roots = roots-same (c .frames) fs′ (r .at) R (λ f m. ap (λ (z : Words). z .root) (apart f m));
+    once = λ p h. omega (arith, r .once p h, same-places p);
+    vacant = still-free;
+  }

@@ -1,0 +1,3 @@
+-- Soundness has the definitions; Example computes them on a small state.
+pub mod Soundness
+pub mod Example

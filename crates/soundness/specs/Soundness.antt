@@ -1,0 +1,199 @@
+-- Document 01's paragraph "Soundness", sentence by sentence, as tests. Definitions only.
+-- A state is its numbers (`Numbers`), the words ds of the 8 deques and the words fs of the frame table (64 places); ws are the
+-- lent pool's words.
+use mathlib.Core.Bool.{Bool, true, false, cond, not, _||_, _&&_}
+use mathlib.Core.List.{List, [], _∷_, _++_}
+use Prim.Native.Nat.{ℕ, zero, suc, _+_, _-_, _*_, _^_}
+use lib.ListN.{length, replicate, drop}
+use lib.Dec.{eqb, leb, ltb}
+use Rattle.words.specs.Basics.{none, sum, all, howMany, implies, δ, count, follow, below}
+use Rattle.sizes.specs.Sizes.{height, treeNodes}
+use Rattle.pool.specs.Pool.{refcount, left, right, value, nextFree}
+use Rattle.frames.specs.Frames.{frameAt}
+use Rattle.frames.specs.Deques.{size, place}
+use Rattle.soundness.specs.declared.Numbers.{Numbers}
+use Rattle.soundness.specs.declared.Checked.{Checked}
+use Rattle.soundness.specs.declared.Checked.the-variants.{NoRoom, Unsound, Sound}
+
+-- ---- numbers
+
+-- "Workers are 1 to 8, n is 1 to 256. The recorded node count is T(n) to 16,384 and at most what the lent pool holds."
+unfoldable pub numbersSound : Numbers → List ℕ → Bool
+numbersSound s ws =
+    leb 1 (s .workers) &&
+    (leb (s .workers) 8 &&
+    (leb 1 (s .splitters) &&
+    (leb (s .splitters) 256 && (leb (treeNodes (s .splitters)) (s .nodes) && (leb (s .nodes) 16384 && leb (4 * s .nodes) (length ws))))))
+
+-- ---- frames and deques: terms
+
+abbrev pub lives : List ℕ → ℕ → Bool
+lives fs p = eqb (frameAt fs p .live) 1
+
+-- c is a live child of the frame at p
+abbrev pub isChild : List ℕ → ℕ → ℕ → Bool
+isChild fs p c = lives fs c && eqb (frameAt fs c .parent) p
+
+abbrev pub children : List ℕ → ℕ → ℕ
+children fs p = howMany 64 (isChild fs p)
+
+-- in how many places of deques the frame at p stands
+abbrev pub inDeques : List ℕ → ℕ → ℕ
+inDeques ds p = sum 8 (λ w. howMany (size ds w) (λ k. eqb (place ds w k) p))
+
+-- ---- frames and deques: the sentences
+
+-- "Either no frame lives and all deques are empty, or just one live frame has depth 0, with parent none."
+unfoldable pub oneMain : List ℕ → List ℕ → Bool
+oneMain ds fs =
+    (all 64 (λ p. not (lives fs p)) && all 8 (λ w. eqb (size ds w) 0)) ||
+    (eqb (howMany 64 (λ p. lives fs p && eqb (frameAt fs p .depth) 0)) 1 &&
+    all 64 (λ p. implies (lives fs p && eqb (frameAt fs p .depth) 0) (eqb (frameAt fs p .parent) none)))
+
+-- "Every other live frame has a live parent one shallower."
+unfoldable pub parentsLive : List ℕ → Bool
+parentsLive fs =
+    all 64 (λ p. implies (lives fs p && not (eqb (frameAt fs p .depth) 0))
+    (ltb (frameAt fs p .parent) 64 && (lives fs (frameAt fs p .parent) && eqb (frameAt fs p .depth) (suc (frameAt fs (frameAt fs p .parent) .depth)))))
+
+-- "Outstanding counts are right."
+unfoldable pub countsRight : List ℕ → Bool
+countsRight fs = all 64 (λ p. implies (lives fs p) (eqb (frameAt fs p .outstanding) (children fs p)))
+
+-- "Each live frame is either in just one place of one deque and not suspended, or in none and suspended with a live child."
+unfoldable pub placedOnce : List ℕ → List ℕ → Bool
+placedOnce ds fs =
+    all 64 (λ p. implies (lives fs p)
+    ((eqb (inDeques ds p) 1 && eqb (frameAt fs p .suspended) 0) ||
+    (eqb (inDeques ds p) 0 && (eqb (frameAt fs p .suspended) 1 && ltb 0 (children fs p)))))
+
+-- "Deques hold live frames only"
+unfoldable pub holdLive : List ℕ → List ℕ → Bool
+holdLive ds fs = all 8 (λ w. all (size ds w) (λ k. ltb (place ds w k) 64 && lives fs (place ds w k)))
+
+-- "a worker that does not exist has an empty one"
+unfoldable pub absentEmpty : ℕ → List ℕ → Bool
+absentEmpty workers ds = all 8 (λ w. ltb w workers || eqb (size ds w) 0)
+
+-- "deque places past a deque's frames are zero"; a deque has 64 places
+unfoldable pub restZero : List ℕ → Bool
+restZero ds = all 8 (λ w. leb (size ds w) 64 && all 64 (λ k. ltb k (size ds w) || eqb (place ds w k) 0))
+
+-- "Each frame in a deque is a child of the one above it."
+unfoldable pub linked : List ℕ → List ℕ → Bool
+linked ds fs = all 8 (λ w. all (size ds w - 1) (λ k. eqb (frameAt fs (place ds w (suc k)) .parent) (place ds w k)))
+
+-- "A frame that is not a top has only the child below it, if any."
+unfoldable pub onlyBelow : List ℕ → List ℕ → Bool
+onlyBelow ds fs =
+    all 8 (λ w. all (size ds w - 1) (λ k. all 64 (λ c. implies (isChild fs (place ds w (suc k)) c) (ltb (suc (suc k)) (size ds w) && eqb c (place ds w (suc (suc k)))))))
+
+-- "Free frame places lie once on theirs, all but the link to the next being zero." 65 steps along the chain pass its end
+abbrev pub freePlaces : List ℕ → ℕ → List ℕ
+freePlaces fs first = follow 65 (λ p. frameAt fs p .parent) first
+
+abbrev pub placeFree : List ℕ → ℕ → Bool
+placeFree fs p =
+    eqb (frameAt fs p .live) 0 && (eqb (frameAt fs p .depth) 0 && (eqb (frameAt fs p .outstanding) 0 && (eqb (frameAt fs p .suspended) 0 && eqb (frameAt fs p .root) 0)))
+
+unfoldable pub placesFree : List ℕ → ℕ → Bool
+placesFree fs first =
+    below 64 (freePlaces fs first) &&
+    all 64 (λ p. (lives fs p && eqb (count p (freePlaces fs first)) 0) || (placeFree fs p && eqb (count p (freePlaces fs first)) 1))
+
+-- frames and deques, all of it; `first` is the first free place
+unfoldable pub framesSound : ℕ → ℕ → List ℕ → List ℕ → Bool
+framesSound workers first ds fs =
+    oneMain ds fs &&
+    (parentsLive fs &&
+    (countsRight fs &&
+    (placedOnce ds fs &&
+    (holdLive ds fs &&
+    (absentEmpty workers ds &&
+    (restZero ds &&
+    (linked ds fs &&
+    (onlyBelow ds fs &&
+    placesFree fs first))))))))
+
+-- ---- trees: n splitters, N recorded nodes, the first free node `first`, and the roots rs of the live frames
+
+-- "Walking from each live frame gives a tree of the shape above, in which a node may stand in several places"
+
+-- node i is the root of a tree of level l over group g: "Inner nodes have value 0, leaves have no links." The right half of a
+-- group exists if it has a splitter
+unfoldable pub treeAt : ℕ → ℕ → List ℕ → ℕ → ℕ → ℕ → Bool
+treeAt n N ws zero g i = ltb i N && (eqb (left ws i) none && eqb (right ws i) none)
+treeAt n N ws (suc l) g i =
+    ltb i N &&
+    (eqb (value ws i) 0 &&
+    (treeAt n N ws l (2 * g) (left ws i) &&
+    elim (ltb ((2 * g + 1) * 2 ^ l) n) [ true ↦ treeAt n N ws l (2 * g + 1) (right ws i) | false ↦ eqb (right ws i) none ]))
+
+-- the nodes of that tree, once for each place in it
+unfoldable pub nodesAt : ℕ → List ℕ → ℕ → ℕ → ℕ → List ℕ
+nodesAt n ws zero g i = i ∷ []
+nodesAt n ws (suc l) g i =
+    i ∷ (nodesAt n ws l (2 * g) (left ws i) ++ elim (ltb ((2 * g + 1) * 2 ^ l) n) [ true ↦ nodesAt n ws l (2 * g + 1) (right ws i) | false ↦ [] ])
+
+abbrev pub treesAt : ℕ → ℕ → List ℕ → List ℕ → Bool
+treesAt n N ws [] = true
+treesAt n N ws (r ∷ rs) = treeAt n N ws (height n) 0 r && treesAt n N ws rs
+
+-- the nodes of all the roots' trees
+abbrev pub reached : ℕ → List ℕ → List ℕ → List ℕ
+reached n ws [] = []
+reached n ws (r ∷ rs) = nodesAt n ws (height n) 0 r ++ reached n ws rs
+
+-- "nodes reached have right holders; all others are free and lie once on the free chain"
+
+abbrev pub isReached : ℕ → List ℕ → List ℕ → ℕ → Bool
+isReached n ws rs i = ltb 0 (count i (reached n ws rs))
+
+-- "Holders counts links from nodes in use and from live frames."
+abbrev pub holders : ℕ → ℕ → List ℕ → List ℕ → ℕ → ℕ
+holders n N ws rs i = count i rs + sum N (λ j. cond (isReached n ws rs j) (δ i (left ws j) + δ i (right ws j)) 0)
+
+-- "A free node holds 0, the next free node or none, 0, 0."
+abbrev pub isFree : List ℕ → ℕ → Bool
+isFree ws i = eqb (refcount ws i) 0 && (eqb (right ws i) 0 && eqb (value ws i) 0)
+
+-- N + 1 steps along the chain pass its end
+abbrev pub freeNodes : ℕ → List ℕ → ℕ → List ℕ
+freeNodes N ws first = follow (suc N) (nextFree ws) first
+
+unfoldable pub poolSound : ℕ → ℕ → List ℕ → ℕ → List ℕ → Bool
+poolSound n N ws first rs =
+    treesAt n N ws rs &&
+    (below N (freeNodes N ws first) &&
+    all N (λ i. (isReached n ws rs i && (eqb (refcount ws i) (holders n N ws rs i) && eqb (count i (freeNodes N ws first)) 0)) ||
+    (eqb (count i (reached n ws rs)) 0 && (isFree ws i && eqb (count i (freeNodes N ws first)) 1))))
+
+-- ---- the whole
+
+-- the roots of the live frames at the places below c
+unfoldable pub rootsBelow : List ℕ → ℕ → List ℕ
+rootsBelow fs zero = []
+rootsBelow fs (suc c) = rootsBelow fs c ++ cond (lives fs c) (frameAt fs c .root ∷ []) []
+
+abbrev pub liveRoots : List ℕ → List ℕ
+liveRoots fs = rootsBelow fs 64
+
+-- "State and pool are sound if all of this is true."
+unfoldable pub sound : Numbers → List ℕ → List ℕ → List ℕ → Bool
+sound s ds fs ws =
+    numbersSound s ws && (framesSound (s .workers) (s .vacant) ds fs && poolSound (s .splitters) (s .nodes) ws (s .free) (liveRoots fs))
+
+-- the free nodes, counted on the chain
+abbrev pub freeCount : Numbers → List ℕ → ℕ
+freeCount s ws = length (freeNodes (s .nodes) ws (s .free))
+
+-- ---- the check's answer, and what it leaves in the work slice
+
+-- refusal 5: "The work slice has fewer words than the recorded node count."
+unfoldable pub checked : Numbers → List ℕ → List ℕ → List ℕ → List ℕ → Checked
+checked s ds fs ws work =
+    cond (leb (s .nodes) (length work)) (cond (sound s ds fs ws) (Sound (freeCount s ws)) Unsound) NoRoom
+
+-- "its first words, one per recorded node, are zero and the others are unchanged"
+unfoldable pub cleared : ℕ → List ℕ → List ℕ
+cleared N work = cond (leb N (length work)) (replicate N 0 ++ drop N work) work
