@@ -1,7 +1,7 @@
 pub mod Answers
 pub mod Core
 pub mod Entries
+pub mod SoundMachine
 pub mod Calls
 pub mod Demands
-
 pub mod Theory

@@ -29,11 +29,15 @@ pub mod Facts
 pub mod Sentences
 pub mod PoolSentences
 -- from a sound state to a plain machine
-pub mod FromSound
 pub mod FromSoundNames
 pub mod FromSoundPlaces
 pub mod FromSoundTree
 pub mod FromSoundRelates
+-- what relates to a plain machine is sound
+pub mod ToSoundPlaces
+pub mod ToSoundDeques
+pub mod ToSoundFrames
+pub mod ToSound
 -- ---- runs
 -- answer words
 pub mod Words
@@ -44,3 +48,5 @@ pub mod StartRelates
 pub mod Runs
 -- demands 2 and 3 from a relation that steps keep
 pub mod DemandsProof
+-- the relation of a run from a start; demands 2 and 3
+pub mod StartedRuns

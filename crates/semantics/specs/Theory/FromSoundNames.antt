@@ -16,7 +16,7 @@ use Rattle.model.specs.Machine.{Name, isChild}
 use Rattle.model.specs.Theory.Names.{below, owns}
 use Rattle.semantics.specs.Theory.Relation.{parentPlace}
 use Rattle.semantics.specs.Theory.Sentences.{Lives, NoFrame, HasParent, OnlyMain, FramesFacts, child-at, at-child}
-use Rattle.semantics.specs.Theory.FromSound.{nameFrom, nameOf, placeOf}
+use Rattle.semantics.specs.SoundMachine.{nameFrom, nameOf, placeOf}
 
 -- ---- families of names
 

@@ -19,7 +19,7 @@ use Rattle.frames.specs.Theory.Lists.{placesTo, dequeList, list-empty}
 use Rattle.soundness.specs.Soundness.{lives, isChild, children, inDeques, rootsBelow, liveRoots}
 use Rattle.semantics.specs.Theory.FreeLists.{and-of, once-short}
 use Rattle.semantics.specs.Theory.Sentences.{Lives, stands, stands-is, FramesFacts}
-use Rattle.semantics.specs.Theory.FromSound.{waitingBelow, waitingPlaces, runningPlaces, livePlaces}
+use Rattle.semantics.specs.SoundMachine.{waitingBelow, waitingPlaces, runningPlaces, livePlaces}
 
 -- ---- membership counted
 
@@ -155,7 +155,7 @@ count-map : (i : ℕ) (h : ℕ → ℕ) (L : List ℕ) → count i (map h L) ≡
 count-map i h [] = count-nil i
 count-map i h (x ∷ L) = omega (arith, count-cons i (h x) (map h L), count-map i h L)
 
-roots-below : (i c : ℕ) (fs : List ℕ) → count i (rootsBelow fs c) ≡ sum c (λ p. cond (lives fs p) (δ i (frameAt fs p .root)) 0)
+pub roots-below : (i c : ℕ) (fs : List ℕ) → count i (rootsBelow fs c) ≡ sum c (λ p. cond (lives fs p) (δ i (frameAt fs p .root)) 0)
 unfolding rootsBelow
 roots-below i zero fs = count-nil i
 roots-below i (suc c) fs = count-append i (rootsBelow fs c) (cond (lives fs c) (frameAt fs c .root ∷ []) []) ∙ ap₂ _+_ (roots-below i c fs) (count-pick (lives fs c) i (frameAt fs c .root))

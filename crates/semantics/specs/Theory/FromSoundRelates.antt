@@ -29,7 +29,7 @@ use Rattle.semantics.specs.Theory.Relation.{childCount, rootsOf, placesO
 use Rattle.semantics.specs.Theory.Pools.{LiveTrees}
 use Rattle.semantics.specs.Theory.Sentences.{Lives, FramesFacts, SoundFacts, sound-facts}
 use Rattle.semantics.specs.Theory.PoolSentences.{pool-live}
-use Rattle.semantics.specs.Theory.FromSound.{nameOf, placeOf, frameOf, framesOf, waitingPlaces, runningPlaces, livePlaces, machineOf, coreWith}
+use Rattle.semantics.specs.SoundMachine.{nameOf, placeOf, frameOf, framesOf, waitingPlaces, runningPlaces, livePlaces, machineOf, coreWith}
 use Rattle.semantics.specs.Theory.FromSoundNames.{Rooted, rooted-facts, length-name, place-name, parent-name}
 use Rattle.semantics.specs.Theory.FromSoundPlaces.{deque-live, running-of, waiting-of, live-of, of-live, live-one, live-none, live-once, live-short, live-roots, live-children}
 use Rattle.semantics.specs.Theory.FromSoundTree.{AllLive, places-frames, roots-frames, children-frames, disjoint-frames, rooted-frames, waits-frames, shape-frames}
