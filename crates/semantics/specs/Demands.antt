@@ -1,21 +1,25 @@
 -- Demands 2 and 3 of document 01 over the entries. Statements only; Theory proves them.
 use mathlib.Core.Path.{_≡_}
-use mathlib.Core.Logic.{_↔_}
+use mathlib.Core.Logic.{_↔_, _⊎_}
 use mathlib.Core.Bool.{Bool, true, false}
 use mathlib.Core.List.{List·Memᴰ as In}
 use mathlib.Core.List.{List, [], _∷_}
-use Prim.Native.Nat.{ℕ, suc, _≤_, _<_}
-use lib.ListN.{length}
+use Prim.Native.Nat.{ℕ, suc, _*_, _<_}
+use lib.ListN.{length, drop}
 use Rattle.words.specs.Basics.{count}
 use Rattle.soundness.specs.Soundness.{sound, freeNodes, freeCount}
 use Rattle.model.specs.declared.Step.{Step}
 use Rattle.model.specs.Machine.{Name, Machine, start}
 use Rattle.model.specs.Machine.{freeNodes as plainFree}
+use Rattle.model.specs.Steps.{refusal, answer}
 use Rattle.model.specs.Run.{Entry, run, answers, IsFrame, stepsOf, readsOf, oneWorkerSteps}
 use Rattle.semantics.specs.declared.State.{State}
 use Rattle.semantics.specs.declared.Call.{Call}
 use Rattle.semantics.specs.declared.Call.the-variants.{Taken}
-use Rattle.semantics.specs.Entries.{Begun, startOn, wholeNodes, numbersOf}
+use Rattle.semantics.specs.Answers.{answerWords}
+use Rattle.semantics.specs.Core.{Did, stepOn}
+use Rattle.semantics.specs.Entries.{Begun, startOn, wholeNodes, numbersOf, coreOf, stateOf}
+use Rattle.semantics.specs.SoundMachine.{machineOf}
 use Rattle.semantics.specs.Calls.{HostCall, outside, Held, afterCalls, Told, allTold, stepsTold, answersTold, saysAccepted, traceTold}
 
 abbrev pub heldBy : Begun → Held
@@ -31,6 +35,32 @@ leftBy workers vs ws calls = afterCalls (heldBy (startOn workers vs ws)) calls
 -- the plain machine at the same start
 abbrev pub plainStart : ℕ → List ℕ → List ℕ → Machine
 plainStart workers vs ws = start workers vs (wholeNodes ws)
+
+-- ---- demand 2 for sound states, however obtained
+
+-- a step of a state and pool that are sound, against "the plain machine whose lists are the values that the trees hold"
+-- (SoundMachine), its free nodes being those on the chain
+abbrev pub plainOf : State → List ℕ → Machine
+plainOf s ws = machineOf (numbersOf s) (s .deques) (s .frames) ws
+
+abbrev pub stepOf : State → List ℕ → Step → Did
+stepOf s ws st = stepOn (coreOf s ws (freeCount (numbersOf s) ws)) st
+
+pub record SoundStep (s : State) (ws : List ℕ) (st : Step) : Type 0 where
+  -- the plain machine's free nodes are those counted on the chain
+  pub free : plainFree (plainOf s ws) ≡ freeCount (numbersOf s) ws
+  -- the same refusal, or 100 plus the kind
+  pub same-first : answerWords (stepOf s ws st .answer) .0 ≡ answer (plainOf s ws) st .0
+  -- the same second word; an accepted write answers the free nodes on the chain that it leaves
+  pub same-second : (answerWords (stepOf s ws st .answer) ≡ answer (plainOf s ws) st)
+    ⊎ ((answer (plainOf s ws) st .0 ≡ 106) × (answerWords (stepOf s ws st .answer) ≡ (106, freeCount (numbersOf (stateOf (stepOf s ws st .core))) (stepOf s ws st .core .pool))))
+  -- a refused step changes nothing
+  pub refused : 0 < refusal (plainOf s ws) st → stepOf s ws st .core ≡ coreOf s ws (freeCount (numbersOf s) ws)
+  -- soundness is kept
+  pub sound-after : sound (numbersOf (stateOf (stepOf s ws st .core))) (stepOf s ws st .core .deques) (stepOf s ws st .core .frames) (stepOf s ws st .core .pool) ≡ true
+  -- "words beyond .. the recorded nodes are never changed"
+  pub same-length : length (stepOf s ws st .core .pool) ≡ length ws
+  pub beyond : drop (4 * s .nodes) (stepOf s ws st .core .pool) ≡ drop (4 * s .nodes) ws
 
 -- ---- demand 2 for runs from an accepted start
 

@@ -50,3 +50,5 @@ pub mod Runs
 pub mod DemandsProof
 -- the relation of a run from a start; demands 2 and 3
 pub mod StartedRuns
+-- demand 2 for sound states, however obtained
+pub mod SoundSteps

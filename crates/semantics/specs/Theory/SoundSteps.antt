@@ -1,0 +1,120 @@
+-- Demand 2 for sound states and pools, however obtained: a step answers and refuses as the plain machine of the state, keeps
+-- soundness, and leaves the words beyond the nodes alone.
+use mathlib.Core.Path.{_≡_, refl, sym, ap, _∙_, subst}
+use mathlib.Core.Bool.{true}
+use mathlib.Core.Logic.{_⊎_, inl, inr}
+use mathlib.Core.List.{List, [], _∷_, _++_}
+use Prim.Native.Nat.{ℕ, zero, suc, _*_, _≤_, _<_}
+use native.Mathlib.Omega.{arith}
+use lib.ListN.{length, drop, length-map}
+use Rattle.sizes.specs.Sizes.{height}
+use Rattle.soundness.specs.Soundness.{sound, freeCount}
+use Rattle.pool.specs.Pool.{retain, release}
+use Rattle.pool.specs.Pool.{write as writePath}
+use Rattle.frames.specs.Frames.{frameAt}
+use Rattle.model.specs.declared.Step.{Step}
+use Rattle.model.specs.declared.Step.the-variants.{Spawn, Return, Steal, Sync, Read, Write}
+use Rattle.model.specs.Machine.{Machine, live, freeNodes}
+use Rattle.model.specs.Steps.{Action, spawn, return, write, acting, turnOf, refusal, step, answer}
+use Rattle.model.specs.Theory.Effects.{Passes, rest, Acts, acts}
+use Rattle.model.specs.Theory.RunSteps.{accepted-or-refused, step-kept, sizes-step}
+use Rattle.model.specs.Theory.FrameTree.{FrameTree, tree-turn}
+use Rattle.model.specs.Theory.DequeShape.{DequeInvariant}
+use Rattle.model.specs.Theory.Deques.{deques-turn}
+use Rattle.semantics.specs.declared.State.{State}
+use Rattle.semantics.specs.Answers.{answerWords}
+use Rattle.semantics.specs.Core.{Core, actingIn, spawned, ended, robbed, waited, valued, wrote, stepOn}
+use Rattle.semantics.specs.Entries.{numbersOf, stateOf, coreOf}
+use Rattle.semantics.specs.SoundMachine.{machineOf}
+use Rattle.semantics.specs.Demands.{plainOf, stepOf, SoundStep}
+use Rattle.semantics.specs.Theory.Relation.{Relates, rootOf, rootsOf}
+use Rattle.semantics.specs.Theory.Places.{length-perm, acting-frame, live-few, treeOf}
+use Rattle.semantics.specs.Theory.RelationFacts.{trees-perm}
+use Rattle.semantics.specs.Theory.Pools.{LiveTrees, live-laws, Beyond, spawn-beyond, return-beyond, write-beyond}
+use Rattle.semantics.specs.Theory.Refusals.{doneBy, refused-alike}
+use Rattle.semantics.specs.Theory.Simulation.{simulates, numbers-kept}
+use Rattle.semantics.specs.Theory.ToSound.{to-sound}
+use Rattle.semantics.specs.Theory.FromSoundRelates.{from-sound}
+
+module _ (M : Machine) (c : Core) (r : Relates (LiveTrees (c .head .nodes) (M .splitters)) M c) (tree : FrameTree M) (shape : DequeInvariant M) (spare : c .head .spare ≡ freeNodes M) where
+  -- ---- the words beyond the nodes
+
+  -- the trees with the acting frame's in front
+  front-trees : (a : Action) (w : ℕ) (x : Acts M w a) → LiveTrees (c .head .nodes) (M .splitters) (c .pool) (c .head .free) (c .head .spare) (rootsOf (c .frames) (r .at) (x .actor ∷ (x .above ++ rest M w)))
+  front-trees a w x = trees-perm (c .frames) (r .at) (live-laws (c .head .nodes) (M .splitters) (r .numbers .few-nodes) (r .numbers .some-splitter)) (x .before) (r .trees)
+
+  root-is : (a : Action) (w : ℕ) (x : Acts M w a) → actingIn c w .root ≡ rootOf (c .frames) (r .at) (x .actor)
+  root-is a w x = ap (λ f. f .root) (acting-frame r w (x .actor) (x .above) (x .worker) (x .at))
+
+  few : (a : Action) (w : ℕ) (x : Acts M w a) → length (rootsOf (c .frames) (r .at) (x .above ++ rest M w)) < 64
+  few a w x = omega (arith, length-map (x .above ++ rest M w) (treeOf (c .frames) (r .at)), length-perm (x .before), live-few r)
+
+  done-beyond : (st : Step) → Passes M (turnOf st) → Beyond (c .head .nodes) (c .pool) (doneBy c st .core .pool)
+  unfolding spawned ended robbed waited valued wrote
+  done-beyond (Spawn w) h =
+      let x = acts M w spawn h in
+      subst (λ (z : ℕ). Beyond (c .head .nodes) (c .pool) (retain (c .pool) z)) (sym (root-is spawn w x))
+      (spawn-beyond (c .head .nodes) (M .splitters) (r .numbers .few-nodes) (r .numbers .some-splitter) (c .pool) (c .head .free) (c .head .spare) (treeOf (c .frames) (r .at) (x .actor))
+      (rootsOf (c .frames) (r .at) (x .above ++ rest M w)) (few spawn w x) (front-trees spawn w x))
+  done-beyond (Return w) h =
+      let x = acts M w return h in
+      subst (λ (z : ℕ). Beyond (c .head .nodes) (c .pool) (release (c .head .height) (c .pool) (c .head .free) (c .head .spare) z .0)) (sym (root-is return w x))
+      (subst (λ (t : ℕ). Beyond (c .head .nodes) (c .pool) (release t (c .pool) (c .head .free) (c .head .spare) (rootOf (c .frames) (r .at) (x .actor)) .0)) (sym (r .numbers .tall))
+      (return-beyond (c .head .nodes) (M .splitters) (r .numbers .few-nodes) (r .numbers .some-splitter) (c .pool) (c .head .free) (c .head .spare) (treeOf (c .frames) (r .at) (x .actor))
+      (rootsOf (c .frames) (r .at) (x .above ++ rest M w)) (front-trees return w x)))
+  done-beyond (Steal w v) h = (refl, refl)
+  done-beyond (Sync w) h = (refl, refl)
+  done-beyond (Read w x) h = (refl, refl)
+  done-beyond (Write w y v) h =
+      let x = acts M w (write y v) h in
+      subst (λ (z : ℕ). Beyond (c .head .nodes) (c .pool) (writePath (c .head .height) (c .pool) (c .head .free) (c .head .spare) z y v .0)) (sym (root-is (write y v) w x))
+      (subst (λ (t : ℕ). Beyond (c .head .nodes) (c .pool) (writePath t (c .pool) (c .head .free) (c .head .spare) (rootOf (c .frames) (r .at) (x .actor)) y v .0)) (sym (r .numbers .tall))
+      (write-beyond (c .head .nodes) (M .splitters) (r .numbers .few-nodes) (r .numbers .some-splitter) (c .pool) (c .head .free) (c .head .spare) (rootOf (c .frames) (r .at) (x .actor)) (x .actor .history)
+      (rootsOf (c .frames) (r .at) (x .above ++ rest M w)) y v (few (write y v) w x) (x .allowed .0) (omega (arith, x .allowed .1, spare)) (front-trees (write y v) w x)))
+
+  -- ---- refused or accepted
+
+  unchanged : (st : Step) → 0 < refusal M st → stepOn c st .core ≡ c
+  unchanged st = go (refusal M st) refl
+    where
+      go : (k : ℕ) → refusal M st ≡ k → 0 < k → stepOn c st .core ≡ c
+      go zero e h = absurd (omega arith)
+      go (suc k) e h = ap (λ d. d .core) (refused-alike r tree shape spare st .1 k e .1)
+
+  step-beyond : (st : Step) → Beyond (c .head .nodes) (c .pool) (stepOn c st .core .pool)
+  step-beyond st = elim (accepted-or-refused M st) [
+    | inl a ↦ subst (λ d. Beyond (c .head .nodes) (c .pool) (d .core .pool)) (sym (refused-alike r tree shape spare st .0 (a .zero-refusal))) (done-beyond st (a .passes))
+    | inr a ↦ subst (λ (d : Core). Beyond (c .head .nodes) (c .pool) (d .pool)) (sym (unchanged st (a .some-refusal))) (refl, refl)
+  ]
+
+-- ---- the theorem
+
+-- the frames' and the deques' invariants after a step
+kept : (M : Machine) (st : Step) → FrameTree M → DequeInvariant M → FrameTree (step M st) × DequeInvariant (step M st)
+kept M st tree shape = step-kept (λ K. FrameTree K × DequeInvariant K) M (λ t h i. (tree-turn M t h (i .0), deques-turn M t h (i .0) (i .1))) st (tree, shape)
+
+pub sound-step : (s : State) (ws : List ℕ) (st : Step) → length (s .deques) ≡ 520 → length (s .frames) ≡ 384 → sound (numbersOf s) (s .deques) (s .frames) ws ≡ true → SoundStep s ws st
+sound-step s ws st dlen flen e =
+    let M = plainOf s ws in
+    let c = coreOf s ws (freeCount (numbersOf s) ws) in
+    let F = from-sound (numbersOf s) (s .deques) (s .frames) ws e dlen flen in
+    let r = F .0 in
+    let S = simulates (LiveTrees (s .nodes) (s .splitters)) M c r (live-laws (s .nodes) (s .splitters) (r .numbers .few-nodes) (r .numbers .some-splitter)) (F .1) (F .2) (F .3) (F .4) (F .5) st in
+    let z = sizes-step M st in
+    let k = kept M st (F .1) (F .2) in
+    let r′ = subst (λ N. Relates (LiveTrees N ((step M st) .splitters)) (step M st) (stepOn c st .core)) (sym (numbers-kept c st .nodes))
+      (subst (λ n. Relates (LiveTrees (s .nodes) n) (step M st) (stepOn c st .core)) (sym (z .splitters)) (S .related)) in
+    let t = to-sound (step M st) (stepOn c st .core) r′ (k .0) (k .1) in
+    let b = step-beyond M c r (F .1) (F .2) (F .5) st in
+    record {
+      free = sym (F .5);
+      same-first = S .answers .first;
+      same-second = elim (S .answers .unless-written) [
+        | inl q ↦ inl q
+        | inr q ↦ inr (sym (S .answers .first) ∙ ap (λ p. p .0) (q .5), q .5 ∙ ap (λ j. (106, j)) (sym (t .1)))
+      ];
+      refused = unchanged M c r (F .1) (F .2) (F .5) st;
+      sound-after = t .0;
+      same-length = b .0;
+      beyond = b .1;
+    }
