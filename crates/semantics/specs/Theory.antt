@@ -52,3 +52,5 @@ pub mod DemandsProof
 pub mod StartedRuns
 -- demand 2 for sound states, however obtained
 pub mod SoundSteps
+-- an empty tape changes only the work slice
+pub mod EmptyTape

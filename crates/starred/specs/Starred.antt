@@ -1,0 +1,110 @@
+-- Document 01's starred edges, through the start and the tape: one table, one theorem.
+use mathlib.Core.Path.{_≡_, refl}
+use mathlib.Core.List.{List, [], _∷_, _++_, map}
+use Prim.Native.Nat.{ℕ, _+_, _-_, _*_, _/_}
+use lib.ListN.{length, replicate}
+use Rattle.words.specs.Basics.{joined, δ, count}
+use Rattle.sizes.specs.Sizes.{height, width, treeNodes, bit}
+use Rattle.pool.specs.Pool.{refcount, left, right, value, setNode, setRefcount, side, child, sibling, leafOf, readAt, retain, release, pathNode, copyPath, write, initLevel, initInner, initLeaves, initFree, initPool}
+use Rattle.frames.specs.Frames.{frameAt, setFrame, initPlaces, initFrames}
+use Rattle.frames.specs.Deques.{size, setSize, place, setPlace, bottom, top, push, pop, shiftUp, dropTop, initDeques}
+use Rattle.frames.specs.Steps.{spawn, return, returned, steal, sync, synced}
+use Rattle.soundness.specs.Soundness.{oneMain, parentsLive, countsRight, placedOnce, holdLive, absentEmpty, restZero, linked, onlyBelow, placesFree, framesSound, treeAt, nodesAt, poolSound, numbersSound, rootsBelow, sound, checked, cleared}
+use Rattle.model.specs.Record.{recordOf, decodeAt}
+use Rattle.semantics.specs.declared.Call.{Call}
+use Rattle.semantics.specs.declared.Call.the-variants.{Taken, Denied}
+use Rattle.semantics.specs.Answers.{refusalNumber}
+use Rattle.semantics.specs.Core.{spawned, ended, robbed, waited, valued, wrote, stepOn}
+use Rattle.semantics.specs.Entries.{Begun, Played, startOn, recordsFrom, runOn, play}
+
+-- a start, then a tape
+pub record Case : Type 0 where
+  pub workers : ℕ
+  pub values : List ℕ
+  pub nodes : ℕ
+  pub records : List (List ℕ)
+
+-- the refusal of the start or of the tape, or 0; the answer words; the work slice afterwards
+pub record Outcome : Type 0 where
+  pub refused : ℕ
+  pub answers : List ℕ
+  pub work : List ℕ
+
+abbrev pub refusalOf : Call → ℕ
+refusalOf Taken = 0
+refusalOf (Denied r) = refusalNumber r
+
+abbrev pub playedOutcome : Played → Outcome
+playedOutcome p = record { refused = refusalOf (p .call); answers = p .answers; work = p .work }
+
+-- the tape is lent two answer words more than it needs, and one work word more; a start that is refused ends it
+abbrev pub tapeOutcome : Call → Begun → Case → Outcome
+tapeOutcome (Denied r) b k = record { refused = refusalNumber r; answers = []; work = [] }
+tapeOutcome Taken b k =
+    playedOutcome (play (b .state) (b .pool) (replicate (k .nodes + 1) 5) (joined (k .records)) (replicate (2 * length (k .records) + 2) 9))
+
+abbrev pub outcome : Case → Outcome
+outcome k = let b : Begun = startOn (k .workers) (k .values) (replicate (4 * k .nodes) 7) in tapeOutcome (b .call) b k
+
+-- ---- records
+
+abbrev spawns : ℕ → List ℕ
+spawns w = 1 ∷ w ∷ 0 ∷ 0 ∷ 0 ∷ 0 ∷ 0 ∷ 0 ∷ []
+
+abbrev returns : ℕ → List ℕ
+returns w = 2 ∷ w ∷ 0 ∷ 0 ∷ 0 ∷ 0 ∷ 0 ∷ 0 ∷ []
+
+abbrev steals : ℕ → ℕ → List ℕ
+steals w v = 3 ∷ w ∷ v ∷ 0 ∷ 0 ∷ 0 ∷ 0 ∷ 0 ∷ []
+
+abbrev syncs : ℕ → List ℕ
+syncs w = 4 ∷ w ∷ 0 ∷ 0 ∷ 0 ∷ 0 ∷ 0 ∷ 0 ∷ []
+
+abbrev reads : ℕ → ℕ → List ℕ
+reads w x = 5 ∷ w ∷ x ∷ 0 ∷ 0 ∷ 0 ∷ 0 ∷ 0 ∷ []
+
+abbrev writes : ℕ → ℕ → ℕ → List ℕ
+writes w x v = 6 ∷ w ∷ x ∷ 0 ∷ v ∷ 0 ∷ 0 ∷ 0 ∷ []
+
+-- ---- the table
+
+abbrev five : List ℕ
+five = 10 ∷ 20 ∷ 30 ∷ 40 ∷ 50 ∷ []
+
+abbrev starts : ℕ → List ℕ → ℕ → List (List ℕ) → Case
+starts w vs n rs = record { workers = w; values = vs; nodes = n; records = rs }
+
+-- refused whole at the start
+abbrev refusedBy : ℕ → Outcome
+refusedBy k = record { refused = k; answers = []; work = [] }
+
+-- the answer words, and after them the two that were lent besides; the work words zero, and after them the one besides
+abbrev answered : ℕ → List ℕ → Outcome
+answered nodes as′ = record { refused = 0; answers = as′ ++ (9 ∷ 9 ∷ []); work = replicate nodes 0 ++ (5 ∷ []) }
+
+pub table : List (Case × Outcome)
+table =
+    -- "The tape above."
+    (starts 2 five 20 (spawns 0 ∷ steals 1 0 ∷ writes 1 4 99 ∷ reads 0 4 ∷ syncs 1 ∷ reads 1 4 ∷ returns 0 ∷ reads 0 4 ∷ returns 0 ∷ []),
+     answered 20 (101 ∷ 1 ∷ 103 ∷ 0 ∷ 106 ∷ 5 ∷ 105 ∷ 50 ∷ 104 ∷ 1 ∷ 10 ∷ 0 ∷ 102 ∷ 2 ∷ 105 ∷ 99 ∷ 102 ∷ 3 ∷ []))
+    -- "n 1, one node: write refused 16; two nodes: accepted, 106 1."
+    ∷ (starts 1 (7 ∷ []) 1 (writes 0 0 5 ∷ []), answered 1 (16 ∷ 0 ∷ []))
+    ∷ (starts 1 (7 ∷ []) 2 (writes 0 0 5 ∷ []), answered 2 (106 ∷ 1 ∷ []))
+    -- "n 5, 10 nodes: refused 3; 14 nodes: write refused 16; 15: 106 4."
+    ∷ (starts 1 five 10 (writes 0 0 5 ∷ []), refusedBy 3)
+    ∷ (starts 1 five 14 (writes 0 0 5 ∷ []), answered 14 (16 ∷ 0 ∷ []))
+    ∷ (starts 1 five 15 (writes 0 0 5 ∷ []), answered 15 (106 ∷ 4 ∷ []))
+    -- "n 0 and n 257: refused 1."
+    ∷ (starts 1 [] 20 [], refusedBy 1)
+    ∷ (starts 1 (replicate 257 0) 20 [], refusedBy 1)
+    -- "Empty tape: no answers, only the work slice changed." (Theory.EmptyTape shows it for every state)
+    ∷ (starts 2 five 20 [], answered 20 [])
+    -- "Stealing from a deque of one: 12."
+    ∷ (starts 2 five 20 (steals 1 0 ∷ []), answered 20 (12 ∷ 0 ∷ []))
+    -- "Return by Main while its child runs elsewhere: 14."
+    ∷ (starts 2 five 20 (spawns 0 ∷ steals 1 0 ∷ returns 1 ∷ []), answered 20 (101 ∷ 1 ∷ 103 ∷ 0 ∷ 14 ∷ 0 ∷ []))
+    ∷ []
+
+pub starred : map (λ (row : Case × Outcome). outcome (row .0)) table ≡ map (λ (row : Case × Outcome). row .1) table
+unfolding table startOn play runOn recordsFrom recordOf decodeAt spawned ended robbed waited valued wrote stepOn spawn return returned steal sync synced shiftUp dropTop pop top bottom side child sibling bit leafOf readAt retain release setRefcount pathNode copyPath write initPool initFree initLeaves initInner initLevel setNode height width treeNodes initDeques push setSize setPlace size place initFrames initPlaces setFrame frameAt checked cleared sound numbersSound rootsBelow framesSound oneMain parentsLive countsRight placedOnce holdLive absentEmpty restZero linked onlyBelow placesFree poolSound treeAt nodesAt refcount left right value δ count
+starred = refl
