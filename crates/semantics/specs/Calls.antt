@@ -2,8 +2,8 @@
 -- its frames have read. Definitions only.
 use mathlib.Core.Bool.{Bool, cond}
 use mathlib.Core.List.{List, [], _∷_, _++_, map}
-use Prim.Native.Nat.{ℕ, suc, _+_, _*_, _/_}
-use lib.ListN.{length, getD}
+use Prim.Native.Nat.{ℕ, suc, _+_}
+use lib.ListN.{getD}
 use lib.Dec.{leb}
 use Rattle.model.specs.declared.Step.{Step}
 use Rattle.model.specs.declared.Decoded.{Decoded}

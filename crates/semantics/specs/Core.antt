@@ -2,7 +2,7 @@
 -- Definitions only; every one is total.
 use mathlib.Core.Bool.{Bool, cond, not, _||_}
 use mathlib.Core.List.{List, [], _∷_, _++_}
-use Prim.Native.Nat.{ℕ, suc, _-_}
+use Prim.Native.Nat.{ℕ}
 use lib.Dec.{eqb, ltb, leb}
 use Rattle.words.specs.Basics.{none, plus, all}
 use Rattle.pool.specs.Pool.{readAt, retain, release, write}
@@ -13,7 +13,6 @@ use Rattle.frames.specs.Steps.{Table, acting, spawn, return, returned, steal, s
 use Rattle.model.specs.declared.Step.{Step}
 use Rattle.model.specs.declared.Step.the-variants.{Spawn, Return, Steal, Sync, Read, Write}
 use Rattle.semantics.specs.declared.Head.{Head}
-use Rattle.semantics.specs.declared.Done.{Done}
 use Rattle.semantics.specs.declared.Done.the-variants.{Spawned, Ended, Stolen, Waited, Value, Written}
 use Rattle.semantics.specs.declared.Refusal.{Refusal}
 use Rattle.semantics.specs.declared.Refusal.the-variants.{NoWorker, MainReturned, WorkerIdle, ThiefBusy, NoVictim, FramesFull, ChildLives, NoSplitter, PoolFull}
@@ -109,14 +108,24 @@ wrote c w x v =
 
 -- ---- a step
 
+-- its refusals, in checking order
+abbrev pub testsOf : Core → Step → List (Bool × Refusal)
+testsOf c (Spawn w) = actingTests c w ++ (eqb (c .head .vacant) none, FramesFull) ∷ []
+testsOf c (Return w) = actingTests c w ++ (not (eqb (actingIn c w .outstanding) 0), ChildLives) ∷ []
+testsOf c (Steal w v) =
+    (noWorker c w, NoWorker) ∷ (allIdle c, MainReturned) ∷ (not (idle c w), ThiefBusy) ∷ (noWorker c v || ltb (size (c .deques) v) 2, NoVictim) ∷ []
+testsOf c (Sync w) = actingTests c w ++ []
+testsOf c (Read w x) = actingTests c w ++ (not (ltb x (c .head .splitters)), NoSplitter) ∷ []
+testsOf c (Write w x v) = actingTests c w ++ (not (ltb x (c .head .splitters)), NoSplitter) ∷ (leb (c .head .spare) (c .head .height), PoolFull) ∷ []
+
+-- what it does if none holds
+abbrev pub doneBy : Core → Step → Did
+doneBy c (Spawn w) = spawned c w
+doneBy c (Return w) = ended c w
+doneBy c (Steal w v) = robbed c w v
+doneBy c (Sync w) = waited c w
+doneBy c (Read w x) = valued c w x
+doneBy c (Write w x v) = wrote c w x v
+
 unfoldable pub stepOn : Core → Step → Did
-stepOn c (Spawn w) = judged (actingTests c w ++ (eqb (c .head .vacant) none, FramesFull) ∷ []) c (spawned c w)
-stepOn c (Return w) = judged (actingTests c w ++ (not (eqb (actingIn c w .outstanding) 0), ChildLives) ∷ []) c (ended c w)
-stepOn c (Steal w v) =
-    judged
-    ((noWorker c w, NoWorker) ∷ (allIdle c, MainReturned) ∷ (not (idle c w), ThiefBusy) ∷ (noWorker c v || ltb (size (c .deques) v) 2, NoVictim) ∷ []) c
-    (robbed c w v)
-stepOn c (Sync w) = judged (actingTests c w) c (waited c w)
-stepOn c (Read w x) = judged (actingTests c w ++ (not (ltb x (c .head .splitters)), NoSplitter) ∷ []) c (valued c w x)
-stepOn c (Write w x v) =
-    judged (actingTests c w ++ (not (ltb x (c .head .splitters)), NoSplitter) ∷ (leb (c .head .spare) (c .head .height), PoolFull) ∷ []) c (wrote c w x v)
+stepOn c st = judged (testsOf c st) c (doneBy c st)

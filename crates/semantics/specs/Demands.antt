@@ -1,7 +1,7 @@
 -- Demands 2 and 3 of document 01 over the entries. Statements only; Theory proves them.
 use mathlib.Core.Path.{_≡_}
 use mathlib.Core.Logic.{_↔_, _⊎_}
-use mathlib.Core.Bool.{Bool, true, false}
+use mathlib.Core.Bool.{true}
 use mathlib.Core.List.{List·Memᴰ as In}
 use mathlib.Core.List.{List, [], _∷_}
 use Prim.Native.Nat.{ℕ, suc, _*_, _<_}
@@ -14,7 +14,6 @@ use Rattle.model.specs.Machine.{freeNodes as plainFree}
 use Rattle.model.specs.Steps.{refusal, answer}
 use Rattle.model.specs.Run.{Entry, run, answers, IsFrame, stepsOf, readsOf, oneWorkerSteps}
 use Rattle.semantics.specs.declared.State.{State}
-use Rattle.semantics.specs.declared.Call.{Call}
 use Rattle.semantics.specs.declared.Call.the-variants.{Taken}
 use Rattle.semantics.specs.Answers.{answerWords}
 use Rattle.semantics.specs.Core.{Did, stepOn}
@@ -53,7 +52,7 @@ pub record SoundStep (s : State) (ws : List ℕ) (st : Step) : Type 0 where
   pub same-first : answerWords (stepOf s ws st .answer) .0 ≡ answer (plainOf s ws) st .0
   -- the same second word; an accepted write answers the free nodes on the chain that it leaves
   pub same-second : (answerWords (stepOf s ws st .answer) ≡ answer (plainOf s ws) st)
-    ⊎ ((answer (plainOf s ws) st .0 ≡ 106) × (answerWords (stepOf s ws st .answer) ≡ (106, freeCount (numbersOf (stateOf (stepOf s ws st .core))) (stepOf s ws st .core .pool))))
+      ⊎ ((answer (plainOf s ws) st .0 ≡ 106) × (answerWords (stepOf s ws st .answer) ≡ (106, freeCount (numbersOf (stateOf (stepOf s ws st .core))) (stepOf s ws st .core .pool))))
   -- a refused step changes nothing
   pub refused : 0 < refusal (plainOf s ws) st → stepOf s ws st .core ≡ coreOf s ws (freeCount (numbersOf s) ws)
   -- soundness is kept
@@ -70,7 +69,7 @@ pub record Demand2 (workers : ℕ) (vs ws : List ℕ) (calls : List HostCall) : 
   pub same-answers : answersTold (toldBy workers vs ws calls) ≡ answers (plainStart workers vs ws) (stepsTold (toldBy workers vs ws calls))
   -- the free nodes are the nodes less those in use
   pub same-free : freeCount (numbersOf (leftBy workers vs ws calls .state)) (leftBy workers vs ws calls .pool)
-    ≡ plainFree (run (plainStart workers vs ws) (stepsTold (toldBy workers vs ws calls)))
+      ≡ plainFree (run (plainStart workers vs ws) (stepsTold (toldBy workers vs ws calls)))
   pub still-sound : sound (numbersOf (leftBy workers vs ws calls .state)) (leftBy workers vs ws calls .state .deques) (leftBy workers vs ws calls .state .frames) (leftBy workers vs ws calls .pool) ≡ true
 
 -- ---- demand 3

@@ -1,10 +1,9 @@
 -- The entries: start, a step from outside, a tape. What each returns and leaves, on all inputs. Definitions only.
-use mathlib.Core.Bool.{Bool, true, false, cond, not, _||_, _&&_}
+use mathlib.Core.Bool.{Bool, cond, not, _||_}
 use mathlib.Core.List.{List, [], _∷_}
 use Prim.Native.Nat.{ℕ, zero, suc, _+_, _*_, _/_, _%_}
-use lib.ListN.{length, getD, set, replicate}
-use lib.Dec.{eqb, ltb, leb}
-use Rattle.words.specs.Basics.{none}
+use lib.ListN.{length, set, replicate}
+use lib.Dec.{eqb, ltb}
 use Rattle.sizes.specs.Sizes.{height, treeNodes}
 use Rattle.pool.specs.Pool.{initPool}
 use Rattle.frames.specs.Frames.{initFrames}
@@ -22,7 +21,7 @@ use Rattle.semantics.specs.declared.Head.{Head}
 use Rattle.semantics.specs.declared.Refusal.{Refusal}
 use Rattle.semantics.specs.declared.Refusal.the-variants.{Values, Workers, Nodes, Tape, Work, Record}
 use Rattle.semantics.specs.declared.Answer.{Answer}
-use Rattle.semantics.specs.declared.Answer.the-variants.{Accepted, Refused}
+use Rattle.semantics.specs.declared.Answer.the-variants.{Refused}
 use Rattle.semantics.specs.declared.Call.{Call}
 use Rattle.semantics.specs.declared.Call.the-variants.{Taken, Denied}
 use Rattle.semantics.specs.Answers.{answerWords}

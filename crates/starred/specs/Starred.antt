@@ -85,8 +85,10 @@ answered nodes as′ = record { refused = 0; answers = as′ ++ (9 ∷ 9 ∷ [])
 pub table : List (Case × Outcome)
 table =
     -- "The tape above."
-    (starts 2 five 20 (spawns 0 ∷ steals 1 0 ∷ writes 1 4 99 ∷ reads 0 4 ∷ syncs 1 ∷ reads 1 4 ∷ returns 0 ∷ reads 0 4 ∷ returns 0 ∷ []),
-     answered 20 (101 ∷ 1 ∷ 103 ∷ 0 ∷ 106 ∷ 5 ∷ 105 ∷ 50 ∷ 104 ∷ 1 ∷ 10 ∷ 0 ∷ 102 ∷ 2 ∷ 105 ∷ 99 ∷ 102 ∷ 3 ∷ []))
+    (
+      starts 2 five 20 (spawns 0 ∷ steals 1 0 ∷ writes 1 4 99 ∷ reads 0 4 ∷ syncs 1 ∷ reads 1 4 ∷ returns 0 ∷ reads 0 4 ∷ returns 0 ∷ []),
+      answered 20 (101 ∷ 1 ∷ 103 ∷ 0 ∷ 106 ∷ 5 ∷ 105 ∷ 50 ∷ 104 ∷ 1 ∷ 10 ∷ 0 ∷ 102 ∷ 2 ∷ 105 ∷ 99 ∷ 102 ∷ 3 ∷ []),
+    )
     -- "n 1, one node: write refused 16; two nodes: accepted, 106 1."
     ∷ (starts 1 (7 ∷ []) 1 (writes 0 0 5 ∷ []), answered 1 (16 ∷ 0 ∷ []))
     ∷ (starts 1 (7 ∷ []) 2 (writes 0 0 5 ∷ []), answered 2 (106 ∷ 1 ∷ []))

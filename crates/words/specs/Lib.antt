@@ -6,3 +6,7 @@ pub mod Lists
 pub mod Distinct
 pub mod Chains
 pub mod NoDup
+-- turns of loops over bounded tests, sums and chains
+pub mod Loops
+-- tests and tallies over the numbers below n
+pub mod Tallies

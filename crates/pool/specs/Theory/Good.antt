@@ -40,11 +40,12 @@ pub record After (N n : ℕ) (ws : List ℕ) (Ks Fs : List Frame) (ws' : List �
   pub len : length ws' ≡ length ws
   pub rest : drop (4 * N) ws' ≡ drop (4 * N) ws
 
-count-perm : {Fs Gs : List Frame} → List·Permᴰ Fs Gs → (i : ℕ) → count i (rootsOf Fs) ≡ count i (rootsOf Gs)
-count-perm List·Permᴰ·nil i = refl
-count-perm (List·Permᴰ·cons {a = F} {b = G} {l₁ = Fs} {l₂ = Gs} e p) i =
-    omega (arith, count-cons i (F .0) (rootsOf Fs), count-cons i (G .0) (rootsOf Gs), count-perm p i, ap (λ (q : Frame). δ i (q .0)) e)
-count-perm (List·Permᴰ·swap {a = F} {b = G} {a′ = F′} {b′ = G′} {l = Fs} e d) i =
+-- how often a root is held does not depend on the order of the frames
+pub count-roots : {Fs Gs : List Frame} → List·Permᴰ Fs Gs → (i : ℕ) → count i (rootsOf Fs) ≡ count i (rootsOf Gs)
+count-roots List·Permᴰ·nil i = refl
+count-roots (List·Permᴰ·cons {a = F} {b = G} {l₁ = Fs} {l₂ = Gs} e p) i =
+    omega (arith, count-cons i (F .0) (rootsOf Fs), count-cons i (G .0) (rootsOf Gs), count-roots p i, ap (λ (q : Frame). δ i (q .0)) e)
+count-roots (List·Permᴰ·swap {a = F} {b = G} {a′ = F′} {b′ = G′} {l = Fs} e d) i =
     omega (
       arith,
       count-cons i (F .0) (G .0 ∷ rootsOf Fs),
@@ -54,7 +55,7 @@ count-perm (List·Permᴰ·swap {a = F} {b = G} {a′ = F′} {b′ = G′} {l =
       ap (λ (q : Frame). δ i (q .0)) e,
       ap (λ (q : Frame). δ i (q .0)) d,
     )
-count-perm (List·Permᴰ·trans p q) i = count-perm p i ∙ count-perm q i
+count-roots (List·Permᴰ·trans p q) i = count-roots p i ∙ count-roots q i
 
 module _ (N n : ℕ) (most : N ≤ 16384) (some : 0 < n) where
   small : N ≤ none
@@ -79,7 +80,7 @@ module _ (N n : ℕ) (most : N ≤ 16384) (some : 0 < n) where
     size = G .size;
     fs = G .fs;
     counted = G .counted;
-    live = live-perm N (height n) n small (height-covers n) (rootsOf Gs) (count-perm p) (G .live);
+    live = live-perm N (height n) n small (height-covers n) (rootsOf Gs) (count-roots p) (G .live);
     share = record { stamp = G .share .stamp; group = G .share .group; stamped = λ F m. G .share .stamped F (In-perm (Permᴰ·symm p) m); injective = G .share .injective };
   }
 

@@ -1,10 +1,10 @@
 -- Demands 2 and 3 over the entries, from a relation that each step keeps.
 use mathlib.Core.Path.{_≡_, refl, sym, ap, ap₂, _∙_, subst}
-use mathlib.Core.Bool.{Bool, true, false}
+use mathlib.Core.Bool.{true}
 use mathlib.Core.Logic.{_↔_}
 use mathlib.Core.List.{List·Memᴰ as In}
-use mathlib.Core.List.{List, [], _∷_, _++_, map}
-use Prim.Native.Nat.{ℕ, suc, _≤_, _<_}
+use mathlib.Core.List.{List, [], _∷_, _++_}
+use Prim.Native.Nat.{ℕ, suc, _≤_}
 use native.Mathlib.Omega.{arith}
 use lib.ListN.{length}
 use lib.Dec.{leb}
@@ -12,10 +12,10 @@ use borrow.Author.Tests.{le-leb}
 use Rattle.sizes.specs.Sizes.{height}
 use Rattle.soundness.specs.Soundness.{sound, freeCount}
 use Rattle.model.specs.declared.Step.{Step}
-use Rattle.model.specs.Machine.{Machine, Name, live, start}
+use Rattle.model.specs.Machine.{Machine, live, start}
 use Rattle.model.specs.Machine.{freeNodes as plainFree}
-use Rattle.model.specs.Steps.{turnOf, refusal, step, answer, turnAnswer}
-use Rattle.model.specs.Run.{Entry, run, answers, trace, Returned, AllAccepted, no-step, accepted-then, IsFrame, stepsOf, readsOf, oneWorkerSteps}
+use Rattle.model.specs.Steps.{turnOf, refusal, step, answer}
+use Rattle.model.specs.Run.{run, answers, trace, Returned, AllAccepted, accepted-then, IsFrame, stepsOf, readsOf, oneWorkerSteps}
 use Rattle.model.specs.Demand3.{Demand3 as PlainDemand3, oneWorkerOf, traceOf}
 use Rattle.model.specs.Theory.RunSteps.{accepted-at, sizes-step}
 use Rattle.model.specs.Theory.FrameTree.{tree-start}
@@ -25,7 +25,7 @@ use Rattle.semantics.specs.declared.Call.the-variants.{Taken}
 use Rattle.semantics.specs.Answers.{answerWords}
 use Rattle.semantics.specs.Core.{Core, stepOn}
 use Rattle.semantics.specs.Entries.{startOn, wholeNodes, numbersOf, stateOf}
-use Rattle.semantics.specs.Calls.{HostCall, outside, Held, afterCall, afterCalls, Told, told, allTold, stepsTold, answersTold, saysAccepted, traceTold}
+use Rattle.semantics.specs.Calls.{HostCall, outside, Held, afterCall, told, allTold, stepsTold, answersTold, saysAccepted}
 use Rattle.semantics.specs.Demands.{heldBy, toldBy, leftBy, plainStart, traceBy, MainReturned, oneByOne, oneWorkerCalls, allAccepted, AllFree, Demand2, Demand3}
 use Rattle.semantics.specs.Theory.Words.{turn-told, trace-told}
 use Rattle.semantics.specs.Theory.Runs.{holding, Kept, Follows-call, call-follows, outside-fed, calls-follow}
@@ -39,15 +39,14 @@ all-accepted M (s ∷ ss) (accepted-then e a) =
     (ap saysAccepted (A .answered) ∙ turn-told M (turnOf s) (A .passes) .0, all-accepted (step M s) ss a)
 
 module _ (Follows : Machine → Core → Type 0)
-  (keeps : (M : Machine) (c : Core) (st : Step) → Follows M c → Follows (step M st) (stepOn c st .core))
-  (alike : (M : Machine) (c : Core) (st : Step) → Follows M c → answerWords (stepOn c st .answer) ≡ answer M st)
-  (is-sound : (M : Machine) (c : Core) → Follows M c → (sound (numbersOf (stateOf c)) (c .deques) (c .frames) (c .pool) ≡ true) × (freeCount (numbersOf (stateOf c)) (c .pool) ≡ c .head .spare))
-  (tall : (M : Machine) (c : Core) → Follows M c → c .head .height ≡ height (c .head .splitters))
-  (begins : (workers : ℕ) (vs ws : List ℕ) → Fit workers vs ws → (c : Core) × (heldBy (startOn workers vs ws) ≡ holding c) × Follows (plainStart workers vs ws) c)
-  (same-nodes : (M : Machine) (c : Core) → Follows M c → c .head .nodes ≡ M .nodes)
-  (same-spare : (M : Machine) (c : Core) → Follows M c → c .head .spare ≡ plainFree M)
-  (ends : (M : Machine) (c : Core) → Follows M c → live M ≡ [] → AllFree (holding c)) where
-
+    (keeps : (M : Machine) (c : Core) (st : Step) → Follows M c → Follows (step M st) (stepOn c st .core))
+    (alike : (M : Machine) (c : Core) (st : Step) → Follows M c → answerWords (stepOn c st .answer) ≡ answer M st)
+    (is-sound : (M : Machine) (c : Core) → Follows M c → (sound (numbersOf (stateOf c)) (c .deques) (c .frames) (c .pool) ≡ true) × (freeCount (numbersOf (stateOf c)) (c .pool) ≡ c .head .spare))
+    (tall : (M : Machine) (c : Core) → Follows M c → c .head .height ≡ height (c .head .splitters))
+    (begins : (workers : ℕ) (vs ws : List ℕ) → Fit workers vs ws → (c : Core) × (heldBy (startOn workers vs ws) ≡ holding c) × Follows (plainStart workers vs ws) c)
+    (same-nodes : (M : Machine) (c : Core) → Follows M c → c .head .nodes ≡ M .nodes)
+    (same-spare : (M : Machine) (c : Core) → Follows M c → c .head .spare ≡ plainFree M)
+    (ends : (M : Machine) (c : Core) → Follows M c → live M ≡ [] → AllFree (holding c)) where
   abbrev KeptBy : Held → Machine → Type 0
   KeptBy h M = Kept Follows keeps alike is-sound tall h M
 
@@ -55,20 +54,21 @@ module _ (Follows : Machine → Core → Type 0)
   started workers vs ws F = let b = begins workers vs ws F in record { core = b .0; held = b .1; follows = b .2 }
 
   runs : (workers : ℕ) (vs ws : List ℕ) (calls : List HostCall) → Fit workers vs ws
-    → Follows-call Follows keeps alike is-sound tall (plainStart workers vs ws) (leftBy workers vs ws calls) (toldBy workers vs ws calls)
+      → Follows-call Follows keeps alike is-sound tall (plainStart workers vs ws) (leftBy workers vs ws calls) (toldBy workers vs ws calls)
   runs workers vs ws calls F = calls-follow Follows keeps alike is-sound tall calls (plainStart workers vs ws) (heldBy (startOn workers vs ws)) (started workers vs ws F)
 
   -- ---- demand 2
 
   pub demand2-by : (workers : ℕ) (vs ws : List ℕ) (calls : List HostCall) → startOn workers vs ws .call ≡ Taken → Demand2 workers vs ws calls
   demand2-by workers vs ws calls e =
-    let R = runs workers vs ws calls (started-fit workers vs ws e) in
-    let K = R .kept in
-    let s = is-sound _ (K .core) (K .follows) in
-    record {
-      same-answers = R .same;
-      same-free = ap (λ h. freeCount (numbersOf (h .state)) (h .pool)) (K .held) ∙ s .1 ∙ same-spare _ (K .core) (K .follows);
-      still-sound = ap (λ h. sound (numbersOf (h .state)) (h .state .deques) (h .state .frames) (h .pool)) (K .held) ∙ s .0 }
+      let R = runs workers vs ws calls (started-fit workers vs ws e) in
+      let K = R .kept in
+      let s = is-sound _ (K .core) (K .follows) in
+      record {
+        same-answers = R .same;
+        same-free = ap (λ h. freeCount (numbersOf (h .state)) (h .pool)) (K .held) ∙ s .1 ∙ same-spare _ (K .core) (K .follows);
+        still-sound = ap (λ h. sound (numbersOf (h .state)) (h .state .deques) (h .state .frames) (h .pool)) (K .held) ∙ s .0;
+      }
 
   -- ---- demand 3
 
@@ -76,16 +76,16 @@ module _ (Follows : Machine → Core → Type 0)
   all-fed : (works : ℕ → List ℕ) (ss : List Step) (M : Machine) (h : Held) (i : ℕ) → KeptBy h M → ((j : ℕ) → M .nodes ≤ length (works j)) → stepsTold (allTold h (oneByOne works i ss)) ≡ ss
   all-fed works [] M h i K long = refl
   all-fed works (s ∷ ss) M h i K long =
-    let long-enough : leb (K .core .head .nodes) (length (works i)) ≡ true = le-leb (K .core .head .nodes) (length (works i)) (omega (arith, same-nodes M (K .core) (K .follows), long i)) in
-    let e : told h (outside s (works i)) ≡ (s, answer M s) ∷ [] = ap (λ q. told q (outside s (works i))) (K .held) ∙ outside-fed Follows keeps alike is-sound tall M (K .core) s (works i) (K .follows) long-enough in
-    let A = call-follows Follows keeps alike is-sound tall M h (outside s (works i)) K in
-    let K' : KeptBy (afterCall h (outside s (works i))) (step M s) = subst (λ z. KeptBy (afterCall h (outside s (works i))) (run M (stepsTold z))) e (A .kept) in
-    ap (λ z. stepsTold (z ++ allTold (afterCall h (outside s (works i))) (oneByOne works (suc i) ss))) e
-    ∙ ap (λ z. s ∷ z) (all-fed works ss (step M s) (afterCall h (outside s (works i))) (suc i) K' (λ j. subst (λ q. q ≤ length (works j)) (sym (sizes-step M s .nodes)) (long j)))
+      let long-enough : leb (K .core .head .nodes) (length (works i)) ≡ true = le-leb (K .core .head .nodes) (length (works i)) (omega (arith, same-nodes M (K .core) (K .follows), long i)) in
+      let e : told h (outside s (works i)) ≡ (s, answer M s) ∷ [] = ap (λ q. told q (outside s (works i))) (K .held) ∙ outside-fed Follows keeps alike is-sound tall M (K .core) s (works i) (K .follows) long-enough in
+      let A = call-follows Follows keeps alike is-sound tall M h (outside s (works i)) K in
+      let K' : KeptBy (afterCall h (outside s (works i))) (step M s) = subst (λ z. KeptBy (afterCall h (outside s (works i))) (run M (stepsTold z))) e (A .kept) in
+      ap (λ z. stepsTold (z ++ allTold (afterCall h (outside s (works i))) (oneByOne works (suc i) ss))) e
+      ∙ ap (λ z. s ∷ z) (all-fed works ss (step M s) (afterCall h (outside s (works i))) (suc i) K' (λ j. subst (λ q. q ≤ length (works j)) (sym (sizes-step M s .nodes)) (long j)))
 
   module _ (workers : ℕ) (vs ws : List ℕ) (calls : List HostCall) (ws₁ : List ℕ) (works : ℕ → List ℕ)
-    (taken : startOn workers vs ws .call ≡ Taken) (returned : MainReturned workers vs ws calls)
-    (as-many : wholeNodes ws₁ ≡ wholeNodes ws) (long : (j : ℕ) → wholeNodes ws ≤ length (works j)) where
+      (taken : startOn workers vs ws .call ≡ Taken) (returned : MainReturned workers vs ws calls)
+      (as-many : wholeNodes ws₁ ≡ wholeNodes ws) (long : (j : ℕ) → wholeNodes ws ≤ length (works j)) where
     fit : Fit workers vs ws
     fit = started-fit workers vs ws taken
 
@@ -162,4 +162,5 @@ module _ (Follows : Machine → Core → Type 0)
       same-steps = λ p. ap (stepsOf p) trace₁-is ∙ D .same-steps p ∙ ap (stepsOf p) (sym trace-is);
       same-reads = λ p. ap (readsOf p) trace₁-is ∙ D .same-reads p ∙ ap (readsOf p) (sym trace-is);
       all-free = free-at-end (leftBy workers vs ws calls) _ (R .kept) over;
-      all-free-alone = free-at-end (leftBy 1 vs ws₁ calls₁) _ (R₁ .kept) over₁ }
+      all-free-alone = free-at-end (leftBy 1 vs ws₁ calls₁) _ (R₁ .kept) over₁;
+    }

@@ -1,19 +1,18 @@
 -- The two pool predicates that the relation is used with: any live pool, whose frames have no history that counts, and the pool of a
 -- run from a start.
-use mathlib.Core.Path.{_≡_, refl, ap, _∙_}
+use mathlib.Core.Path.{_≡_, refl}
 use mathlib.Core.List.{List·Memᴰ·head as here}
-use mathlib.Core.List.{List, _∷_, List·Permᴰ, List·Permᴰ·nil, List·Permᴰ·cons, List·Permᴰ·swap, List·Permᴰ·trans}
+use mathlib.Core.List.{List, _∷_}
 use Prim.Native.Nat.{ℕ, _*_, _≤_, _<_}
 use native.Mathlib.Omega.{arith}
 use lib.ListN.{length, drop, length-map}
-use Rattle.words.specs.Basics.{none, δ, count}
-use Rattle.words.specs.Counting.{count-cons}
+use Rattle.words.specs.Basics.{none}
 use Rattle.sizes.specs.Sizes.{height}
 use Rattle.sizes.specs.Heights.{height-covers}
 use Rattle.pool.specs.Pool.{retain, release, write}
 use Rattle.pool.specs.Theory.Operations.{Live, Spawned, Returned, Written, live-perm, live-spawn, live-return, live-write}
 use Rattle.pool.specs.Theory.Sharing.{Frame, rootsOf, root-of}
-use Rattle.pool.specs.Theory.Good.{Good, good-perm, good-spawn, good-return, good-write}
+use Rattle.pool.specs.Theory.Good.{Good, count-roots, good-perm, good-spawn, good-return, good-write}
 use Rattle.model.specs.History.{History}
 use Rattle.semantics.specs.Theory.Relation.{Trees, TreeLaws, event}
 
@@ -38,22 +37,6 @@ live-room T = T .live .inv .room
 
 pub good-room : {N n : ℕ} {ws : List ℕ} {free k : ℕ} {Fs : List Frame} → GoodTrees N n ws free k Fs → 4 * N ≤ length ws
 good-room G = G .live .inv .room
-
-count-roots : {Fs Gs : List Frame} → List·Permᴰ Fs Gs → (i : ℕ) → count i (rootsOf Fs) ≡ count i (rootsOf Gs)
-count-roots List·Permᴰ·nil i = refl
-count-roots (List·Permᴰ·cons {a = F} {b = G} {l₁ = Fs} {l₂ = Gs} e p) i =
-    omega (arith, count-cons i (F .0) (rootsOf Fs), count-cons i (G .0) (rootsOf Gs), count-roots p i, ap (λ (q : Frame). δ i (q .0)) e)
-count-roots (List·Permᴰ·swap {a = F} {b = G} {a′ = F′} {b′ = G′} {l = Fs} e d) i =
-    omega (
-      arith,
-      count-cons i (F .0) (G .0 ∷ rootsOf Fs),
-      count-cons i (G .0) (rootsOf Fs),
-      count-cons i (F′ .0) (G′ .0 ∷ rootsOf Fs),
-      count-cons i (G′ .0) (rootsOf Fs),
-      ap (λ (q : Frame). δ i (q .0)) e,
-      ap (λ (q : Frame). δ i (q .0)) d,
-    )
-count-roots (List·Permᴰ·trans p q) i = count-roots p i ∙ count-roots q i
 
 -- the words past the N nodes, and how many words there are
 abbrev pub Beyond : ℕ → List ℕ → List ℕ → Type 0

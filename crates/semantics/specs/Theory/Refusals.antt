@@ -30,7 +30,7 @@ use Rattle.semantics.specs.declared.Refusal.{Refusal}
 use Rattle.semantics.specs.declared.Refusal.the-variants.{Values, Workers, Nodes, Tape, Work, Unsound, Record, NoWorker, MainReturned, WorkerIdle, ThiefBusy, NoVictim, FramesFull, ChildLives, NoSplitter, PoolFull}
 use Rattle.semantics.specs.declared.Answer.the-variants.{Refused}
 use Rattle.semantics.specs.Answers.{refusalNumber}
-use Rattle.semantics.specs.Core.{Core, Did, actingIn, idle, noWorker, allIdle, judged, actingTests, spawned, ended, robbed, waited, valued, wrote, stepOn}
+use Rattle.semantics.specs.Core.{Core, Did, actingIn, idle, noWorker, allIdle, judged, actingTests, stepOn, testsOf, doneBy}
 use Rattle.semantics.specs.Theory.Relation.{Trees, placesOf, Relates}
 use Rattle.semantics.specs.Theory.Places.{in-deque, sum-count, all-once, childCount-test, depth-few, placed-inside, acting-frame, acting-record}
 
@@ -200,32 +200,9 @@ module _ {P : Trees} {M : Machine} {c : Core} (r : Relates P M c) where
         go [] e i = absurd (true≢false (rw e at i))
         go (q ∷ d) e i = h q d (there-is-worker M w (omega (arith, ap length e))) e
 
--- the step's tests, and what it does if none holds
-abbrev pub testsOf : Core → Step → List (Bool × Refusal)
-testsOf c (Spawn w) = actingTests c w ++ (eqb (c .head .vacant) none, FramesFull) ∷ []
-testsOf c (Return w) = actingTests c w ++ (not (eqb (actingIn c w .outstanding) 0), ChildLives) ∷ []
-testsOf c (Steal w v) =
-    (noWorker c w, NoWorker) ∷ (allIdle c, MainReturned) ∷ (not (idle c w), ThiefBusy) ∷ (noWorker c v || ltb (size (c .deques) v) 2, NoVictim) ∷ []
-testsOf c (Sync w) = actingTests c w ++ []
-testsOf c (Read w x) = actingTests c w ++ (not (ltb x (c .head .splitters)), NoSplitter) ∷ []
-testsOf c (Write w x v) = actingTests c w ++ (not (ltb x (c .head .splitters)), NoSplitter) ∷ (leb (c .head .spare) (c .head .height), PoolFull) ∷ []
-
-abbrev pub doneBy : Core → Step → Did
-doneBy c (Spawn w) = spawned c w
-doneBy c (Return w) = ended c w
-doneBy c (Steal w v) = robbed c w v
-doneBy c (Sync w) = waited c w
-doneBy c (Read w x) = valued c w x
-doneBy c (Write w x v) = wrote c w x v
-
 pub step-judged : (c : Core) (st : Step) → stepOn c st ≡ judged (testsOf c st) c (doneBy c st)
 unfolding stepOn
-step-judged c (Spawn w) = refl
-step-judged c (Return w) = refl
-step-judged c (Steal w v) = refl
-step-judged c (Sync w) = refl
-step-judged c (Read w x) = refl
-step-judged c (Write w x v) = refl
+step-judged c st = refl
 
 module _ {P : Trees} {M : Machine} {c : Core} (r : Relates P M c) (tree : FrameTree M) (shape : DequeInvariant M) (spare : c .head .spare ≡ freeNodes M) where
   alike : (st : Step) → Alike (testsOf c st) (turnTests M (turnOf st))

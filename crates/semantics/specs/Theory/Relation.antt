@@ -6,8 +6,8 @@ use mathlib.Core.Logic.{_≢_}
 use mathlib.Core.Bool.{cond}
 use mathlib.Core.List.{List·Memᴰ as In, List·Permᴰ}
 use mathlib.Core.List.{List, [], _∷_, map}
-use Prim.Native.Nat.{ℕ, _+_, _*_, _≤_, _<_}
-use lib.ListN.{length, getD, drop}
+use Prim.Native.Nat.{ℕ, _+_, _≤_, _<_}
+use lib.ListN.{length, getD}
 use Rattle.words.specs.Basics.{none, count, joined}
 use Rattle.sizes.specs.Sizes.{height, treeNodes}
 use Rattle.pool.specs.Pool.{readAt, retain, release, write}
@@ -39,13 +39,13 @@ event x m = record { splitter = x; mark = m }
 pub record TreeLaws (N n : ℕ) (P : Trees) : Type 0 where
   pub perm : (ws : List ℕ) (free k : ℕ) (Fs Fs' : List (ℕ × History)) → List·Permᴰ Fs Fs' → P ws free k Fs → P ws free k Fs'
   pub spawn : (ws : List ℕ) (free k : ℕ) (F : ℕ × History) (Fs : List (ℕ × History)) → length Fs < 64 → P ws free k (F ∷ Fs)
-    → P (retain ws (F .0)) free k (F ∷ F ∷ Fs) × Kept (height n) n ws (retain ws (F .0)) (F ∷ Fs)
+      → P (retain ws (F .0)) free k (F ∷ F ∷ Fs) × Kept (height n) n ws (retain ws (F .0)) (F ∷ Fs)
   pub return : (ws : List ℕ) (free k : ℕ) (F : ℕ × History) (Fs : List (ℕ × History)) → P ws free k (F ∷ Fs)
-    → P (release (height n) ws free k (F .0) .0) (release (height n) ws free k (F .0) .1) (release (height n) ws free k (F .0) .2) Fs
+      → P (release (height n) ws free k (F .0) .0) (release (height n) ws free k (F .0) .1) (release (height n) ws free k (F .0) .2) Fs
       × Kept (height n) n ws (release (height n) ws free k (F .0) .0) Fs
   pub write : (ws : List ℕ) (free k root : ℕ) (h : History) (Fs : List (ℕ × History)) (x v : ℕ) (m : Mark) → length Fs < 64 → x < n → height n < k → m ≢ []
-    → Fresh m ((root, h) ∷ Fs) → P ws free k ((root, h) ∷ Fs)
-    → P (write (height n) ws free k root x v .0) (write (height n) ws free k root x v .1) (write (height n) ws free k root x v .2) ((free, event x m ∷ h) ∷ Fs)
+      → Fresh m ((root, h) ∷ Fs) → P ws free k ((root, h) ∷ Fs)
+      → P (write (height n) ws free k root x v .0) (write (height n) ws free k root x v .1) (write (height n) ws free k root x v .2) ((free, event x m ∷ h) ∷ Fs)
       × Kept (height n) n ws (write (height n) ws free k root x v .0) Fs
       × (readAt (height n) (write (height n) ws free k root x v .0) free x ≡ v)
       × ((y : ℕ) → y < n → y ≢ x → readAt (height n) (write (height n) ws free k root x v .0) free y ≡ readAt (height n) ws root y)

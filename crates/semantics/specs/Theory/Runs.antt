@@ -2,7 +2,7 @@
 -- same steps, through refused calls, refused records and tapes.
 use mathlib.Core.Path.{_≡_, refl, sym, ap, ap₂, _∙_, subst}
 use mathlib.Core.Bool.{true, false, cond, not}
-use mathlib.Core.Logic.{_≢_, inl, inr}
+use mathlib.Core.Logic.{inl, inr}
 use mathlib.Core.List.{List, [], _∷_, _++_, map}
 use Prim.Native.Nat.{ℕ, zero, suc, _+_, _*_, _/_, _%_, _≤_, _<_}
 use native.Mathlib.Omega.{arith}
@@ -12,7 +12,6 @@ use lib.Dec.{leb, ltb, eqb}
 use borrow.Author.Tests.{ltb-false}
 use Rattle.words.specs.Tests.{decided, neither}
 use Rattle.sizes.specs.Sizes.{height}
-use Rattle.soundness.specs.declared.Checked.{Checked}
 use Rattle.soundness.specs.declared.Checked.the-variants.{NoRoom, Sound}
 use Rattle.soundness.specs.Soundness.{sound, freeCount, checked, cleared}
 use Rattle.model.specs.declared.Step.{Step}
@@ -21,16 +20,13 @@ use Rattle.model.specs.declared.Decoded.the-variants.{Valid, Invalid}
 use Rattle.model.specs.Machine.{Machine}
 use Rattle.model.specs.Steps.{step, answer}
 use Rattle.model.specs.Run.{run, answers}
-use Rattle.semantics.specs.declared.State.{State}
 use Rattle.semantics.specs.declared.Refusal.{Refusal}
 use Rattle.semantics.specs.declared.Refusal.the-variants.{Tape, Work}
 use Rattle.semantics.specs.declared.Answer.{Answer}
 use Rattle.semantics.specs.declared.Answer.the-variants.{Refused}
-use Rattle.semantics.specs.declared.Call.{Call}
-use Rattle.semantics.specs.declared.Call.the-variants.{Taken, Denied}
 use Rattle.semantics.specs.Answers.{answerWords}
-use Rattle.semantics.specs.Core.{Core, Did, stepOn}
-use Rattle.semantics.specs.Entries.{numbersOf, headOf, coreOf, stateOf, Entered, entered, stepChecked, enter, recordOn, recordsOf, putAnswer, Ran, ran, runOn, Played, played, notPlayed, tapeChecked, unfitTape, play}
+use Rattle.semantics.specs.Core.{Core, stepOn}
+use Rattle.semantics.specs.Entries.{numbersOf, coreOf, stateOf, Entered, entered, stepChecked, enter, recordsOf, putAnswer, Ran, ran, runOn, Played, played, notPlayed, tapeChecked, unfitTape, play}
 use Rattle.semantics.specs.Calls.{HostCall, outside, tape, Held, afterCall, afterCalls, Told, refusedWhole, toldFrom, toldIf, told, allTold, stepsTold, answersTold}
 use Rattle.semantics.specs.Theory.Words.{step-not-whole}
 
@@ -45,8 +41,12 @@ core-back c e = ap (λ (q : ℕ). withHeight q) (sym e)
   where
     withHeight : ℕ → Core
     withHeight q =
-      record { head = record { workers = c .head .workers; splitters = c .head .splitters; nodes = c .head .nodes; free = c .head .free; vacant = c .head .vacant; height = q; spare = c .head .spare };
-        deques = c .deques; frames = c .frames; pool = c .pool }
+        record {
+          head = record { workers = c .head .workers; splitters = c .head .splitters; nodes = c .head .nodes; free = c .head .free; vacant = c .head .vacant; height = q; spare = c .head .spare };
+          deques = c .deques;
+          frames = c .frames;
+          pool = c .pool;
+        }
 
 -- ---- answers and steps told, joined
 
@@ -63,11 +63,10 @@ answers-append M [] ts = refl
 answers-append M (s ∷ ss) ts = ap (λ z. answer M s ∷ z) (answers-append (step M s) ss ts)
 
 module _ (Follows : Machine → Core → Type 0)
-  (keeps : (M : Machine) (c : Core) (st : Step) → Follows M c → Follows (step M st) (stepOn c st .core))
-  (alike : (M : Machine) (c : Core) (st : Step) → Follows M c → answerWords (stepOn c st .answer) ≡ answer M st)
-  (is-sound : (M : Machine) (c : Core) → Follows M c → (sound (numbersOf (stateOf c)) (c .deques) (c .frames) (c .pool) ≡ true) × (freeCount (numbersOf (stateOf c)) (c .pool) ≡ c .head .spare))
-  (tall : (M : Machine) (c : Core) → Follows M c → c .head .height ≡ height (c .head .splitters)) where
-
+    (keeps : (M : Machine) (c : Core) (st : Step) → Follows M c → Follows (step M st) (stepOn c st .core))
+    (alike : (M : Machine) (c : Core) (st : Step) → Follows M c → answerWords (stepOn c st .answer) ≡ answer M st)
+    (is-sound : (M : Machine) (c : Core) → Follows M c → (sound (numbersOf (stateOf c)) (c .deques) (c .frames) (c .pool) ≡ true) × (freeCount (numbersOf (stateOf c)) (c .pool) ≡ c .head .spare))
+    (tall : (M : Machine) (c : Core) → Follows M c → c .head .height ≡ height (c .head .splitters)) where
   -- the host's state and pool follow M
   pub record Kept (h : Held) (M : Machine) : Type 0 where
     pub core : Core
@@ -77,7 +76,7 @@ module _ (Follows : Machine → Core → Type 0)
   -- ---- the check
 
   check-long : (M : Machine) (c : Core) (work : List ℕ) → Follows M c → leb (c .head .nodes) (length work) ≡ true
-    → checked (numbersOf (stateOf c)) (c .deques) (c .frames) (c .pool) work ≡ Sound (c .head .spare)
+      → checked (numbersOf (stateOf c)) (c .deques) (c .frames) (c .pool) work ≡ Sound (c .head .spare)
   unfolding checked
   check-long M c work f e = let s = is-sound M c f in rw (e, s .0, s .1)
 
@@ -88,12 +87,12 @@ module _ (Follows : Machine → Core → Type 0)
   -- ---- a step from outside
 
   enter-long : (M : Machine) (c : Core) (work : List ℕ) (st : Step) → Follows M c → leb (c .head .nodes) (length work) ≡ true
-    → enter (stateOf c) (c .pool) work st ≡ entered (stepOn c st) (cleared (c .head .nodes) work)
+      → enter (stateOf c) (c .pool) work st ≡ entered (stepOn c st) (cleared (c .head .nodes) work)
   unfolding enter
   enter-long M c work st f e = ap (λ k. stepChecked k (stateOf c) (c .pool) work st) (check-long M c work f e) ∙ ap (λ q. entered (stepOn q st) (cleared (c .head .nodes) work)) (core-back c (tall M c f))
 
   enter-short : (c : Core) (work : List ℕ) (st : Step) → leb (c .head .nodes) (length work) ≡ false
-    → enter (stateOf c) (c .pool) work st ≡ record { state = stateOf c; pool = c .pool; work = work; answer = Refused Work }
+      → enter (stateOf c) (c .pool) work st ≡ record { state = stateOf c; pool = c .pool; work = work; answer = Refused Work }
   unfolding enter
   enter-short c work st e = ap (λ k. stepChecked k (stateOf c) (c .pool) work st) (check-short c work e)
 
@@ -105,11 +104,11 @@ module _ (Follows : Machine → Core → Type 0)
   toldOne st e = (record { state = e .state; pool = e .pool }, cond (refusedWhole (answerWords (e .answer))) [] ((st, answerWords (e .answer)) ∷ []))
 
   outside-long : (M : Machine) (c : Core) (st : Step) (work : List ℕ) → Follows M c → leb (c .head .nodes) (length work) ≡ true
-    → called (holding c) (outside st work) ≡ (holding (stepOn c st .core), (st, answer M st) ∷ [])
+      → called (holding c) (outside st work) ≡ (holding (stepOn c st .core), (st, answer M st) ∷ [])
   outside-long M c st work f e =
-    ap (toldOne st) (enter-long M c work st f e)
-    ∙ ap (λ b. (holding (stepOn c st .core), cond b [] ((st, answerWords (stepOn c st .answer)) ∷ []))) (step-not-whole c st)
-    ∙ ap (λ a. (holding (stepOn c st .core), (st, a) ∷ [])) (alike M c st f)
+      ap (toldOne st) (enter-long M c work st f e)
+      ∙ ap (λ b. (holding (stepOn c st .core), cond b [] ((st, answerWords (stepOn c st .answer)) ∷ []))) (step-not-whole c st)
+      ∙ ap (λ a. (holding (stepOn c st .core), (st, a) ∷ [])) (alike M c st f)
 
   outside-short : (c : Core) (st : Step) (work : List ℕ) → leb (c .head .nodes) (length work) ≡ false → called (holding c) (outside st work) ≡ (holding c, [])
   outside-short c st work e = ap (toldOne st) (enter-short c work st e)
@@ -153,23 +152,25 @@ module _ (Follows : Machine → Core → Type 0)
   unfolding runOn
   runs-from [] M c as′ k f h = record { follows = f; long = refl; before = λ j b. refl; same = refl }
   runs-from (Valid st ∷ ds) M c as′ k f h =
-    let a = stepOn c st .answer in
-    let R = runs-from ds (step M st) (stepOn c st .core) (putAnswer as′ k a) (k + 2) (keeps M c st f) (omega (arith, put-long as′ k a)) in
-    let fst = R .before k (omega arith) ∙ put-first as′ k a (omega arith) ∙ ap (λ p. p .0) (alike M c st f) in
-    let snd = R .before (suc k) (omega arith) ∙ put-second as′ k a (omega arith) ∙ ap (λ p. p .1) (alike M c st f) in
-    record {
-      follows = R .follows;
-      long = R .long ∙ put-long as′ k a;
-      before = λ j b. R .before j (omega arith) ∙ put-before as′ k j a b;
-      same = λ i. (fst i, snd i) ∷ R .same i }
+      let a = stepOn c st .answer in
+      let R = runs-from ds (step M st) (stepOn c st .core) (putAnswer as′ k a) (k + 2) (keeps M c st f) (omega (arith, put-long as′ k a)) in
+      let fst = R .before k (omega arith) ∙ put-first as′ k a (omega arith) ∙ ap (λ p. p .0) (alike M c st f) in
+      let snd = R .before (suc k) (omega arith) ∙ put-second as′ k a (omega arith) ∙ ap (λ p. p .1) (alike M c st f) in
+      record {
+        follows = R .follows;
+        long = R .long ∙ put-long as′ k a;
+        before = λ j b. R .before j (omega arith) ∙ put-before as′ k j a b;
+        same = λ i. (fst i, snd i) ∷ R .same i;
+      }
   runs-from (Invalid ∷ ds) M c as′ k f h =
-    let a = Refused Refusal.Record in
-    let R = runs-from ds M c (putAnswer as′ k a) (k + 2) f (omega (arith, put-long as′ k a)) in
-    record {
-      follows = R .follows;
-      long = R .long ∙ put-long as′ k a;
-      before = λ j b. R .before j (omega arith) ∙ put-before as′ k j a b;
-      same = R .same }
+      let a = Refused Refusal.Record in
+      let R = runs-from ds M c (putAnswer as′ k a) (k + 2) f (omega (arith, put-long as′ k a)) in
+      record {
+        follows = R .follows;
+        long = R .long ∙ put-long as′ k a;
+        before = λ j b. R .before j (omega arith) ∙ put-before as′ k j a b;
+        same = R .same;
+      }
 
   -- ---- a tape
 
@@ -186,7 +187,7 @@ module _ (Follows : Machine → Core → Type 0)
   unfit-play c bytes work as′ e = rw e
 
   fit-play : (c : Core) (bytes work as′ : List ℕ) → unfitTape bytes as′ ≡ false
-    → play (stateOf c) (c .pool) work bytes as′ ≡ tapeChecked (checked (numbersOf (stateOf c)) (c .deques) (c .frames) (c .pool) work) (stateOf c) (c .pool) work bytes as′
+      → play (stateOf c) (c .pool) work bytes as′ ≡ tapeChecked (checked (numbersOf (stateOf c)) (c .deques) (c .frames) (c .pool) work) (stateOf c) (c .pool) work bytes as′
   unfolding play
   fit-play c bytes work as′ e = rw e
 
@@ -197,10 +198,10 @@ module _ (Follows : Machine → Core → Type 0)
   play-short c bytes work as′ e s = ap (toldPlay bytes) (fit-play c bytes work as′ e ∙ ap (λ k. tapeChecked k (stateOf c) (c .pool) work bytes as′) (check-short c work s))
 
   play-long : (M : Machine) (c : Core) (bytes work as′ : List ℕ) → Follows M c → unfitTape bytes as′ ≡ false → leb (c .head .nodes) (length work) ≡ true
-    → called (holding c) (tape bytes work as′)
+      → called (holding c) (tape bytes work as′)
       ≡ (holding (runOn (ran c as′) 0 (recordsOf bytes) .core), toldFrom (runOn (ran c as′) 0 (recordsOf bytes) .answers) 0 (recordsOf bytes))
   play-long M c bytes work as′ f e s =
-    ap (toldPlay bytes) (fit-play c bytes work as′ e ∙ ap (λ k. tapeChecked k (stateOf c) (c .pool) work bytes as′) (check-long M c work f s)
+      ap (toldPlay bytes) (fit-play c bytes work as′ e ∙ ap (λ k. tapeChecked k (stateOf c) (c .pool) work bytes as′) (check-long M c work f s)
       ∙ ap (λ q. played (runOn (ran q as′) 0 (recordsOf bytes)) (cleared (c .head .nodes) work)) (core-back c (tall M c f)))
 
   -- ---- a call, and calls
@@ -215,24 +216,25 @@ module _ (Follows : Machine → Core → Type 0)
 
   call-at : (M : Machine) (c : Core) (k : HostCall) → Follows M c → Follows-call M (called (holding c) k .0) (called (holding c) k .1)
   call-at M c (outside st work) f = elim (decided (leb (c .head .nodes) (length work))) [
-      | inl e ↦ subst (λ p. Follows-call M (p .0) (p .1)) (sym (outside-long M c st work f e)) (record { kept = record { core = stepOn c st .core; held = refl; follows = keeps M c st f }; same = refl })
-      | inr e ↦ subst (λ p. Follows-call M (p .0) (p .1)) (sym (outside-short c st work e)) (still M c f)
-    ]
+    | inl e ↦ subst (λ p. Follows-call M (p .0) (p .1)) (sym (outside-long M c st work f e)) (record { kept = record { core = stepOn c st .core; held = refl; follows = keeps M c st f }; same = refl })
+    | inr e ↦ subst (λ p. Follows-call M (p .0) (p .1)) (sym (outside-short c st work e)) (still M c f)
+  ]
   call-at M c (tape bytes work as′) f = elim (decided (unfitTape bytes as′)) [
-      | inl e ↦ subst (λ p. Follows-call M (p .0) (p .1)) (sym (play-unfit c bytes work as′ e)) (still M c f)
-      | inr e ↦ elim (decided (leb (c .head .nodes) (length work))) [
-          | inl s ↦
-              let room = ltb-false (length as′) (2 * (length bytes / 8)) (neither (not (eqb (length bytes % 8) 0)) (ltb (length as′) (2 * (length bytes / 8))) e .1) in
-              let R = runs-from (recordsOf bytes) M c as′ 0 f (omega (arith, length-records (length bytes / 8) bytes 0)) in
-              let r = runOn (ran c as′) 0 (recordsOf bytes) in
-              let v = steps-from (r .answers) 0 (recordsOf bytes) in
-              subst (λ p. Follows-call M (p .0) (p .1)) (sym (play-long M c bytes work as′ f e s))
-                (record {
-                  kept = record { core = r .core; held = refl; follows = subst (λ z. Follows (run M z) (r .core)) (sym v) (R .follows) };
-                  same = R .same ∙ ap (answers M) (sym v) })
-          | inr s ↦ subst (λ p. Follows-call M (p .0) (p .1)) (sym (play-short c bytes work as′ e s)) (still M c f)
-        ]
+    | inl e ↦ subst (λ p. Follows-call M (p .0) (p .1)) (sym (play-unfit c bytes work as′ e)) (still M c f)
+    | inr e ↦ elim (decided (leb (c .head .nodes) (length work))) [
+      | inl s ↦
+          let room = ltb-false (length as′) (2 * (length bytes / 8)) (neither (not (eqb (length bytes % 8) 0)) (ltb (length as′) (2 * (length bytes / 8))) e .1) in
+          let R = runs-from (recordsOf bytes) M c as′ 0 f (omega (arith, length-records (length bytes / 8) bytes 0)) in
+          let r = runOn (ran c as′) 0 (recordsOf bytes) in
+          let v = steps-from (r .answers) 0 (recordsOf bytes) in
+          subst (λ p. Follows-call M (p .0) (p .1)) (sym (play-long M c bytes work as′ f e s))
+          (record {
+            kept = record { core = r .core; held = refl; follows = subst (λ z. Follows (run M z) (r .core)) (sym v) (R .follows) };
+            same = R .same ∙ ap (answers M) (sym v);
+          })
+      | inr s ↦ subst (λ p. Follows-call M (p .0) (p .1)) (sym (play-short c bytes work as′ e s)) (still M c f)
     ]
+  ]
 
   pub call-follows : (M : Machine) (h : Held) (k : HostCall) → Kept h M → Follows-call M (afterCall h k) (told h k)
   call-follows M h k K = subst (λ q. Follows-call M (afterCall q k) (told q k)) (sym (K .held)) (call-at M (K .core) k (K .follows))
@@ -240,10 +242,11 @@ module _ (Follows : Machine → Core → Type 0)
   pub calls-follow : (cs : List HostCall) (M : Machine) (h : Held) → Kept h M → Follows-call M (afterCalls h cs) (allTold h cs)
   calls-follow [] M h K = record { kept = K; same = refl }
   calls-follow (k ∷ cs) M h K =
-    let A = call-follows M h k K in
-    let B = calls-follow cs (run M (stepsTold (told h k))) (afterCall h k) (A .kept) in
-    let e = map-append (λ (t : Told). t .0) (told h k) (allTold (afterCall h k) cs) in
-    record {
-      kept = subst (λ z. Kept (afterCalls (afterCall h k) cs) z) (sym (ap (run M) e ∙ run-append M (stepsTold (told h k)) (stepsTold (allTold (afterCall h k) cs)))) (B .kept);
-      same = map-append (λ (t : Told). t .1) (told h k) (allTold (afterCall h k) cs) ∙ ap₂ _++_ (A .same) (B .same)
-        ∙ sym (ap (answers M) e ∙ answers-append M (stepsTold (told h k)) (stepsTold (allTold (afterCall h k) cs))) }
+      let A = call-follows M h k K in
+      let B = calls-follow cs (run M (stepsTold (told h k))) (afterCall h k) (A .kept) in
+      let e = map-append (λ (t : Told). t .0) (told h k) (allTold (afterCall h k) cs) in
+      record {
+        kept = subst (λ z. Kept (afterCalls (afterCall h k) cs) z) (sym (ap (run M) e ∙ run-append M (stepsTold (told h k)) (stepsTold (allTold (afterCall h k) cs)))) (B .kept);
+        same = map-append (λ (t : Told). t .1) (told h k) (allTold (afterCall h k) cs) ∙ ap₂ _++_ (A .same) (B .same)
+            ∙ sym (ap (answers M) e ∙ answers-append M (stepsTold (told h k)) (stepsTold (allTold (afterCall h k) cs)));
+      }

@@ -18,7 +18,7 @@ use Rattle.model.specs.Theory.FreshMarks.{MarkInvariant}
 use Rattle.model.specs.Theory.Bounds.{Bounded}
 use Rattle.semantics.specs.declared.Refusal.{Refusal}
 use Rattle.semantics.specs.Answers.{answerWords}
-use Rattle.semantics.specs.Core.{Core, Did, judged, spawned, ended, robbed, waited, valued, wrote, stepOn}
+use Rattle.semantics.specs.Core.{Core, Did, judged, spawned, ended, robbed, waited, valued, wrote, stepOn, doneBy, testsOf}
 use Rattle.semantics.specs.Theory.Relation.{Trees, TreeLaws, Relates}
 use Rattle.semantics.specs.Theory.SimSpawn.{sim-spawn}
 use Rattle.semantics.specs.Theory.SimReturn.{sim-return}
@@ -26,7 +26,7 @@ use Rattle.semantics.specs.Theory.SimRead.{sim-read}
 use Rattle.semantics.specs.Theory.SimWrite.{sim-write}
 use Rattle.semantics.specs.Theory.SimSteal.{sim-steal}
 use Rattle.semantics.specs.Theory.SimSync.{sim-sync}
-use Rattle.semantics.specs.Theory.Refusals.{testsOf, doneBy, step-judged, refused-alike}
+use Rattle.semantics.specs.Theory.Refusals.{step-judged, refused-alike}
 
 -- ---- what no step changes
 

@@ -2,36 +2,33 @@
 -- soundness, and leaves the words beyond the nodes alone.
 use mathlib.Core.Path.{_≡_, refl, sym, ap, _∙_, subst}
 use mathlib.Core.Bool.{true}
-use mathlib.Core.Logic.{_⊎_, inl, inr}
-use mathlib.Core.List.{List, [], _∷_, _++_}
-use Prim.Native.Nat.{ℕ, zero, suc, _*_, _≤_, _<_}
+use mathlib.Core.Logic.{inl, inr}
+use mathlib.Core.List.{List, _∷_, _++_}
+use Prim.Native.Nat.{ℕ, zero, suc, _<_}
 use native.Mathlib.Omega.{arith}
-use lib.ListN.{length, drop, length-map}
+use lib.ListN.{length, length-map}
 use Rattle.sizes.specs.Sizes.{height}
 use Rattle.soundness.specs.Soundness.{sound, freeCount}
 use Rattle.pool.specs.Pool.{retain, release}
 use Rattle.pool.specs.Pool.{write as writePath}
-use Rattle.frames.specs.Frames.{frameAt}
 use Rattle.model.specs.declared.Step.{Step}
 use Rattle.model.specs.declared.Step.the-variants.{Spawn, Return, Steal, Sync, Read, Write}
-use Rattle.model.specs.Machine.{Machine, live, freeNodes}
-use Rattle.model.specs.Steps.{Action, spawn, return, write, acting, turnOf, refusal, step, answer}
+use Rattle.model.specs.Machine.{Machine, freeNodes}
+use Rattle.model.specs.Steps.{Action, spawn, return, write, turnOf, refusal, step}
 use Rattle.model.specs.Theory.Effects.{Passes, rest, Acts, acts}
 use Rattle.model.specs.Theory.RunSteps.{accepted-or-refused, step-kept, sizes-step}
 use Rattle.model.specs.Theory.FrameTree.{FrameTree, tree-turn}
 use Rattle.model.specs.Theory.DequeShape.{DequeInvariant}
 use Rattle.model.specs.Theory.Deques.{deques-turn}
 use Rattle.semantics.specs.declared.State.{State}
-use Rattle.semantics.specs.Answers.{answerWords}
-use Rattle.semantics.specs.Core.{Core, actingIn, spawned, ended, robbed, waited, valued, wrote, stepOn}
-use Rattle.semantics.specs.Entries.{numbersOf, stateOf, coreOf}
-use Rattle.semantics.specs.SoundMachine.{machineOf}
-use Rattle.semantics.specs.Demands.{plainOf, stepOf, SoundStep}
+use Rattle.semantics.specs.Core.{Core, actingIn, spawned, ended, robbed, waited, valued, wrote, stepOn, doneBy}
+use Rattle.semantics.specs.Entries.{numbersOf, coreOf}
+use Rattle.semantics.specs.Demands.{plainOf, SoundStep}
 use Rattle.semantics.specs.Theory.Relation.{Relates, rootOf, rootsOf}
 use Rattle.semantics.specs.Theory.Places.{length-perm, acting-frame, live-few, treeOf}
 use Rattle.semantics.specs.Theory.RelationFacts.{trees-perm}
 use Rattle.semantics.specs.Theory.Pools.{LiveTrees, live-laws, Beyond, spawn-beyond, return-beyond, write-beyond}
-use Rattle.semantics.specs.Theory.Refusals.{doneBy, refused-alike}
+use Rattle.semantics.specs.Theory.Refusals.{refused-alike}
 use Rattle.semantics.specs.Theory.Simulation.{simulates, numbers-kept}
 use Rattle.semantics.specs.Theory.ToSound.{to-sound}
 use Rattle.semantics.specs.Theory.FromSoundRelates.{from-sound}
@@ -103,7 +100,7 @@ sound-step s ws st dlen flen e =
     let z = sizes-step M st in
     let k = kept M st (F .1) (F .2) in
     let r′ = subst (λ N. Relates (LiveTrees N ((step M st) .splitters)) (step M st) (stepOn c st .core)) (sym (numbers-kept c st .nodes))
-      (subst (λ n. Relates (LiveTrees (s .nodes) n) (step M st) (stepOn c st .core)) (sym (z .splitters)) (S .related)) in
+    (subst (λ n. Relates (LiveTrees (s .nodes) n) (step M st) (stepOn c st .core)) (sym (z .splitters)) (S .related)) in
     let t = to-sound (step M st) (stepOn c st .core) r′ (k .0) (k .1) in
     let b = step-beyond M c r (F .1) (F .2) (F .5) st in
     record {

@@ -1,32 +1,31 @@
 -- The state and pool of an accepted start relate to the plain machine's start.
 use mathlib.Core.Path.{_≡_, refl, sym, ap, _∙_, subst}
-use mathlib.Core.Logic.{_⊎_, inl, inr}
+use mathlib.Core.Logic.{inl}
 use mathlib.Core.Bool.{cond}
 use mathlib.Core.List.{List·Memᴰ as In, List·Memᴰ·eq-of-singleton as In-one, List·Memᴰ·not-nil as not-in-nil}
-use mathlib.Core.List.{List, [], _∷_, _++_, map}
-use Prim.Native.Nat.{ℕ, zero, suc, _+_, _-_, _*_, _/_, _≤_, _<_}
+use mathlib.Core.List.{List, [], _∷_}
+use Prim.Native.Nat.{ℕ, zero, suc, _+_, _-_, _*_, _≤_, _<_}
 use native.Mathlib.Nat.{mul-div-le}
 use native.Mathlib.Omega.{arith}
 use native.Mathlib.Decide.{ℕ-discrete}
 use lib.ListN.{length, getD, replicate, length-replicate}
 use lib.Dec.{eqb}
-use Rattle.words.specs.Basics.{none, joined, count}
+use Rattle.words.specs.Basics.{none, count}
 use Rattle.words.specs.Lists.{joined-empty}
 use Rattle.words.specs.Counting.{δ-same, δ-other, count-nil, count-cons, range, count-range-in, count-range-out}
 use Rattle.sizes.specs.Sizes.{height, treeNodes}
 use Rattle.pool.specs.Pool.{readAt, initPool}
 use Rattle.pool.specs.Theory.Good.{After, good-start}
-use Rattle.frames.specs.Frames.{frameAt, freePlace, mainFrame, initFrames}
+use Rattle.frames.specs.Frames.{frameAt, mainFrame, initFrames}
 use Rattle.frames.specs.Deques.{initDeques}
 use Rattle.frames.specs.Theory.Lists.{dequeList}
-use Rattle.frames.specs.Theory.Tables.{Formed}
 use Rattle.frames.specs.Theory.Start.{length-init, init-main, init-free, init-places, init-shaped, init-first, init-others}
-use Rattle.model.specs.Machine.{Frame, Machine, live, deque, main, start}
+use Rattle.model.specs.Machine.{Frame, live, deque, main, start}
 use Rattle.model.specs.Theory.Effects.{live-start}
 use Rattle.model.specs.Theory.RunSteps.{sizes-start}
-use Rattle.semantics.specs.Core.{Core, tableOf}
+use Rattle.semantics.specs.Core.{Core}
 use Rattle.semantics.specs.Entries.{firstState, coreOf, wholeNodes}
-use Rattle.semantics.specs.Theory.Relation.{Recorded, SameNumbers, Relates, placesOf, rootOf, rootsOf}
+use Rattle.semantics.specs.Theory.Relation.{Recorded, Relates, placesOf, rootsOf}
 use Rattle.semantics.specs.Theory.Pools.{GoodTrees}
 use Rattle.semantics.specs.Theory.Starts.{Fit}
 
@@ -43,10 +42,13 @@ getD-none (suc n) (suc w) = getD-none n w
 module _ (workers : ℕ) (vs ws : List ℕ) (F : Fit workers vs ws) where
   N : ℕ
   N = wholeNodes ws
+
   n : ℕ
   n = length vs
+
   zeros : length (replicate {A = ℕ} 384 0) ≡ 384
   zeros = length-replicate {A = ℕ} 384 0
+
   fs : List ℕ
   fs = initFrames (replicate 384 0)
 
@@ -60,13 +62,14 @@ module _ (workers : ℕ) (vs ws : List ℕ) (F : Fit workers vs ws) where
 
   recorded : (f : Frame) → f ≡ main vs → Recorded fs (λ _. 0) (live (start workers vs N)) 0 f
   recorded f e = subst (λ g. Recorded fs (λ _. 0) (live (start workers vs N)) 0 g) (sym e) (subst (λ L. Recorded fs (λ _. 0) L 0 (main vs)) (sym (live-start workers vs N))
-    (record {
-      inside = omega arith;
-      live = ap (λ r. r .live) main-at;
-      parent = ap (λ r. r .parent) main-at;
-      depth = ap (λ r. r .depth) main-at;
-      outstanding = ap (λ r. r .outstanding) main-at;
-      suspended = ap (λ r. r .suspended) main-at }))
+      (record {
+        inside = omega arith;
+        live = ap (λ r. r .live) main-at;
+        parent = ap (λ r. r .parent) main-at;
+        depth = ap (λ r. r .depth) main-at;
+        outstanding = ap (λ r. r .outstanding) main-at;
+        suspended = ap (λ r. r .suspended) main-at;
+      }))
 
   pub start-relates : Relates (GoodTrees (wholeNodes ws) (length vs)) (start workers vs (wholeNodes ws)) (firstCore workers vs ws)
   unfolding N n fs
@@ -77,7 +80,13 @@ module _ (workers : ℕ) (vs ws : List ℕ) (F : Fit workers vs ws) where
       workers = sym (sizes-start workers vs N (F .some-worker));
       some-worker = omega (arith, sizes-start workers vs N (F .some-worker), F .some-worker);
       few-workers = omega (arith, sizes-start workers vs N (F .some-worker), F .few-workers);
-      splitters = refl; some-splitter = F .some-value; few-splitters = F .few-values; tall = refl; enough = F .enough; few-nodes = F .few-nodes };
+      splitters = refl;
+      some-splitter = F .some-value;
+      few-splitters = F .few-values;
+      tall = refl;
+      enough = F .enough;
+      few-nodes = F .few-nodes;
+    };
     formed = record { shaped = init-shaped; long = length-init (replicate 384 0) zeros; places = init-places (replicate 384 0) zeros };
     deques = deque-at;
     running = λ f m. recorded f (In-one (subst (λ L. In f L) (ap (λ z. main vs ∷ z) (joined-empty (workers - 1))) m));
@@ -85,18 +94,23 @@ module _ (workers : ℕ) (vs ws : List ℕ) (F : Fit workers vs ws) where
     once = λ p b. subst (λ L. count p (range 63 1) + count p (placesOf (λ _. 0) L) ≡ 1) (sym (live-start workers vs N)) (once-at p b);
     vacant = λ p b c. (cond (eqb p 63) none (suc p), init-free (replicate 384 0) zeros p (not-first p c) b);
     trees = subst (λ L. GoodTrees N n words first spare (rootsOf fs (λ _. 0) L)) (sym (live-start workers vs N))
-      (subst (λ (r : ℕ). GoodTrees N n words first spare ((r, []) ∷ [])) (sym root-is) (started .0 .good));
+        (subst (λ (r : ℕ). GoodTrees N n words first spare ((r, []) ∷ [])) (sym root-is) (started .0 .good));
     values = λ f m x b. (let e : f ≡ main vs = In-one (subst (λ L. In f L) (live-start workers vs N) m) in
-      ap (λ (r : ℕ). readAt (height n) words r x) root-is ∙ started .1 x b ∙ ap (λ g. getD (g .values) x 0) (sym e)) }
+        ap (λ (r : ℕ). readAt (height n) words r x) root-is ∙ started .1 x b ∙ ap (λ g. getD (g .values) x 0) (sym e));
+  }
     where
       words : List ℕ
       words = initPool ws n N vs .0
+
       first : ℕ
       first = initPool ws n N vs .1
+
       spare : ℕ
       spare = N - treeNodes n
+
       started : After N n ws [] ((0, []) ∷ []) words first spare × ((y : ℕ) → y < n → readAt (height n) words 0 y ≡ getD vs y 0)
       started = good-start N n (F .few-nodes) (F .some-value) ws vs (F .enough) room
+
       root-is : frameAt fs 0 .root ≡ 0
       root-is = ap (λ r. r .root) main-at
 
@@ -109,6 +123,6 @@ module _ (workers : ℕ) (vs ws : List ℕ) (F : Fit workers vs ws) where
 
       once-at : (p : ℕ) → p < 64 → count p (range 63 1) + count p (0 ∷ []) ≡ 1
       once-at p b = elim (ℕ-discrete p 0) [
-          | yes e ↦ omega (arith, count-range-out 63 1 p (inl (omega arith)), count-cons p 0 [], count-nil p, ap (λ q. Rattle.words.specs.Basics.δ q 0) e, δ-same 0)
-          | no e ↦ omega (arith, count-range-in 63 1 p (omega arith) (omega arith), count-cons p 0 [], count-nil p, δ-other p 0 e)
-        ]
+        | yes e ↦ omega (arith, count-range-out 63 1 p (inl (omega arith)), count-cons p 0 [], count-nil p, ap (λ q. Rattle.words.specs.Basics.δ q 0) e, δ-same 0)
+        | no e ↦ omega (arith, count-range-in 63 1 p (omega arith) (omega arith), count-cons p 0 [], count-nil p, δ-other p 0 e)
+      ]

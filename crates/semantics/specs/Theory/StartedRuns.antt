@@ -1,18 +1,17 @@
 -- The relation that a run from a start keeps, and demands 2 and 3 of document 01 over the entries.
 use mathlib.Core.Path.{_≡_, refl, sym, ap, _∙_, subst}
-use mathlib.Core.Bool.{Bool, true, false}
-use mathlib.Core.List.{List, [], _∷_, map}
-use Prim.Native.Nat.{ℕ, _+_, _-_, _≤_, _<_}
+use mathlib.Core.Bool.{true}
+use mathlib.Core.List.{List, [], _∷_}
+use Prim.Native.Nat.{ℕ, _≤_}
 use native.Mathlib.Omega.{arith}
 use lib.ListN.{length}
-use Rattle.words.specs.Basics.{count}
 use Rattle.sizes.specs.Sizes.{height}
 use Rattle.soundness.specs.Soundness.{sound, freeCount}
 use Rattle.pool.specs.Theory.Good.{good-free}
 use Rattle.pool.specs.Theory.InUse.{historiesOf}
 use Rattle.model.specs.declared.Step.{Step}
-use Rattle.model.specs.History.{History, nodesInUse}
-use Rattle.model.specs.Machine.{Name, Frame, Machine, live, histories, start}
+use Rattle.model.specs.History.{nodesInUse}
+use Rattle.model.specs.Machine.{Name, Frame, Machine, live, histories}
 use Rattle.model.specs.Machine.{freeNodes as plainFree}
 use Rattle.model.specs.Steps.{step, answer}
 use Rattle.model.specs.Theory.RunSteps.{sizes-step}
@@ -57,7 +56,7 @@ keeps-and-alike M c st F =
     let r = F .related in
     let laws = good-laws (M .nodes) (M .splitters) (omega (arith, F .nodes, r .numbers .few-nodes)) (r .numbers .some-splitter) in
     let S = simulates (GoodTrees (M .nodes) (M .splitters)) M c r (subst (λ N. TreeLaws N (M .splitters) (GoodTrees (M .nodes) (M .splitters))) (sym (F .nodes)) laws) (F .inv .tree) (F .inv .deques) (F .inv .marks)
-      (F .inv .bounds) (same-spare M c F) st in
+    (F .inv .bounds) (same-spare M c F) st in
     let z = sizes-step M st in
     let F′ : Follows (step M st) (stepOn c st .core) = record {
       related = subst (λ N. Relates (GoodTrees N ((step M st) .splitters)) (step M st) (stepOn c st .core)) (sym (z .nodes)) (subst (λ n. Relates (GoodTrees (M .nodes) n) (step M st) (stepOn c st .core)) (sym (z .splitters)) (S .related));

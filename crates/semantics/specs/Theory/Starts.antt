@@ -1,19 +1,18 @@
 -- When a start is accepted, and what it hands out then.
-use mathlib.Core.Path.{_≡_, refl, sym, ap, _∙_, subst}
-use mathlib.Core.Bool.{Bool, true, false, cond, _||_}
+use mathlib.Core.Path.{_≡_}
+use mathlib.Core.Bool.{Bool, false, _||_}
 use mathlib.Core.Logic.{inl, inr}
-use mathlib.Core.List.{List, [], _∷_}
-use Prim.Native.Nat.{ℕ, zero, suc, _≤_, _<_}
+use mathlib.Core.List.{List}
+use Prim.Native.Nat.{ℕ, _≤_}
 use native.Mathlib.Omega.{arith}
 use lib.ListN.{length}
 use lib.Dec.{eqb, ltb}
-use borrow.Author.Tests.{ltb-false, ltb-true, eqb-false, eqb-true, le-ltb, ne-eqb}
+use borrow.Author.Tests.{ltb-false, eqb-false, le-ltb, ne-eqb}
 use Rattle.words.specs.Tests.{decided, neither}
 use Rattle.sizes.specs.Sizes.{treeNodes}
-use Rattle.semantics.specs.declared.Call.{Call}
 use Rattle.semantics.specs.declared.Call.the-variants.{Taken, Denied}
 use Rattle.semantics.specs.declared.Refusal.{Refusal}
-use Rattle.semantics.specs.Entries.{Begun, startOn, begun, wholeNodes}
+use Rattle.semantics.specs.Entries.{startOn, begun, wholeNodes}
 
 -- the conditions that refusals 1, 2 and 3 test
 pub record Fit (workers : ℕ) (vs ws : List ℕ) : Type 0 where
@@ -50,16 +49,16 @@ fit-started workers vs ws F =
 pub started-fit : (workers : ℕ) (vs ws : List ℕ) → startOn workers vs ws .call ≡ Taken → Fit workers vs ws
 unfolding startOn
 started-fit workers vs ws e = elim (decided (eqb (length vs) 0 || ltb 256 (length vs))) [
-    | inl a ↦ absurd (denied-not (rw a at e))
-    | inr a ↦ elim (decided (eqb workers 0 || ltb 8 workers)) [
-        | inl b ↦ absurd (denied-not (rw (a, b) at e))
-        | inr b ↦ elim (decided (ltb (wholeNodes ws) (treeNodes (length vs)) || ltb 16384 (wholeNodes ws))) [
-            | inl d ↦ absurd (denied-not (rw (a, b, d) at e))
-            | inr d ↦
-                let x = in-range (length vs) 256 a in
-                let y = in-range workers 8 b in
-                let z = neither (ltb (wholeNodes ws) (treeNodes (length vs))) (ltb 16384 (wholeNodes ws)) d in
-                record { some-value = x .0; few-values = x .1; some-worker = y .0; few-workers = y .1; enough = ltb-false (wholeNodes ws) (treeNodes (length vs)) (z .0); few-nodes = ltb-false 16384 (wholeNodes ws) (z .1) }
-          ]
-      ]
+  | inl a ↦ absurd (denied-not (rw a at e))
+  | inr a ↦ elim (decided (eqb workers 0 || ltb 8 workers)) [
+    | inl b ↦ absurd (denied-not (rw (a, b) at e))
+    | inr b ↦ elim (decided (ltb (wholeNodes ws) (treeNodes (length vs)) || ltb 16384 (wholeNodes ws))) [
+      | inl d ↦ absurd (denied-not (rw (a, b, d) at e))
+      | inr d ↦
+          let x = in-range (length vs) 256 a in
+          let y = in-range workers 8 b in
+          let z = neither (ltb (wholeNodes ws) (treeNodes (length vs))) (ltb 16384 (wholeNodes ws)) d in
+          record { some-value = x .0; few-values = x .1; some-worker = y .0; few-workers = y .1; enough = ltb-false (wholeNodes ws) (treeNodes (length vs)) (z .0); few-nodes = ltb-false 16384 (wholeNodes ws) (z .1) }
+    ]
   ]
+]

@@ -1,30 +1,22 @@
 -- The answer words: which answers refuse a whole call, and which accept a step.
 use mathlib.Core.Path.{_≡_, refl, sym, ap, _∙_}
-use mathlib.Core.Bool.{Bool, true, false, cond, not, _||_}
+use mathlib.Core.Bool.{Bool, true, false}
 use mathlib.Core.Logic.{inl, inr}
 use mathlib.Core.List.{List, [], _∷_, _++_, tail-eq-of-cons-eq}
-use Prim.Native.Nat.{ℕ, zero, suc, _+_, _≤_, _<_}
+use Prim.Native.Nat.{ℕ, _<_}
 use native.Mathlib.Omega.{arith}
-use lib.Dec.{leb, ltb, eqb}
-use borrow.Author.Tests.{lt-leb, le-leb}
-use Rattle.words.specs.Basics.{none}
-use Rattle.words.specs.Tests.{decided, true≢false}
+use borrow.Author.Tests.{lt-leb}
+use Rattle.words.specs.Tests.{decided}
 use Rattle.model.specs.declared.Step.{Step}
 use Rattle.model.specs.declared.Step.the-variants.{Spawn, Return, Steal, Sync, Read, Write}
 use Rattle.model.specs.Machine.{Frame, Machine, deque}
 use Rattle.model.specs.Steps.{Action, spawn, return, sync, read, write, Turn, acting, stealing, turnOf, firstTrue, turnTests, refusal, step, actionAnswer, turnAnswer, answer}
-use Rattle.model.specs.Run.{answers, Entry, bottomEntry, turnEntry, trace}
+use Rattle.model.specs.Run.{answers, bottomEntry, turnEntry, trace}
 use Rattle.model.specs.Theory.Effects.{Passes, acts}
-use Rattle.model.specs.Theory.RunSteps.{Accepted, Refused, accepted-or-refused}
-use Rattle.semantics.specs.declared.Done.{Done}
-use Rattle.semantics.specs.declared.Done.the-variants.{Spawned, Ended, Stolen, Waited, Value, Written}
+use Rattle.model.specs.Theory.RunSteps.{accepted-or-refused}
 use Rattle.semantics.specs.declared.Refusal.{Refusal}
-use Rattle.semantics.specs.declared.Answer.{Answer}
-use Rattle.semantics.specs.declared.Answer.the-variants.{Accepted as IsAccepted, Refused as IsRefused}
-use Rattle.semantics.specs.Answers.{refusalNumber, doneWords, answerWords}
-use Rattle.frames.specs.Deques.{size}
-use Rattle.semantics.specs.declared.Refusal.the-variants.{NoWorker, MainReturned, ThiefBusy, NoVictim, FramesFull, ChildLives, NoSplitter, PoolFull}
-use Rattle.semantics.specs.Core.{Core, Did, judged, actingTests, actingIn, noWorker, allIdle, idle, spawned, ended, robbed, waited, valued, wrote, stepOn}
+use Rattle.semantics.specs.Answers.{refusalNumber, answerWords}
+use Rattle.semantics.specs.Core.{Core, Did, judged, spawned, ended, robbed, waited, valued, wrote, stepOn, testsOf, doneBy}
 use Rattle.semantics.specs.Calls.{refusedWhole, saysAccepted, bottomTold, entryTold, Told, traceTold, stepsTold, answersTold}
 
 -- ---- the engine's steps are never refused as a whole call is
@@ -41,17 +33,24 @@ judged-high [] c d h k = k
 judged-high (t ∷ ts) c d h k = elim (decided (t .0)) [ inl e ↦ rw e (h .0) | inr e ↦ rw e (judged-high ts c d (h .1) k) ]
 
 pub step-not-whole : (c : Core) (st : Step) → refusedWhole (answerWords (stepOn c st .answer)) ≡ false
-step-not-whole c st = high-not-whole (answerWords (stepOn c st .answer)) (high st)
+unfolding stepOn
+step-not-whole c st = high-not-whole (answerWords (judged (testsOf c st) c (doneBy c st) .answer)) (judged-high (testsOf c st) c (doneBy c st) (tests-high st) (done-high st))
   where
-    high : (st : Step) → 6 < answerWords (stepOn c st .answer) .0
-    high (Spawn w) = unfold stepOn spawned in judged-high (actingTests c w ++ (eqb (c .head .vacant) none, FramesFull) ∷ []) c (spawned c w) (omega arith) (omega arith)
-    high (Return w) = unfold stepOn ended in judged-high (actingTests c w ++ (not (eqb (actingIn c w .outstanding) 0), ChildLives) ∷ []) c (ended c w) (omega arith) (omega arith)
-    high (Steal w v) = unfold stepOn robbed in judged-high
-      ((noWorker c w, NoWorker) ∷ (allIdle c, MainReturned) ∷ (not (idle c w), ThiefBusy) ∷ (noWorker c v || ltb (size (c .deques) v) 2, NoVictim) ∷ []) c (robbed c w v) (omega arith) (omega arith)
-    high (Sync w) = unfold stepOn waited in judged-high (actingTests c w) c (waited c w) (omega arith) (omega arith)
-    high (Read w x) = unfold stepOn valued in judged-high (actingTests c w ++ (not (ltb x (c .head .splitters)), NoSplitter) ∷ []) c (valued c w x) (omega arith) (omega arith)
-    high (Write w x v) = unfold stepOn wrote in judged-high
-      (actingTests c w ++ (not (ltb x (c .head .splitters)), NoSplitter) ∷ (leb (c .head .spare) (c .head .height), PoolFull) ∷ []) c (wrote c w x v) (omega arith) (omega arith)
+    tests-high : (st : Step) → High (testsOf c st)
+    tests-high (Spawn w) = omega arith
+    tests-high (Return w) = omega arith
+    tests-high (Steal w v) = omega arith
+    tests-high (Sync w) = omega arith
+    tests-high (Read w x) = omega arith
+    tests-high (Write w x v) = omega arith
+
+    done-high : (st : Step) → 6 < answerWords (doneBy c st .answer) .0
+    done-high (Spawn w) = unfold spawned in omega arith
+    done-high (Return w) = unfold ended in omega arith
+    done-high (Steal w v) = unfold robbed in omega arith
+    done-high (Sync w) = unfold waited in omega arith
+    done-high (Read w x) = unfold valued in omega arith
+    done-high (Write w x v) = unfold wrote in omega arith
 
 -- ---- the plain machine's refusals are 8 to 16
 
@@ -95,16 +94,16 @@ turn-told M (acting w a) h = let x = acts M w a h in rw (x .at) (own (x .actor) 
 pub trace-told : (M : Machine) (ts : List Told) → answersTold ts ≡ answers M (stepsTold ts) → traceTold M ts ≡ trace M (stepsTold ts)
 trace-told M [] e = refl
 trace-told M (t ∷ ts) e = elim (accepted-or-refused M (t .0)) [
-    | inl a ↦
-        let k = turn-told M (turnOf (t .0)) (a .passes) in
-        let w : t .1 ≡ turnAnswer M (turnOf (t .0)) = ap headPair e ∙ a .answered in
-        let r = trace-told (step M (t .0)) ts (tail-eq-of-cons-eq e) in
-        rw (w, k .0, k .1) (ap (λ z. turnEntry M (turnOf (t .0)) ++ z) (r ∙ ap (λ z. trace z (stepsTold ts)) (a .after)) ∙ sym (a .traced (stepsTold ts)))
-    | inr a ↦
-        let w : t .1 ≡ (refusal M (t .0), 0) = ap headPair e ∙ a .answered in
-        let r = trace-told (step M (t .0)) ts (tail-eq-of-cons-eq e) in
-        rw (w, lt-leb 100 (refusal M (t .0)) (refusal-low M (t .0))) (r ∙ ap (λ z. trace z (stepsTold ts)) (a .after) ∙ sym (a .traced (stepsTold ts)))
-  ]
+  | inl a ↦
+      let k = turn-told M (turnOf (t .0)) (a .passes) in
+      let w : t .1 ≡ turnAnswer M (turnOf (t .0)) = ap headPair e ∙ a .answered in
+      let r = trace-told (step M (t .0)) ts (tail-eq-of-cons-eq e) in
+      rw (w, k .0, k .1) (ap (λ z. turnEntry M (turnOf (t .0)) ++ z) (r ∙ ap (λ z. trace z (stepsTold ts)) (a .after)) ∙ sym (a .traced (stepsTold ts)))
+  | inr a ↦
+      let w : t .1 ≡ (refusal M (t .0), 0) = ap headPair e ∙ a .answered in
+      let r = trace-told (step M (t .0)) ts (tail-eq-of-cons-eq e) in
+      rw (w, lt-leb 100 (refusal M (t .0)) (refusal-low M (t .0))) (r ∙ ap (λ z. trace z (stepsTold ts)) (a .after) ∙ sym (a .traced (stepsTold ts)))
+]
   where
     headPair : List (ℕ × ℕ) → ℕ × ℕ
     headPair [] = (0, 0)

@@ -1,0 +1,81 @@
+-- Both ways out are laws over the definitions: a deque does not fit, or everything is looked at.
+use borrow.Author.Tests.{not-true, not-false}
+use mathlib.Core.Path.{sym, _∙_}
+use Rattle.frame_check.proofs.Laws.{unfit, fit}
+use borrow.Author.Needs.{needs}
+use Rattle.frame_check.proofs.check_frames.Statement.{statement}
+use Rattle.frame_check.proofs.check_frames.Tie as tie
+
+deques-fit-requires : tie.Need-deques-fit-requires
+deques-fit-requires c κs = search needs
+
+returns : tie.Need-returns
+returns c =
+    let a = c .before .before .before .before .args in
+    unfit (a .workers) (a .first) (a .deques .now) (a .frames .now) (sym (c .before .deques-fit .ensures) ∙ not-true _ (c .if1 .taken))
+
+slice-aggregate-tally-children : tie.Need-slice-aggregate-tally-children
+slice-aggregate-tally-children c = search needs
+
+tally-children-requires : tie.Need-tally-children-requires
+tally-children-requires c κs = search needs
+
+slice-aggregate-tally-deques : tie.Need-slice-aggregate-tally-deques
+slice-aggregate-tally-deques c = search needs
+
+tally-deques-requires : tie.Need-tally-deques-requires
+tally-deques-requires c κs = search needs
+
+slice-aggregate-tally-chain : tie.Need-slice-aggregate-tally-chain
+slice-aggregate-tally-chain c = search needs
+
+tally-chain-requires : tie.Need-tally-chain-requires
+tally-chain-requires c κs = search needs
+
+count-mains-requires : tie.Need-count-mains-requires
+count-mains-requires c κs = search needs
+
+slice-aggregate-places-sound : tie.Need-slice-aggregate-places-sound
+slice-aggregate-places-sound c = search needs
+
+slice-aggregate-places-sound-2 : tie.Need-slice-aggregate-places-sound-2
+slice-aggregate-places-sound-2 c = search needs
+
+slice-aggregate-places-sound-3 : tie.Need-slice-aggregate-places-sound-3
+slice-aggregate-places-sound-3 c = search needs
+
+places-sound-requires : tie.Need-places-sound-requires
+places-sound-requires c κs = search needs
+
+returns-2 : tie.Need-returns-2
+returns-2 c =
+    let a = c .before .before .before .before .before .before .before .before .before .before .before .before .before .before .before .before .before .before .args in
+    fit (a .workers) (a .first) (a .deques .now) (a .frames .now)
+    (sym (c .before .before .before .before .before .before .before .before .before .before .before .before .before .before .before .deques-fit .ensures)
+    ∙ not-false _ (c .before .before .before .before .before .before .before .before .before .before .before .before .before .before .if1 .left))
+    (c .before .before .before .before .before .before .before .before .before .tally-deques .ensures .1)
+    (c .before .before .before .before .before .before .tally-chain .ensures .1)
+    (c .before .before .before .before .count-mains .ensures)
+    (c .before .before .before .before .before .before .before .before .before .before .before .before .tally-children .ensures)
+    (c .before .before .before .before .before .before .before .before .before .tally-deques .ensures .0)
+    (c .before .before .before .before .before .before .tally-chain .ensures .0)
+    (c .places-sound .ensures)
+
+pub check-frames-spec : {M : Type 1} → statement M
+check-frames-spec =
+    tie.close
+    (tie.spec
+    deques-fit-requires
+    returns
+    slice-aggregate-tally-children
+    tally-children-requires
+    slice-aggregate-tally-deques
+    tally-deques-requires
+    slice-aggregate-tally-chain
+    tally-chain-requires
+    count-mains-requires
+    slice-aggregate-places-sound
+    slice-aggregate-places-sound-2
+    slice-aggregate-places-sound-3
+    places-sound-requires
+    returns-2)

@@ -1,0 +1,45 @@
+-- The loop keeps the answer for the places passed.
+use mathlib.Core.Path.{_≡_, refl}
+use Prim.Native.Nat.{_≤_, _-_}
+use native.Mathlib.Omega.{arith}
+use Rattle.words.specs.Basics.{all}
+use Rattle.frame_check.specs.Algorithm.{zeroPast}
+use Rattle.frame_check.proofs.Laws.{at-end, all-turn}
+use borrow.Author.Needs.{needs}
+use Rattle.frame_check.proofs.deques.rest_zero.Statement.{statement}
+use Rattle.frame_check.proofs.deques.rest_zero.Tie as tie
+
+abbrev Inv-loop : tie.InvT-loop
+Inv-loop deques w n sound₀ k₀ sound k = (sound ≡ all k (zeroPast deques w n)) × (k ≤ 64)
+
+abbrev μ-loop : tie.MeasureT-loop
+μ-loop deques w n sound₀ k₀ sound k = 64 - k
+
+loop-holds : tie.Need-loop-holds Inv-loop μ-loop
+loop-holds c = (refl, omega arith)
+
+deque-place-requires : tie.Need-deque-place-requires Inv-loop μ-loop
+deque-place-requires c κs = search needs
+
+add-k : tie.Need-add-k Inv-loop μ-loop
+add-k c = search needs
+
+loop-less : tie.Need-loop-less Inv-loop μ-loop
+loop-less c = search needs
+
+loop-again : tie.Need-loop-again Inv-loop μ-loop
+loop-again c =
+    let a = c .before .before .before .before .args in
+    let l = c .before .before .loop in
+    (all-turn (l .k) (zeroPast (a .deques .now) (a .w) (a .n)) (l .inv .0) (rw (c .deque-place .ensures)), omega arith)
+
+returns : tie.Need-returns Inv-loop μ-loop
+returns c =
+    let a = c .before .before .before .args in
+    let l = c .before .loop in
+    at-end (λ k. all k (zeroPast (a .deques .now) (a .w) (a .n))) (l .inv .1) (c .loop-test .left) (l .inv .0)
+
+pub rest-zero-spec : {M : Type 1} → statement M
+rest-zero-spec =
+    tie.close
+    (tie.spec Inv-loop μ-loop loop-holds deque-place-requires add-k loop-less loop-again returns)

@@ -1,0 +1,15 @@
+use borrow.Author.Needs.{needs}
+use Rattle.frame_check.proofs.places.live_sound.Statement.{statement}
+use Rattle.frame_check.proofs.places.live_sound.Tie as tie
+
+parent-sound-requires : tie.Need-parent-sound-requires
+parent-sound-requires c κs = search needs
+
+placed-sound-requires : tie.Need-placed-sound-requires
+placed-sound-requires c κs = search needs
+
+returns : tie.Need-returns
+returns c = rw (c .placed-sound .ensures, c .before .parent-sound .ensures)
+
+pub live-sound-spec : {M : Type 1} → statement M
+live-sound-spec = tie.close (tie.spec parent-sound-requires placed-sound-requires returns)

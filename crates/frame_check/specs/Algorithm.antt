@@ -1,0 +1,132 @@
+-- The check of frames and deques over lists of words: what the functions of src/ compute. Definitions only; that it is document
+-- 01's soundness is the theorem of Theorem. It is linear in the places: how often a place stands somewhere is counted in an
+-- array of tallies, one word for each place, instead of searched for.
+use mathlib.Core.Bool.{Bool, cond, _||_, _&&_}
+use mathlib.Core.List.{List, [], _∷_}
+use Prim.Native.Nat.{ℕ, zero, suc, _-_}
+use lib.ListN.{getD, set, replicate}
+use lib.Dec.{eqb, leb, ltb}
+use Rattle.words.specs.Basics.{none, plus, all, howMany, below, follow}
+use Rattle.frames.specs.declared.Frame.{Frame}
+use Rattle.frames.specs.Frames.{frameAt}
+use Rattle.frames.specs.Deques.{size, place}
+
+-- ---- tallies
+
+-- one more at p; past the end, nothing
+unfoldable pub bump : List ℕ → ℕ → List ℕ
+bump ts p = set ts p (plus (getD ts p 0) 1)
+
+-- one more at each of f 0, .., f (n - 1)
+unfoldable pub tally : ℕ → (ℕ → ℕ) → List ℕ → List ℕ
+tally zero f ts = ts
+tally (suc n) f ts = bump (tally n f ts) (f n)
+
+-- one more at each element
+unfoldable pub tallyList : List ℕ → List ℕ → List ℕ
+tallyList [] ts = ts
+tallyList (x ∷ xs) ts = tallyList xs (bump ts x)
+
+-- where a frame is counted as a child: at its parent if it lives, else nowhere
+abbrev pub childAt : Frame → ℕ
+childAt f = cond (eqb (f .live) 1) (f .parent) none
+
+abbrev pub childIn : List ℕ → ℕ → ℕ
+childIn fs c = childAt (frameAt fs c)
+
+-- at each place the number of its live children
+abbrev pub tallyChildren : List ℕ → List ℕ → List ℕ
+tallyChildren fs = tally 64 (childIn fs)
+
+-- at each place how often it stands in deque w
+abbrev pub tallyDeque : List ℕ → ℕ → List ℕ → List ℕ
+tallyDeque ds w = tally (size ds w) (place ds w)
+
+-- at each place how often it stands in the deques of the first n workers
+unfoldable pub tallyDeques : ℕ → List ℕ → List ℕ → List ℕ
+tallyDeques zero ds ts = ts
+tallyDeques (suc w) ds ts = tallyDeque ds w (tallyDeques w ds ts)
+
+abbrev pub next : List ℕ → ℕ → ℕ
+next fs p = frameAt fs p .parent
+
+-- the chain of free places; 65 steps along it pass its end
+unfoldable pub chain : List ℕ → ℕ → List ℕ
+chain fs first = follow 65 (next fs) first
+
+-- ---- deques
+
+-- place k of deque w is zero, if it is past the deque's n frames
+abbrev pub zeroPast : List ℕ → ℕ → ℕ → ℕ → Bool
+zeroPast ds w n k = ltb k n || eqb (place ds w k) 0
+
+-- deque w has at most 64 frames, none if the worker does not exist, and zeros past them
+abbrev pub dequeFits : ℕ → List ℕ → ℕ → Bool
+dequeFits workers ds w = leb (size ds w) 64 && ((ltb w workers || eqb (size ds w) 0) && all 64 (zeroPast ds w (size ds w)))
+
+-- a frame's outstanding count is 1 if there is a frame below it, else 0
+abbrev pub childBelow : Frame → Bool → Bool
+childBelow f more = eqb (f .outstanding) (cond more 1 0)
+
+-- of the frame f at place p, k places below the top of a deque of n frames, and the place above it
+abbrev pub inDeque : Frame → ℕ → ℕ → ℕ → ℕ → Bool
+inDeque f p above k n = (ltb p 64 && eqb (f .live) 1) && (eqb k 0 || (eqb (f .parent) above && childBelow f (ltb (suc k) n)))
+
+abbrev pub onDeque : List ℕ → List ℕ → ℕ → ℕ → Bool
+onDeque ds fs w k = inDeque (frameAt fs (place ds w k)) (place ds w k) (place ds w (k - 1)) k (size ds w)
+
+abbrev pub dequeSound : List ℕ → List ℕ → ℕ → Bool
+dequeSound ds fs w = all (size ds w) (onDeque ds fs w)
+
+-- ---- places
+
+abbrev pub isMain : Frame → Bool
+isMain f = eqb (f .live) 1 && eqb (f .depth) 0
+
+abbrev pub mainAt : List ℕ → ℕ → Bool
+mainAt fs p = isMain (frameAt fs p)
+
+abbrev pub mains : List ℕ → ℕ
+mains fs = howMany 64 (mainAt fs)
+
+-- of a live frame and the record that its parent's word names: Main has none, any other frame a live one, one shallower
+abbrev pub parentSound : Frame → Frame → Bool
+parentSound f g =
+    cond (eqb (f .depth) 0) (eqb (f .parent) none) (ltb (f .parent) 64 && (eqb (g .live) 1 && eqb (f .depth) (suc (g .depth))))
+
+-- of a live frame with c live children that stands on n places of deques: it waits if it stands on none
+abbrev pub placedSound : Frame → ℕ → ℕ → Bool
+placedSound f c n = (eqb n 1 && eqb (f .suspended) 0) || (eqb n 0 && (eqb (f .suspended) 1 && ltb 0 c))
+
+-- the same, on e places of the free chain
+abbrev pub liveSound : Frame → Frame → ℕ → ℕ → ℕ → Bool
+liveSound f g c n e = (eqb e 0 && eqb (f .outstanding) c) && (parentSound f g && placedSound f c n)
+
+-- of a free place, on e places of the free chain
+abbrev pub freeSound : Frame → ℕ → Bool
+freeSound f e =
+    eqb e 1 && (eqb (f .live) 0 && (eqb (f .depth) 0 && (eqb (f .outstanding) 0 && (eqb (f .suspended) 0 && eqb (f .root) 0))))
+
+abbrev pub placeSound : List ℕ → ℕ → ℕ → ℕ → ℕ → Bool
+placeSound fs p c n e =
+    cond (eqb (frameAt fs p .live) 1) (liveSound (frameAt fs p) (frameAt fs (frameAt fs p .parent)) c n e) (freeSound (frameAt fs p) e)
+
+-- every place, with its tallies of children, of places of deques and of places of the chain
+abbrev pub placeTallied : List ℕ → List ℕ → List ℕ → List ℕ → ℕ → Bool
+placeTallied fs children seen free p = placeSound fs p (getD children p 0) (getD seen p 0) (getD free p 0)
+
+-- ---- the whole
+
+abbrev pub zeros : List ℕ
+zeros = replicate 64 0
+
+-- a place, with the tallies of the whole check
+abbrev pub placeChecked : ℕ → List ℕ → List ℕ → ℕ → Bool
+placeChecked first ds fs = placeTallied fs (tallyChildren fs zeros) (tallyDeques 8 ds zeros) (tallyList (chain fs first) zeros)
+
+-- where a frame lives its ancestors lead to a Main, so one at most is enough
+unfoldable pub checkFrames : ℕ → ℕ → List ℕ → List ℕ → Bool
+checkFrames workers first ds fs =
+    all 8 (dequeFits workers ds) &&
+    ((all 8 (dequeSound ds fs) && below 64 (chain fs first)) &&
+    (leb (mains fs) 1 && all 64 (placeChecked first ds fs)))

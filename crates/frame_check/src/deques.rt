@@ -1,0 +1,91 @@
+// The deques: what each has to be by itself, and its frames.
+ghost use mathlib.Core.Path.{_≡_};
+ghost use Rattle.words.specs.Basics.{all};
+ghost use Rattle.frame_check.specs.Algorithm.{tallyDeque, tallyDeques, zeroPast, dequeFits, childBelow, inDeque, dequeSound};
+use super::tallies::bump;
+use frames::Frame;
+use frames::deque_place;
+use frames::deque_size;
+use frames::frame_in;
+
+// The places past the first n are zero.
+fn rest_zero(deques: &[u32], w: u32, n: u32) -> bool
+    ensures { λ r. ⌜ r ≡ all 64 (zeroPast (now (deques .entry)) w n) ⌝ }
+{
+    let mut sound = true;
+    let mut k: u32 = 0;
+    while k < 64 {
+        sound = sound & ((k < n) | (deque_place(deques, w, k) == 0));
+        k += 1;
+    }
+    sound
+}
+
+// What deque w has to be whatever its frames are.
+fn deque_fits(workers: u32, deques: &[u32], w: u32) -> bool
+    ensures { λ r. ⌜ r ≡ dequeFits workers (now (deques .entry)) w ⌝ }
+{
+    let n = deque_size(deques, w);
+    (n <= 64) & (((w < workers) | (n == 0)) & rest_zero(deques, w, n))
+}
+
+pub fn deques_fit(workers: u32, deques: &[u32]) -> bool
+    ensures { λ r. ⌜ r ≡ all 8 (dequeFits workers (now (deques .entry))) ⌝ }
+{
+    let mut sound = true;
+    let mut w: u32 = 0;
+    while w < 8 {
+        sound = sound & deque_fits(workers, deques, w);
+        w += 1;
+    }
+    sound
+}
+
+// One outstanding child if there is a frame below, else none.
+fn child_below(f: Frame, more: bool) -> bool
+    ensures { λ r. ⌜ r ≡ childBelow f more ⌝ }
+{
+    if more {
+        f.outstanding == 1
+    } else {
+        f.outstanding == 0
+    }
+}
+
+// What the frame f at place p has to be, k places below the top of a deque of n frames.
+fn in_deque(f: Frame, p: u32, above: u32, k: u32, n: u32) -> bool
+    ensures { λ r. ⌜ r ≡ inDeque f p above k n ⌝ }
+{
+    let only = child_below(f, 1 < words::sub(n, k));
+    ((p < 64) & (f.live == 1)) & ((k == 0) | ((f.parent == above) & only))
+}
+
+// Counts the frames of deque w; whether they are sound.
+fn tally_deque(tallies: &mut [u32], deques: &[u32], frames: &[u32], w: u32) -> bool
+    ensures { λ r. ⌜ (now (tallies .exit) ≡ tallyDeque (now (deques .entry)) w (now (tallies .entry))) × (r ≡ dequeSound (now (deques .entry)) (now (frames .entry)) w) ⌝ }
+{
+    let n = deque_size(deques, w);
+    let mut sound = true;
+    let mut k: u32 = 0;
+    while k < n {
+        let p = deque_place(deques, w, k);
+        let above = deque_place(deques, w, words::sub(k, 1));
+        bump(tallies, p);
+        sound = sound & in_deque(frame_in(frames, p), p, above, k, n);
+        k += 1;
+    }
+    sound
+}
+
+// The same of all deques.
+pub fn tally_deques(tallies: &mut [u32], deques: &[u32], frames: &[u32]) -> bool
+    ensures { λ r. ⌜ (now (tallies .exit) ≡ tallyDeques 8 (now (deques .entry)) (now (tallies .entry))) × (r ≡ all 8 (dequeSound (now (deques .entry)) (now (frames .entry)))) ⌝ }
+{
+    let mut sound = true;
+    let mut w: u32 = 0;
+    while w < 8 {
+        sound = sound & tally_deque(tallies, deques, frames, w);
+        w += 1;
+    }
+    sound
+}

@@ -1,0 +1,24 @@
+// The frames and deques of document 01's soundness, decided on any words in time linear in the places.
+mod deques;
+mod places;
+mod tallies;
+
+ghost use mathlib.Core.Path.{_≡_};
+ghost use Rattle.soundness.specs.Soundness.{framesSound};
+
+// first is the first free place.
+pub fn check_frames(workers: u32, first: u32, deques: &[u32], frames: &[u32]) -> bool
+    ensures { λ r. ⌜ r ≡ framesSound workers first (now (deques .entry)) (now (frames .entry)) ⌝ }
+{
+    if !deques::deques_fit(workers, deques) {
+        return false;
+    }
+    let mut children = [0u32; 64];
+    let mut seen = [0u32; 64];
+    let mut free = [0u32; 64];
+    tallies::tally_children(&mut children, frames);
+    let placed = deques::tally_deques(&mut seen, deques, frames);
+    let chained = tallies::tally_chain(&mut free, frames, first);
+    let mains = places::count_mains(frames);
+    (placed & chained) & ((mains <= 1) & places::places_sound(frames, &children, &seen, &free))
+}

@@ -1,0 +1,53 @@
+// How often each place stands somewhere, counted in a word for each place.
+ghost use mathlib.Core.Path.{_≡_};
+ghost use Rattle.words.specs.Basics.{below};
+ghost use Rattle.frame_check.specs.Algorithm.{bump, tallyList, childAt, tallyChildren, chain};
+use frames::Frame;
+use frames::NONE;
+use frames::frame_in;
+
+// One more at p; past the end, nothing.
+pub fn bump(tallies: &mut [u32], p: u32)
+    ensures { λ _. ⌜ now (tallies .exit) ≡ bump (now (tallies .entry)) p ⌝ }
+{
+    let at = p as usize;
+    let n = words::word(tallies, at);
+    words::put(tallies, at, words::add(n, 1));
+}
+
+// The place where a frame is counted as a child.
+fn child_at(f: Frame) -> u32
+    ensures { λ r. ⌜ r ≡ childAt f ⌝ }
+{
+    if f.live == 1 { f.parent } else { NONE }
+}
+
+// Counts each place's live children.
+pub fn tally_children(tallies: &mut [u32], frames: &[u32])
+    ensures { λ _. ⌜ now (tallies .exit) ≡ tallyChildren (now (frames .entry)) (now (tallies .entry)) ⌝ }
+{
+    let mut c: u32 = 0;
+    while c < 64 {
+        bump(tallies, child_at(frame_in(frames, c)));
+        c += 1;
+    }
+}
+
+// Counts the places of the free chain; whether all are places.
+pub fn tally_chain(tallies: &mut [u32], frames: &[u32], first: u32) -> bool
+    ensures { λ r. ⌜ (now (tallies .exit) ≡ tallyList (chain (now (frames .entry)) first) (now (tallies .entry))) × (r ≡ below 64 (chain (now (frames .entry)) first)) ⌝ }
+{
+    let mut left: u32 = 65;
+    let mut p = first;
+    let mut sound = true;
+    while left > 0 {
+        if p == NONE {
+            return sound;
+        }
+        bump(tallies, p);
+        sound = sound & (p < 64);
+        p = frame_in(frames, p).parent;
+        left -= 1;
+    }
+    sound
+}
