@@ -108,15 +108,27 @@ wrote c w x v =
 
 -- ---- a step
 
+-- refusals 13 to 16, of the kind alone
+abbrev pub kindTests : Core → Step → List (Bool × Refusal)
+kindTests c (Spawn w) = (eqb (c .head .vacant) none, FramesFull) ∷ []
+kindTests c (Return w) = (not (eqb (actingIn c w .outstanding) 0), ChildLives) ∷ []
+kindTests c (Steal w v) = []
+kindTests c (Sync w) = []
+kindTests c (Read w x) = (not (ltb x (c .head .splitters)), NoSplitter) ∷ []
+kindTests c (Write w x v) = (not (ltb x (c .head .splitters)), NoSplitter) ∷ (leb (c .head .spare) (c .head .height), PoolFull) ∷ []
+
+-- refusals 8, 9, 11 and 12
+abbrev pub stealTests : Core → ℕ → ℕ → List (Bool × Refusal)
+stealTests c w v = (noWorker c w, NoWorker) ∷ (allIdle c, MainReturned) ∷ (not (idle c w), ThiefBusy) ∷ (noWorker c v || ltb (size (c .deques) v) 2, NoVictim) ∷ []
+
 -- its refusals, in checking order
 abbrev pub testsOf : Core → Step → List (Bool × Refusal)
-testsOf c (Spawn w) = actingTests c w ++ (eqb (c .head .vacant) none, FramesFull) ∷ []
-testsOf c (Return w) = actingTests c w ++ (not (eqb (actingIn c w .outstanding) 0), ChildLives) ∷ []
-testsOf c (Steal w v) =
-    (noWorker c w, NoWorker) ∷ (allIdle c, MainReturned) ∷ (not (idle c w), ThiefBusy) ∷ (noWorker c v || ltb (size (c .deques) v) 2, NoVictim) ∷ []
-testsOf c (Sync w) = actingTests c w ++ []
-testsOf c (Read w x) = actingTests c w ++ (not (ltb x (c .head .splitters)), NoSplitter) ∷ []
-testsOf c (Write w x v) = actingTests c w ++ (not (ltb x (c .head .splitters)), NoSplitter) ∷ (leb (c .head .spare) (c .head .height), PoolFull) ∷ []
+testsOf c (Spawn w) = actingTests c w ++ kindTests c (Spawn w)
+testsOf c (Return w) = actingTests c w ++ kindTests c (Return w)
+testsOf c (Steal w v) = stealTests c w v
+testsOf c (Sync w) = actingTests c w ++ kindTests c (Sync w)
+testsOf c (Read w x) = actingTests c w ++ kindTests c (Read w x)
+testsOf c (Write w x v) = actingTests c w ++ kindTests c (Write w x v)
 
 -- what it does if none holds
 abbrev pub doneBy : Core → Step → Did

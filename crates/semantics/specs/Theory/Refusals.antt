@@ -30,7 +30,7 @@ use Rattle.semantics.specs.declared.Refusal.{Refusal}
 use Rattle.semantics.specs.declared.Refusal.the-variants.{Values, Workers, Nodes, Tape, Work, Unsound, Record, NoWorker, MainReturned, WorkerIdle, ThiefBusy, NoVictim, FramesFull, ChildLives, NoSplitter, PoolFull}
 use Rattle.semantics.specs.declared.Answer.the-variants.{Refused}
 use Rattle.semantics.specs.Answers.{refusalNumber}
-use Rattle.semantics.specs.Core.{Core, Did, actingIn, idle, noWorker, allIdle, judged, actingTests, stepOn, testsOf, doneBy}
+use Rattle.semantics.specs.Core.{Core, Did, actingIn, idle, noWorker, allIdle, judged, actingTests, stepOn, testsOf, doneBy, kindTests}
 use Rattle.semantics.specs.Theory.Relation.{Trees, placesOf, Relates}
 use Rattle.semantics.specs.Theory.Places.{in-deque, sum-count, all-once, childCount-test, depth-few, placed-inside, acting-frame, acting-record}
 
@@ -206,13 +206,13 @@ step-judged c st = refl
 
 module _ {P : Trees} {M : Machine} {c : Core} (r : Relates P M c) (tree : FrameTree M) (shape : DequeInvariant M) (spare : c .head .spare ≡ freeNodes M) where
   alike : (st : Step) → Alike (testsOf c st) (turnTests M (turnOf st))
-  alike (Spawn w) = acting-alike r tree shape w spawn ((eqb (c .head .vacant) none, FramesFull) ∷ []) (λ q d lt e. (vacant-same r, refl, λ x. tt))
-  alike (Return w) = acting-alike r tree shape w return ((not (eqb (actingIn c w .outstanding) 0), ChildLives) ∷ []) (λ q d lt e. (child-same r w q d lt e, refl, λ x. tt))
+  alike (Spawn w) = acting-alike r tree shape w spawn (kindTests c (Spawn w)) (λ q d lt e. (vacant-same r, refl, λ x. tt))
+  alike (Return w) = acting-alike r tree shape w return (kindTests c (Return w)) (λ q d lt e. (child-same r w q d lt e, refl, λ x. tt))
   alike (Steal w v) = (worker-same r w, refl, λ x. (ended-same r tree shape, refl, λ y. (ap not (idle-same r w), refl, λ z. (victim-same r v, refl, λ u. tt))))
   alike (Sync w) = acting-alike r tree shape w sync [] (λ q d lt e. tt)
-  alike (Read w x) = acting-alike r tree shape w (read x) ((not (ltb x (c .head .splitters)), NoSplitter) ∷ []) (λ q d lt e. (splitter-same r x, refl, λ y. tt))
+  alike (Read w x) = acting-alike r tree shape w (read x) (kindTests c (Read w x)) (λ q d lt e. (splitter-same r x, refl, λ y. tt))
   alike (Write w x v) =
-      acting-alike r tree shape w (write x v) ((not (ltb x (c .head .splitters)), NoSplitter) ∷ (leb (c .head .spare) (c .head .height), PoolFull) ∷ [])
+      acting-alike r tree shape w (write x v) (kindTests c (Write w x v))
       (λ q d lt e. (splitter-same r x, refl, λ y. (room-same r spare, refl, λ z. tt)))
 
   pub refused-alike : (st : Step)
