@@ -1,0 +1,83 @@
+-- Laws over plain variables that the functions' proofs cite.
+use mathlib.Core.Path.{_≡_, refl, sym, ap, _∙_}
+use mathlib.Core.Logic.{inl, inr}
+use mathlib.Core.Bool.{Bool, true, false, not, _||_, _&&_}
+use mathlib.Core.List.{List, []}
+use Prim.Native.Nat.{ℕ, suc, _-_, _≤_, _<_}
+use native.Mathlib.Omega.{arith}
+use lib.Dec.{eqb, ltb}
+use borrow.Author.Tests.{eq-eqb, ne-eqb, lt-ltb, le-ltb}
+use Rattle.words.specs.Basics.{all}
+use Rattle.words.specs.Tests.{decided, true≢false, neither, not-false, lt-of, ge-of}
+use Rattle.words.specs.Counting.{all-at}
+use Rattle.frames.specs.Deques.{size}
+use Rattle.semantics.specs.declared.Head.{Head}
+use Rattle.semantics.specs.declared.Refusal.the-variants.{NoWorker, MainReturned, WorkerIdle, ThiefBusy, NoVictim}
+use Rattle.semantics.specs.Core.{actingTests}
+use Rattle.engine.specs.declared.Verdict.the-variants.{Pass, Refuse}
+use Rattle.engine.specs.Promises.{core, verdict, stealTests}
+
+-- ---- all idle
+
+-- one number less, of which f holds
+pub all-less : (f : ℕ → Bool) (n : ℕ) → 0 < n → f (n - 1) ≡ true → all (n - 1) f ≡ all n f
+all-less f n h e =
+    let s : n ≡ suc (n - 1) = omega arith in
+    and-true (all (n - 1) f) ∙ ap (λ b. all (n - 1) f && b) (sym e) ∙ ap (λ (k : ℕ). all k f) (sym s)
+  where
+    and-true : (b : Bool) → b ≡ b && true
+    and-true true = refl
+    and-true false = refl
+
+-- some number below n, of which f does not hold
+pub all-not : (n : ℕ) (f : ℕ → Bool) (i : ℕ) → i < n → f i ≡ false → all n f ≡ false
+all-not n f i b e = elim (decided (all n f)) [ inl t ↦ absurd (true≢false (sym (all-at n f t i b) ∙ e)) | inr t ↦ t ]
+
+-- no number is left
+pub all-none : (f : ℕ → Bool) (n : ℕ) → n ≤ 0 → all n f ≡ true
+all-none f n h = let z : n ≡ 0 = omega arith in ap (λ (k : ℕ). all k f) z
+
+-- ---- the verdicts' ways out
+
+module _ (h : Head) (ds : List ℕ) where
+  abbrev idles : Bool
+  idles = all (h .workers) (λ w. eqb (size ds w) 0)
+
+  -- a worker that is not idle
+  busy : (w n : ℕ) → w < h .workers → n ≡ size ds w → (n ≡ 0 → ⊥) → idles ≡ false
+  busy w n l e z = all-not (h .workers) (λ v. eqb (size ds v) 0) w l (ne-eqb (size ds w) 0 (λ q. z (e ∙ q)))
+
+  module _ (w : ℕ) where
+    pub acting-no-worker : h .workers ≤ w → Refuse NoWorker ≡ verdict (actingTests (core h ds [] []) w)
+    acting-no-worker l = rw (le-ltb w (h .workers) l)
+
+    pub acting-passes : (n : ℕ) → w < h .workers → n ≡ size ds w → (n ≡ 0 → ⊥) → Pass ≡ verdict (actingTests (core h ds [] []) w)
+    acting-passes n l e z = rw (lt-ltb w (h .workers) l, busy w n l e z, ne-eqb (size ds w) 0 (λ q. z (e ∙ q)))
+
+    pub acting-main-returned : w < h .workers → idles ≡ true → Refuse MainReturned ≡ verdict (actingTests (core h ds [] []) w)
+    acting-main-returned l a = rw (lt-ltb w (h .workers) l, a)
+
+    pub acting-idle : (n : ℕ) → w < h .workers → n ≡ size ds w → n ≡ 0 → idles ≡ false → Refuse WorkerIdle ≡ verdict (actingTests (core h ds [] []) w)
+    acting-idle n l e z a = rw (lt-ltb w (h .workers) l, a, eq-eqb (size ds w) 0 (sym e ∙ z))
+
+    module _ (v : ℕ) where
+      pub steal-no-worker : h .workers ≤ w → Refuse NoWorker ≡ verdict (stealTests (core h ds [] []) w v)
+      steal-no-worker l = rw (le-ltb w (h .workers) l)
+
+      module _ (l : w < h .workers) (n : ℕ) (e : n ≡ size ds w) where
+        pub steal-busy : (n ≡ 0 → ⊥) → Refuse ThiefBusy ≡ verdict (stealTests (core h ds [] []) w v)
+        steal-busy z = rw (lt-ltb w (h .workers) l, busy w n l e z, ne-eqb (size ds w) 0 (λ q. z (e ∙ q)))
+
+        module _ (z : n ≡ 0) (b : Bool) (eb : b ≡ (not (ltb v (h .workers)) || ltb (size ds v) 2)) where
+          pub steal-passes : b ≡ false → Pass ≡ verdict (stealTests (core h ds [] []) w v)
+          steal-passes f =
+              let q = neither (not (ltb v (h .workers))) (ltb (size ds v) 2) (sym eb ∙ f) in
+              let lv : v < h .workers = lt-of (not-false (ltb v (h .workers)) (q .0)) in
+              let two : 2 ≤ size ds v = ge-of (q .1) in
+              rw (lt-ltb w (h .workers) l, busy v (size ds v) lv refl (λ o. omega arith), eq-eqb (size ds w) 0 (sym e ∙ z), lt-ltb v (h .workers) lv, q .1)
+
+          pub steal-main-returned : idles ≡ true → Refuse MainReturned ≡ verdict (stealTests (core h ds [] []) w v)
+          steal-main-returned a = rw (lt-ltb w (h .workers) l, a)
+
+          pub steal-no-victim : b ≡ true → idles ≡ false → Refuse NoVictim ≡ verdict (stealTests (core h ds [] []) w v)
+          steal-no-victim t a = rw (lt-ltb w (h .workers) l, a, eq-eqb (size ds w) 0 (sym e ∙ z), ← eb, t)

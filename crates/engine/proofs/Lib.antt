@@ -1,0 +1,5 @@
+pub mod Laws
+pub mod Steps
+pub mod Turns
+pub mod Starts
+pub mod Checks

@@ -1,0 +1,153 @@
+-- The ways out of the six kinds of steps, over plain variables.
+use mathlib.Core.Path.{_≡_, refl}
+use mathlib.Core.Bool.{Bool, true, false, not}
+use mathlib.Core.List.{List, [], _∷_, _++_}
+use Prim.Native.Nat.{ℕ}
+use lib.Dec.{eqb, ltb, leb}
+use Rattle.words.specs.Basics.{none, plus}
+use Rattle.pool.specs.Pool.{readAt, retain, release, write}
+use Rattle.frames.specs.declared.Frame.{Frame}
+use Rattle.frames.specs.declared.Returned.{Returned}
+use Rattle.frames.specs.declared.Synced.{Synced}
+use Rattle.frames.specs.Frames.{frameAt, setFrame, withRoot}
+use Rattle.frames.specs.Deques.{bottom, top}
+use Rattle.frames.specs.Steps.{spawn, steal}
+use Rattle.frames.specs.Promises.{table, IsReturn, IsSync}
+use Rattle.model.specs.declared.Decoded.{Decoded}
+use Rattle.model.specs.declared.Decoded.the-variants.{Valid, Invalid}
+use Rattle.model.specs.declared.Step.{Step}
+use Rattle.model.specs.declared.Step.the-variants.{Spawn, Return, Steal, Sync, Read, Write}
+use Rattle.semantics.specs.declared.Head.{Head}
+use Rattle.semantics.specs.declared.Done.the-variants.{Spawned, Ended, Stolen, Waited, Value, Written}
+use Rattle.semantics.specs.declared.Refusal.{Refusal}
+use Rattle.semantics.specs.declared.Refusal.the-variants.{Record, FramesFull, ChildLives, NoSplitter, PoolFull}
+use Rattle.semantics.specs.declared.Answer.{Answer}
+use Rattle.semantics.specs.declared.Answer.the-variants.{Accepted, Refused}
+use Rattle.semantics.specs.Core.{Core, Did, did, withVacant, withFree, judged, actingTests, spawned, ended, robbed, waited, valued, wrote, stepOn}
+use Rattle.semantics.specs.Entries.{recordOn}
+use Rattle.engine.specs.declared.Verdict.{Verdict}
+use Rattle.engine.specs.declared.Verdict.the-variants.{Pass, Refuse}
+use Rattle.engine.specs.Promises.{core, verdict, orRefuse, stealTests}
+
+-- ---- a step is judged by its verdict
+
+unfoldable pub by : Verdict → Core → Did → Did
+by Pass c d = d
+by (Refuse r) c d = record { core = c; answer = Refused r }
+
+pub judged-by : (ts : List (Bool × Refusal)) (c : Core) (d : Did) (v : Verdict) → v ≡ verdict ts → by v c d ≡ judged ts c d
+unfolding by
+judged-by ts c d v e = rw e (go ts)
+  where
+    go : (us : List (Bool × Refusal)) → by (verdict us) c d ≡ judged us c d
+    go [] = refl
+    go ((true, r) ∷ us) = refl
+    go ((false, r) ∷ us) = go us
+
+-- a test more
+pub verdict-more : (ts : List (Bool × Refusal)) (b : Bool) (r : Refusal) (u v : Verdict) → u ≡ verdict ts → v ≡ orRefuse u b r → v ≡ verdict (ts ++ (b, r) ∷ [])
+verdict-more ts b r u v eu ev = rw (ev, eu) (go ts)
+  where
+    go : (us : List (Bool × Refusal)) → orRefuse (verdict us) b r ≡ verdict (us ++ (b, r) ∷ [])
+    go [] = refl
+    go ((true, q) ∷ us) = refl
+    go ((false, q) ∷ us) = go us
+
+-- refused: nothing changes
+pub refused-out : (h h′ : Head) (ds fs ws : List ℕ) (d : Did) (v : Verdict) (q : Refusal) (a : Answer)
+    → v ≡ Refuse q → (h′ ≡ h) × (a ≡ Refused q) → did h′ ds fs ws a ≡ by v (core h ds fs ws) d
+unfolding by
+refused-out h h′ ds fs ws d v q a ev e = rw (ev, e .0, e .1)
+
+pub passed-out : (c : Core) (d d′ : Did) (v : Verdict) → v ≡ Pass → d′ ≡ d → d′ ≡ by v c d
+unfolding by
+passed-out c d d′ v ev e = rw ev e
+
+-- ---- the kinds' verdicts
+
+judged-more : (c : Core) (ts : List (Bool × Refusal)) (b : Bool) (r : Refusal) (u v : Verdict) (d : Did) → u ≡ verdict ts → v ≡ orRefuse u b r
+    → by v c d ≡ judged (ts ++ (b, r) ∷ []) c d
+judged-more c ts b r u v d eu ev = judged-by (ts ++ (b, r) ∷ []) c d v (verdict-more ts b r u v eu ev)
+
+module _ (h : Head) (ds fs ws : List ℕ) (w : ℕ) where
+  abbrev c : Core
+  c = core h ds fs ws
+
+  module _ (u : Verdict) (eu : u ≡ verdict (actingTests (core h ds [] []) w)) where
+    pub spawn-by : (v : Verdict) → v ≡ orRefuse u (eqb (h .vacant) none) FramesFull → by v (core h ds fs ws) (spawned (core h ds fs ws) w) ≡ stepOn (core h ds fs ws) (Spawn w)
+    unfolding stepOn
+    spawn-by v e = judged-more c (actingTests c w) _ _ u v (spawned c w) eu e
+
+    pub return-by : (v : Verdict) (p : ℕ) (f : Frame) → p ≡ bottom ds w → f ≡ frameAt fs p → v ≡ orRefuse u (not (eqb (f .outstanding) 0)) ChildLives
+        → by v (core h ds fs ws) (ended (core h ds fs ws) w) ≡ stepOn (core h ds fs ws) (Return w)
+    unfolding stepOn
+    return-by v p f ep ef e =
+        let o : ℕ = frameAt fs (bottom ds w) .outstanding in
+        let eo : v ≡ orRefuse u (not (eqb o 0)) ChildLives = rw (← ep, ← ef) e in
+        judged-more c (actingTests c w) _ _ u v (ended c w) eu eo
+
+    pub sync-by : by u (core h ds fs ws) (waited (core h ds fs ws) w) ≡ stepOn (core h ds fs ws) (Sync w)
+    unfolding stepOn
+    sync-by = judged-by (actingTests c w) c (waited c w) u eu
+
+    module _ (x : ℕ) (v : Verdict) (ev : v ≡ orRefuse u (not (ltb x (h .splitters))) NoSplitter) where
+      pub read-by : by v (core h ds fs ws) (valued (core h ds fs ws) w x) ≡ stepOn (core h ds fs ws) (Read w x)
+      unfolding stepOn
+      read-by = judged-more c (actingTests c w) _ _ u v (valued c w x) eu ev
+
+      pub write-by : (y : ℕ) (t : Verdict) → t ≡ orRefuse v (leb (h .spare) (h .height)) PoolFull
+          → by t (core h ds fs ws) (wrote (core h ds fs ws) w x y) ≡ stepOn (core h ds fs ws) (Write w x y)
+      unfolding stepOn
+      write-by y t e =
+          let ts : List (Bool × Refusal) = actingTests c w ++ (not (ltb x (h .splitters)), NoSplitter) ∷ [] in
+          judged-more c ts _ _ v t (wrote c w x y) (verdict-more (actingTests c w) _ _ u v eu ev) e
+
+  pub steal-by : (x : ℕ) (v : Verdict) → v ≡ verdict (stealTests (core h ds [] []) w x) → by v (core h ds fs ws) (robbed (core h ds fs ws) w x) ≡ stepOn (core h ds fs ws) (Steal w x)
+  unfolding stepOn
+  steal-by x v e = judged-by (stealTests c w x) c (robbed c w x) v e
+
+-- ---- accepted
+
+module _ (h : Head) (ds fs ws : List ℕ) (w p : ℕ) (f : Frame) (ep : p ≡ bottom ds w) (ef : f ≡ frameAt fs p) where
+  pub spawn-acts : (h′ : Head) (ds′ fs′ ws′ : List ℕ) (k vacant : ℕ) → ws′ ≡ retain ws (f .root) → table ds′ fs′ vacant ≡ spawn (table ds fs (h .vacant)) w → h′ ≡ withVacant h vacant
+      → k ≡ plus (f .depth) 1 → did h′ ds′ fs′ ws′ (Accepted (Spawned k)) ≡ spawned (core h ds fs ws) w
+  unfolding spawned
+  spawn-acts h′ ds′ fs′ ws′ k vacant ew et eh ek = rw (ek, eh, ew, ← et, ← ep, ← ef)
+
+  pub return-acts : (h′ g : Head) (ds′ fs′ ws′ : List ℕ) (first count vacant : ℕ) (o : Returned) → (ws′ ≡ release (h .height) ws (h .free) (h .spare) (f .root) .0)
+          × (first ≡ release (h .height) ws (h .free) (h .spare) (f .root) .1)
+          × (count ≡ release (h .height) ws (h .free) (h .spare) (f .root) .2)
+      → IsReturn (table ds fs (h .vacant)) w (table ds′ fs′ vacant) o → g ≡ withVacant h vacant → h′ ≡ withFree g first count
+      → did h′ ds′ fs′ ws′ (Accepted (Ended o)) ≡ ended (core h ds fs ws) w
+  unfolding ended
+  return-acts h′ g ds′ fs′ ws′ first count vacant o er et eg eh = rw (et .outcome, eh, eg, er .0, er .1, er .2, ← et .after, ← ep, ← ef)
+
+  pub read-acts : (x y : ℕ) → y ≡ readAt (h .height) ws (f .root) x → did h ds fs ws (Accepted (Value y)) ≡ valued (core h ds fs ws) w x
+  unfolding valued
+  read-acts x y e = rw (e, ← ep, ← ef)
+
+  pub write-acts : (h′ : Head) (fs′ ws′ : List ℕ) (x y first count : ℕ) (g : Frame) → (ws′ ≡ write (h .height) ws (h .free) (h .spare) (f .root) x y .0)
+          × (first ≡ write (h .height) ws (h .free) (h .spare) (f .root) x y .1)
+          × (count ≡ write (h .height) ws (h .free) (h .spare) (f .root) x y .2)
+      → g ≡ withRoot f (h .free) → fs′ ≡ setFrame fs p g → h′ ≡ withFree h first count
+      → did h′ ds fs′ ws′ (Accepted (Written count)) ≡ wrote (core h ds fs ws) w x y
+  unfolding wrote
+  write-acts h′ fs′ ws′ x y first count g ew eg es eh = rw (eh, es, eg, ew .0, ew .1, ew .2, ← ep, ← ef)
+
+pub steal-acts : (h : Head) (ds fs ws ds′ : List ℕ) (w v p : ℕ) (f : Frame) → p ≡ top ds v → f ≡ frameAt fs p
+    → ((gs : List ℕ) (free : ℕ) → table ds′ gs free ≡ steal (table ds gs free) w v) → did h ds′ fs ws (Accepted (Stolen (f .depth))) ≡ robbed (core h ds fs ws) w v
+unfolding robbed
+steal-acts h ds fs ws ds′ w v p f ep ef et = rw (← et fs (h .vacant), ← ep, ← ef)
+
+pub sync-acts : (h : Head) (ds fs ws ds′ fs′ : List ℕ) (w : ℕ) (o : Synced) → IsSync ds fs w ds′ fs′ o → did h ds′ fs′ ws (Accepted (Waited o)) ≡ waited (core h ds fs ws) w
+unfolding waited
+sync-acts h ds fs ws ds′ fs′ w o e = rw (e .outcome (h .vacant), ← e .after (h .vacant))
+
+-- ---- a record
+
+pub record-refused : (h h′ : Head) (ds fs ws : List ℕ) (e d : Decoded) (a : Answer) → e ≡ d → e ≡ Invalid → (h′ ≡ h) × (a ≡ Refused Record)
+    → did h′ ds fs ws a ≡ recordOn (core h ds fs ws) d
+record-refused h h′ ds fs ws e d a ed ei eo = rw (← ed, ei, eo .0, eo .1)
+
+pub record-steps : (c : Core) (e d : Decoded) (s : Step) (o : Did) → e ≡ d → e ≡ Valid s → o ≡ stepOn c s → o ≡ recordOn c d
+record-steps c e d s o ed ev eo = rw (← ed, ev) eo

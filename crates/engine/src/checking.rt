@@ -1,0 +1,50 @@
+// Soundness, checked once a call: numbers first, then frames and deques, then the pool.
+ghost use mathlib.Core.Path.{_≡_};
+ghost use mathlib.Core.Bool.{_&&_};
+ghost use Rattle.soundness.specs.Soundness.{numbersSound, framesSound, checked, cleared};
+use frame_check::check_frames;
+use pool_check::PoolChecked;
+use pool_check::check_pool;
+use pool_check::clear;
+use soundness::Checked;
+use soundness::Numbers;
+
+fn check_numbers(numbers: Numbers, pool: &[u32]) -> bool
+    ensures { λ r. ⌜ r ≡ numbersSound numbers (now (pool .entry)) ⌝ }
+{
+    let fits = (numbers.nodes <= 16384) & (4 * (numbers.nodes as usize) <= pool.len());
+    let tree = (sizes::tree_nodes(numbers.splitters) <= numbers.nodes as u64) & fits;
+    let splitters = (1 <= numbers.splitters) & ((numbers.splitters <= 256) & tree);
+    (1 <= numbers.workers) & ((numbers.workers <= 8) & splitters)
+}
+
+// All but the pool.
+fn check_tables(numbers: Numbers, deques: &[u32], frames: &[u32], pool: &[u32]) -> bool
+    ensures { λ r. ⌜ r ≡ (numbersSound numbers (now (pool .entry))
+        && framesSound (numbers .workers) (numbers .vacant) (now (deques .entry)) (now (frames .entry))) ⌝ }
+{
+    if !check_numbers(numbers, pool) {
+        return false;
+    }
+    check_frames(numbers.workers, numbers.vacant, deques, frames)
+}
+
+// Are state and pool sound? The work slice's first words, one for each recorded node, are zero afterwards, unless it has fewer.
+pub fn check(numbers: Numbers, deques: &[u32], frames: &[u32], pool: &[u32], work: &mut [u32]) -> Checked
+    ensures { λ r. ⌜ (now (work .exit) ≡ cleared (numbers .nodes) (now (work .entry)))
+        × (r ≡ checked numbers (now (deques .entry)) (now (frames .entry)) (now (pool .entry)) (now (work .entry))) ⌝ }
+{
+    let nodes = numbers.nodes;
+    if (nodes as usize) > work.len() {
+        return Checked::NoRoom;
+    }
+    if !check_tables(numbers, deques, frames, pool) {
+        clear(work, nodes);
+        return Checked::Unsound;
+    }
+    let answer = check_pool(numbers.splitters, nodes, numbers.free, frames, pool, work);
+    let PoolChecked::Good(free) = answer else {
+        return Checked::Unsound;
+    };
+    Checked::Sound(free)
+}

@@ -1,0 +1,86 @@
+// A step of any kind, a record, and the tape.
+ghost use mathlib.Core.Path.{_≡_};
+ghost use Prim.Native.Nat.{_+_};
+ghost use lib.ListN.{set};
+ghost use Rattle.model.specs.Record.{decodeAt};
+ghost use Rattle.semantics.specs.Core.{did, stepOn};
+ghost use Rattle.semantics.specs.Entries.{recordOn, recordsOf, ran, runOn};
+ghost use Rattle.engine.specs.Promises.{core};
+use crate::Out;
+use crate::answers::done_kind;
+use crate::answers::done_number;
+use crate::answers::first_word;
+use crate::kinds::refused;
+use crate::kinds::step_read;
+use crate::kinds::step_return;
+use crate::kinds::step_spawn;
+use crate::kinds::step_steal;
+use crate::kinds::step_sync;
+use crate::kinds::step_write;
+use model::Decoded;
+use model::Step;
+use model::record::decode;
+use semantics::Answer;
+use semantics::Head;
+use semantics::Refusal;
+
+pub fn take_step(h: Head, deques: &mut [u32], frames: &mut [u32], pool: &mut [u32], step: Step) -> Out
+    ensures { λ r. ⌜ did (r .head) (now (deques .exit)) (now (frames .exit)) (now (pool .exit)) (r .answer)
+        ≡ stepOn (core h (now (deques .entry)) (now (frames .entry)) (now (pool .entry))) step ⌝ }
+{
+    match step {
+        Step::Spawn(w) => step_spawn(h, deques, frames, pool, w),
+        Step::Return(w) => step_return(h, deques, frames, pool, w),
+        Step::Steal(w, v) => step_steal(h, deques, frames, pool, w, v),
+        Step::Sync(w) => step_sync(h, deques, frames, pool, w),
+        Step::Read(w, x) => step_read(h, deques, frames, pool, w, x),
+        Step::Write(w, x, v) => step_write(h, deques, frames, pool, w, x, v),
+    }
+}
+
+// The record at a place of the tape.
+pub fn step_record(h: Head, deques: &mut [u32], frames: &mut [u32], pool: &mut [u32], tape: &[u8], at: usize) -> Out
+    ensures { λ r. ⌜ did (r .head) (now (deques .exit)) (now (frames .exit)) (now (pool .exit)) (r .answer)
+        ≡ recordOn (core h (now (deques .entry)) (now (frames .entry)) (now (pool .entry))) (decodeAt (now (tape .entry)) at) ⌝ }
+{
+    let decoded = decode(tape, at);
+    let Decoded::Valid(step) = decoded else {
+        return refused(h, Refusal::Record);
+    };
+    take_step(h, deques, frames, pool, step)
+}
+
+// "Each record gives two answer words"
+fn put_answer(answers: &mut [u32], to: usize, first: u32, second: u32)
+    ensures { λ _. ⌜ now (answers .exit) ≡ set (set (now (answers .entry)) to first) (to + 1) second ⌝ }
+{
+    if to >= answers.len() {
+        return;
+    }
+    let next = to + 1;
+    words::put(answers, to, first);
+    words::put(answers, next, second);
+}
+
+// The tape's records in order. "A refused record gives its refusal and 0, and the tape goes on."
+pub fn run_tape(h: Head, deques: &mut [u32], frames: &mut [u32], pool: &mut [u32], tape: &[u8], answers: &mut [u32]) -> Head
+    ensures { λ r. ⌜ ran (core r (now (deques .exit)) (now (frames .exit)) (now (pool .exit))) (now (answers .exit))
+        ≡ runOn (ran (core h (now (deques .entry)) (now (frames .entry)) (now (pool .entry))) (now (answers .entry))) 0 (recordsOf (now (tape .entry))) ⌝ }
+{
+    let mut head = h;
+    let mut i: usize = 0;
+    while i < tape.len() / 8 {
+        let to = i * 2;
+        let at = i * 8;
+        i += 1;
+        let out = step_record(head, deques, frames, pool, tape, at);
+        head = out.head;
+        let answer = out.answer;
+        let Answer::Accepted(done) = answer else {
+            put_answer(answers, to, first_word(answer), 0);
+            continue;
+        };
+        put_answer(answers, to, done_kind(done), done_number(done));
+    }
+    head
+}
