@@ -191,6 +191,6 @@ module _ (s : State) (ws ks ks′ : List ℕ) (k : Checked) (ek : Checks (number
 
     pub tape-taken : (free : ℕ) (s′ : State) (ws′ rs′ : List ℕ) → k ≡ Sound free
         → (s′ ≡ stateOf (runOn (ran (coreOf s ws free) rs) 0 (recordsOf bytes) .core))
-          × (ws′ ≡ runOn (ran (coreOf s ws free) rs) 0 (recordsOf bytes) .core .pool) × (rs′ ≡ runOn (ran (coreOf s ws free) rs) 0 (recordsOf bytes) .answers)
+        × (ws′ ≡ runOn (ran (coreOf s ws free) rs) 0 (recordsOf bytes) .core .pool) × (rs′ ≡ runOn (ran (coreOf s ws free) rs) 0 (recordsOf bytes) .answers)
         → IsTape s ws ks bytes rs s′ ws′ ks′ rs′ Taken
     tape-taken free s′ ws′ rs′ e o = by-tape s′ ws′ rs′ Taken (rw (e, ek .0, o .0, o .1, o .2))

@@ -13,9 +13,9 @@ use Rattle.words.specs.Counting.{all-at}
 use Rattle.frames.specs.Deques.{size}
 use Rattle.semantics.specs.declared.Head.{Head}
 use Rattle.semantics.specs.declared.Refusal.the-variants.{NoWorker, MainReturned, WorkerIdle, ThiefBusy, NoVictim}
-use Rattle.semantics.specs.Core.{actingTests}
+use Rattle.semantics.specs.Core.{actingTests, stealTests}
 use Rattle.engine.specs.declared.Verdict.the-variants.{Pass, Refuse}
-use Rattle.engine.specs.Promises.{core, verdict, stealTests}
+use Rattle.engine.specs.Promises.{core, verdict}
 
 -- ---- all idle
 

@@ -23,11 +23,11 @@ use Rattle.semantics.specs.declared.Refusal.{Refusal}
 use Rattle.semantics.specs.declared.Refusal.the-variants.{Record, FramesFull, ChildLives, NoSplitter, PoolFull}
 use Rattle.semantics.specs.declared.Answer.{Answer}
 use Rattle.semantics.specs.declared.Answer.the-variants.{Accepted, Refused}
-use Rattle.semantics.specs.Core.{Core, Did, did, withVacant, withFree, judged, actingTests, spawned, ended, robbed, waited, valued, wrote, stepOn}
+use Rattle.semantics.specs.Core.{Core, Did, did, withVacant, withFree, judged, actingTests, spawned, ended, robbed, waited, valued, wrote, stepOn, stealTests}
 use Rattle.semantics.specs.Entries.{recordOn}
 use Rattle.engine.specs.declared.Verdict.{Verdict}
 use Rattle.engine.specs.declared.Verdict.the-variants.{Pass, Refuse}
-use Rattle.engine.specs.Promises.{core, verdict, orRefuse, stealTests}
+use Rattle.engine.specs.Promises.{core, verdict, orRefuse}
 
 -- ---- a step is judged by its verdict
 
@@ -115,8 +115,8 @@ module _ (h : Head) (ds fs ws : List ℕ) (w p : ℕ) (f : Frame) (ep : p ≡ bo
   spawn-acts h′ ds′ fs′ ws′ k vacant ew et eh ek = rw (ek, eh, ew, ← et, ← ep, ← ef)
 
   pub return-acts : (h′ g : Head) (ds′ fs′ ws′ : List ℕ) (first count vacant : ℕ) (o : Returned) → (ws′ ≡ release (h .height) ws (h .free) (h .spare) (f .root) .0)
-          × (first ≡ release (h .height) ws (h .free) (h .spare) (f .root) .1)
-          × (count ≡ release (h .height) ws (h .free) (h .spare) (f .root) .2)
+      × (first ≡ release (h .height) ws (h .free) (h .spare) (f .root) .1)
+      × (count ≡ release (h .height) ws (h .free) (h .spare) (f .root) .2)
       → IsReturn (table ds fs (h .vacant)) w (table ds′ fs′ vacant) o → g ≡ withVacant h vacant → h′ ≡ withFree g first count
       → did h′ ds′ fs′ ws′ (Accepted (Ended o)) ≡ ended (core h ds fs ws) w
   unfolding ended
@@ -127,8 +127,8 @@ module _ (h : Head) (ds fs ws : List ℕ) (w p : ℕ) (f : Frame) (ep : p ≡ bo
   read-acts x y e = rw (e, ← ep, ← ef)
 
   pub write-acts : (h′ : Head) (fs′ ws′ : List ℕ) (x y first count : ℕ) (g : Frame) → (ws′ ≡ write (h .height) ws (h .free) (h .spare) (f .root) x y .0)
-          × (first ≡ write (h .height) ws (h .free) (h .spare) (f .root) x y .1)
-          × (count ≡ write (h .height) ws (h .free) (h .spare) (f .root) x y .2)
+      × (first ≡ write (h .height) ws (h .free) (h .spare) (f .root) x y .1)
+      × (count ≡ write (h .height) ws (h .free) (h .spare) (f .root) x y .2)
       → g ≡ withRoot f (h .free) → fs′ ≡ setFrame fs p g → h′ ≡ withFree h first count
       → did h′ ds fs′ ws′ (Accepted (Written count)) ≡ wrote (core h ds fs ws) w x y
   unfolding wrote

@@ -30,7 +30,7 @@ module _ (tape : List ℕ) (n : ℕ) where
       let e2 : (i + 1) * 2 ≡ k + 2 = omega arith in
       let e8 : (i + 1) * 8 ≡ i * 8 + 8 = omega arith in
       ap (λ (z : List ℕ). runOn (ran (o .core) z) ((i + 1) * 2) (recordsFrom m tape ((i + 1) * 8)))
-          (ea ∙ ap (λ (j : ℕ). set (set a k x) j y) e1 ∙ ap (λ (v : ℕ). set (set a k v) (suc k) y) ex ∙ ap (λ (v : ℕ). set (set a k (answerWords (o .answer) .0)) (suc k) v) ey)
+      (ea ∙ ap (λ (j : ℕ). set (set a k x) j y) e1 ∙ ap (λ (v : ℕ). set (set a k v) (suc k) y) ex ∙ ap (λ (v : ℕ). set (set a k (answerWords (o .answer) .0)) (suc k) v) ey)
       ∙ ap (λ (j : ℕ). runOn (ran (o .core) (putAnswer a k (o .answer))) j (recordsFrom m tape ((i + 1) * 8))) e2
       ∙ ap (λ (j : ℕ). runOn (ran (o .core) (putAnswer a k (o .answer))) (k + 2) (recordsFrom m tape j)) e8
       ∙ ap (λ (q : Did). runOn (ran (q .core) (putAnswer a k (q .answer))) (k + 2) (recordsFrom m tape (i * 8 + 8))) eo

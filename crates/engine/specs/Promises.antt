@@ -1,19 +1,18 @@
 -- What the promises of the engine's functions are said in, beside the definitions of the crate semantics.
 use mathlib.Core.Path.{_≡_}
-use mathlib.Core.Bool.{Bool, cond, not, _||_}
+use mathlib.Core.Bool.{Bool, cond, _||_}
 use mathlib.Core.List.{List, [], _∷_}
 use Prim.Native.Nat.{ℕ}
 use lib.Dec.{eqb, ltb}
 use Rattle.sizes.specs.Sizes.{treeNodes}
-use Rattle.frames.specs.Deques.{size}
 use Rattle.model.specs.declared.Step.{Step}
 use Rattle.semantics.specs.declared.State.{State}
 use Rattle.semantics.specs.declared.Head.{Head}
 use Rattle.semantics.specs.declared.Answer.{Answer}
 use Rattle.semantics.specs.declared.Call.{Call}
 use Rattle.semantics.specs.declared.Refusal.{Refusal}
-use Rattle.semantics.specs.declared.Refusal.the-variants.{Values, Workers, Nodes, NoWorker, MainReturned, ThiefBusy, NoVictim}
-use Rattle.semantics.specs.Core.{Core, idle, noWorker, allIdle}
+use Rattle.semantics.specs.declared.Refusal.the-variants.{Values, Workers, Nodes}
+use Rattle.semantics.specs.Core.{Core}
 use Rattle.semantics.specs.Entries.{startOn, enter, play}
 use Rattle.engine.specs.declared.Verdict.{Verdict}
 use Rattle.engine.specs.declared.Verdict.the-variants.{Pass, Refuse}
@@ -30,11 +29,6 @@ verdict (t ∷ ts) = cond (t .0) (Refuse (t .1)) (verdict ts)
 abbrev pub orRefuse : Verdict → Bool → Refusal → Verdict
 orRefuse Pass b r = cond b (Refuse r) Pass
 orRefuse (Refuse q) b r = Refuse q
-
--- refusals 8, 9, 11 and 12
-abbrev pub stealTests : Core → ℕ → ℕ → List (Bool × Refusal)
-stealTests c w v =
-    (noWorker c w, NoWorker) ∷ (allIdle c, MainReturned) ∷ (not (idle c w), ThiefBusy) ∷ (noWorker c v || ltb (size (c .deques) v) 2, NoVictim) ∷ []
 
 -- refusals 1, 2 and 3, of a start with n initial values and a pool of so many whole nodes
 abbrev pub startTests : ℕ → ℕ → ℕ → List (Bool × Refusal)

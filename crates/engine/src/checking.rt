@@ -30,7 +30,13 @@ fn check_tables(numbers: Numbers, deques: &[u32], frames: &[u32], pool: &[u32]) 
 }
 
 // Are state and pool sound? The work slice's first words, one for each recorded node, are zero afterwards, unless it has fewer.
-pub fn check(numbers: Numbers, deques: &[u32], frames: &[u32], pool: &[u32], work: &mut [u32]) -> Checked
+pub fn check(
+    numbers: Numbers,
+    deques: &[u32],
+    frames: &[u32],
+    pool: &[u32],
+    work: &mut [u32],
+) -> Checked
     ensures { λ r. ⌜ (now (work .exit) ≡ cleared (numbers .nodes) (now (work .entry)))
         × (r ≡ checked numbers (now (deques .entry)) (now (frames .entry)) (now (pool .entry)) (now (work .entry))) ⌝ }
 {

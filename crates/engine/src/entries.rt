@@ -96,7 +96,14 @@ fn tape_at(state: State, spare: u32, pool: &mut [u32], bytes: &[u8], answers: &m
 {
     let mut deques = state.deques;
     let mut frames = state.frames;
-    let h = run_tape(head_of(state, spare), &mut deques, &mut frames, pool, bytes, answers);
+    let h = run_tape(
+        head_of(state, spare),
+        &mut deques,
+        &mut frames,
+        pool,
+        bytes,
+        answers,
+    );
     state_of(h, deques, frames)
 }
 
@@ -126,7 +133,13 @@ fn unfit_tape(bytes: &[u8], answers: &[u32]) -> bool
 }
 
 // "a tape checks once"
-pub fn tape(state: State, pool: &mut [u32], work: &mut [u32], bytes: &[u8], answers: &mut [u32]) -> Taped
+pub fn tape(
+    state: State,
+    pool: &mut [u32],
+    work: &mut [u32],
+    bytes: &[u8],
+    answers: &mut [u32],
+) -> Taped
     ensures { λ r. ⌜ IsTape state (now (pool .entry)) (now (work .entry)) (now (bytes .entry)) (now (answers .entry))
         (r .state) (now (pool .exit)) (now (work .exit)) (now (answers .exit)) (r .call) ⌝ }
 {

@@ -62,7 +62,11 @@ pub fn step_spawn(h: Head, deques: &mut [u32], frames: &mut [u32], pool: &mut [u
     ensures { λ r. ⌜ did (r .head) (now (deques .exit)) (now (frames .exit)) (now (pool .exit)) (r .answer)
         ≡ stepOn (core h (now (deques .entry)) (now (frames .entry)) (now (pool .entry))) (Spawn w) ⌝ }
 {
-    let verdict = or_refuse(acting_verdict(h, deques, w), h.vacant == NONE, Refusal::FramesFull);
+    let verdict = or_refuse(
+        acting_verdict(h, deques, w),
+        h.vacant == NONE,
+        Refusal::FramesFull,
+    );
     if let Verdict::Refuse(refusal) = verdict {
         return refused(h, refusal);
     }
@@ -80,7 +84,11 @@ pub fn step_return(h: Head, deques: &mut [u32], frames: &mut [u32], pool: &mut [
         ≡ stepOn (core h (now (deques .entry)) (now (frames .entry)) (now (pool .entry))) (Return w) ⌝ }
 {
     let f = frame_in(frames, bottom_of(deques, w));
-    let verdict = or_refuse(acting_verdict(h, deques, w), f.outstanding != 0, Refusal::ChildLives);
+    let verdict = or_refuse(
+        acting_verdict(h, deques, w),
+        f.outstanding != 0,
+        Refusal::ChildLives,
+    );
     if let Verdict::Refuse(refusal) = verdict {
         return refused(h, refusal);
     }
@@ -93,7 +101,14 @@ pub fn step_return(h: Head, deques: &mut [u32], frames: &mut [u32], pool: &mut [
     }
 }
 
-pub fn step_steal(h: Head, deques: &mut [u32], frames: &mut [u32], pool: &mut [u32], w: u32, v: u32) -> Out
+pub fn step_steal(
+    h: Head,
+    deques: &mut [u32],
+    frames: &mut [u32],
+    pool: &mut [u32],
+    w: u32,
+    v: u32,
+) -> Out
     ensures { λ r. ⌜ did (r .head) (now (deques .exit)) (now (frames .exit)) (now (pool .exit)) (r .answer)
         ≡ stepOn (core h (now (deques .entry)) (now (frames .entry)) (now (pool .entry))) (Steal w v) ⌝ }
 {
@@ -124,11 +139,22 @@ pub fn step_sync(h: Head, deques: &mut [u32], frames: &mut [u32], pool: &mut [u3
     }
 }
 
-pub fn step_read(h: Head, deques: &mut [u32], frames: &mut [u32], pool: &mut [u32], w: u32, x: u32) -> Out
+pub fn step_read(
+    h: Head,
+    deques: &mut [u32],
+    frames: &mut [u32],
+    pool: &mut [u32],
+    w: u32,
+    x: u32,
+) -> Out
     ensures { λ r. ⌜ did (r .head) (now (deques .exit)) (now (frames .exit)) (now (pool .exit)) (r .answer)
         ≡ stepOn (core h (now (deques .entry)) (now (frames .entry)) (now (pool .entry))) (Read w x) ⌝ }
 {
-    let verdict = or_refuse(acting_verdict(h, deques, w), !(x < h.splitters), Refusal::NoSplitter);
+    let verdict = or_refuse(
+        acting_verdict(h, deques, w),
+        !(x < h.splitters),
+        Refusal::NoSplitter,
+    );
     if let Verdict::Refuse(refusal) = verdict {
         return refused(h, refusal);
     }
@@ -140,11 +166,23 @@ pub fn step_read(h: Head, deques: &mut [u32], frames: &mut [u32], pool: &mut [u3
     }
 }
 
-pub fn step_write(h: Head, deques: &mut [u32], frames: &mut [u32], pool: &mut [u32], w: u32, x: u32, v: u32) -> Out
+pub fn step_write(
+    h: Head,
+    deques: &mut [u32],
+    frames: &mut [u32],
+    pool: &mut [u32],
+    w: u32,
+    x: u32,
+    v: u32,
+) -> Out
     ensures { λ r. ⌜ did (r .head) (now (deques .exit)) (now (frames .exit)) (now (pool .exit)) (r .answer)
         ≡ stepOn (core h (now (deques .entry)) (now (frames .entry)) (now (pool .entry))) (Write w x v) ⌝ }
 {
-    let within = or_refuse(acting_verdict(h, deques, w), !(x < h.splitters), Refusal::NoSplitter);
+    let within = or_refuse(
+        acting_verdict(h, deques, w),
+        !(x < h.splitters),
+        Refusal::NoSplitter,
+    );
     let verdict = or_refuse(within, h.spare <= h.height, Refusal::PoolFull);
     if let Verdict::Refuse(refusal) = verdict {
         return refused(h, refusal);

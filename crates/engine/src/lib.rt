@@ -25,7 +25,6 @@ pub use kinds::step_write;
 pub use records::run_tape;
 pub use records::step_record;
 pub use records::take_step;
-
 use semantics::Answer;
 use semantics::Call;
 use semantics::Head;

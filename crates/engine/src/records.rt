@@ -24,7 +24,13 @@ use semantics::Answer;
 use semantics::Head;
 use semantics::Refusal;
 
-pub fn take_step(h: Head, deques: &mut [u32], frames: &mut [u32], pool: &mut [u32], step: Step) -> Out
+pub fn take_step(
+    h: Head,
+    deques: &mut [u32],
+    frames: &mut [u32],
+    pool: &mut [u32],
+    step: Step,
+) -> Out
     ensures { λ r. ⌜ did (r .head) (now (deques .exit)) (now (frames .exit)) (now (pool .exit)) (r .answer)
         ≡ stepOn (core h (now (deques .entry)) (now (frames .entry)) (now (pool .entry))) step ⌝ }
 {
@@ -39,7 +45,14 @@ pub fn take_step(h: Head, deques: &mut [u32], frames: &mut [u32], pool: &mut [u3
 }
 
 // The record at a place of the tape.
-pub fn step_record(h: Head, deques: &mut [u32], frames: &mut [u32], pool: &mut [u32], tape: &[u8], at: usize) -> Out
+pub fn step_record(
+    h: Head,
+    deques: &mut [u32],
+    frames: &mut [u32],
+    pool: &mut [u32],
+    tape: &[u8],
+    at: usize,
+) -> Out
     ensures { λ r. ⌜ did (r .head) (now (deques .exit)) (now (frames .exit)) (now (pool .exit)) (r .answer)
         ≡ recordOn (core h (now (deques .entry)) (now (frames .entry)) (now (pool .entry))) (decodeAt (now (tape .entry)) at) ⌝ }
 {
@@ -63,7 +76,14 @@ fn put_answer(answers: &mut [u32], to: usize, first: u32, second: u32)
 }
 
 // The tape's records in order. "A refused record gives its refusal and 0, and the tape goes on."
-pub fn run_tape(h: Head, deques: &mut [u32], frames: &mut [u32], pool: &mut [u32], tape: &[u8], answers: &mut [u32]) -> Head
+pub fn run_tape(
+    h: Head,
+    deques: &mut [u32],
+    frames: &mut [u32],
+    pool: &mut [u32],
+    tape: &[u8],
+    answers: &mut [u32],
+) -> Head
     ensures { λ r. ⌜ ran (core r (now (deques .exit)) (now (frames .exit)) (now (pool .exit))) (now (answers .exit))
         ≡ runOn (ran (core h (now (deques .entry)) (now (frames .entry)) (now (pool .entry))) (now (answers .entry))) 0 (recordsOf (now (tape .entry))) ⌝ }
 {

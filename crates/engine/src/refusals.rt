@@ -5,8 +5,8 @@ ghost use mathlib.Core.List.{[]};
 ghost use lib.Dec.{eqb, ltb};
 ghost use Rattle.words.specs.Basics.{all};
 ghost use Rattle.frames.specs.Deques.{size};
-ghost use Rattle.semantics.specs.Core.{actingTests};
-ghost use Rattle.engine.specs.Promises.{core, verdict, orRefuse, stealTests};
+ghost use Rattle.semantics.specs.Core.{actingTests, stealTests};
+ghost use Rattle.engine.specs.Promises.{core, verdict, orRefuse};
 use crate::Verdict;
 use frames::deque_size;
 use semantics::Head;
@@ -49,7 +49,11 @@ pub fn or_refuse(verdict: Verdict, test: bool, refusal: Refusal) -> Verdict
     let Verdict::Pass = verdict else {
         return verdict;
     };
-    if test { Verdict::Refuse(refusal) } else { Verdict::Pass }
+    if test {
+        Verdict::Refuse(refusal)
+    } else {
+        Verdict::Pass
+    }
 }
 
 // Does v not exist, or has it fewer than two frames?

@@ -34,9 +34,14 @@ loop-again c =
     let start = at-loop .before .before .before .before .before .before in
     let inv = at-loop .loop .inv in
     let i = at-loop .loop .i in
-    let q : i < length (start .args .tape .now) / 8 = at-loop-test .loop-test .taken in
-    (omega arith, at-step-record .step-record .kept .1 .0 ∙ inv .1, at-step-record .step-record .kept .1 .1 .0 ∙ inv .2, at-step-record .step-record .kept .1 .1 .1 .0 ∙ inv .3, at-put-answer .put-answer .kept .0 ∙ inv .4,
-     turn _ _ _ _ _ i _ _ _ q (at-step-record .step-record .ensures) (at-first-word .first-word .ensures) (sym (ap (λ (a : Answer). answerWords a .1) (at-enum-told .enum-told .given .1))) (at-put-answer .put-answer .ensures) ∙ inv .5)
+    let q : i < length (start .args .tape .now) / 8 = at-loop-test .loop-test .taken in (
+      omega arith,
+      at-step-record .step-record .kept .1 .0 ∙ inv .1,
+      at-step-record .step-record .kept .1 .1 .0 ∙ inv .2,
+      at-step-record .step-record .kept .1 .1 .1 .0 ∙ inv .3,
+      at-put-answer .put-answer .kept .0 ∙ inv .4,
+      turn _ _ _ _ _ i _ _ _ q (at-step-record .step-record .ensures) (at-first-word .first-word .ensures) (sym (ap (λ (a : Answer). answerWords a .1) (at-enum-told .enum-told .given .1))) (at-put-answer .put-answer .ensures) ∙ inv .5,
+    )
 
 loop-again-2 : tie.Need-loop-again-2 Inv-loop μ-loop
 loop-again-2 c =
@@ -50,9 +55,14 @@ loop-again-2 c =
     let start = at-loop .before .before .before .before .before .before in
     let inv = at-loop .loop .inv in
     let i = at-loop .loop .i in
-    let q : i < length (start .args .tape .now) / 8 = at-loop-test .loop-test .taken in
-    (omega arith, at-step-record .step-record .kept .1 .0 ∙ inv .1, at-step-record .step-record .kept .1 .1 .0 ∙ inv .2, at-step-record .step-record .kept .1 .1 .1 .0 ∙ inv .3, at-put-answer2 .put-answer2 .kept .0 ∙ inv .4,
-     turn _ _ _ _ _ i _ _ _ q (at-step-record .step-record .ensures) (at-done-kind .done-kind .ensures ∙ sym (ap (λ (a : Answer). answerWords a .0) (at-answer .answer .given .1))) (at-done-number .done-number .ensures ∙ sym (ap (λ (a : Answer). answerWords a .1) (at-answer .answer .given .1))) (at-put-answer2 .put-answer2 .ensures) ∙ inv .5)
+    let q : i < length (start .args .tape .now) / 8 = at-loop-test .loop-test .taken in (
+      omega arith,
+      at-step-record .step-record .kept .1 .0 ∙ inv .1,
+      at-step-record .step-record .kept .1 .1 .0 ∙ inv .2,
+      at-step-record .step-record .kept .1 .1 .1 .0 ∙ inv .3,
+      at-put-answer2 .put-answer2 .kept .0 ∙ inv .4,
+      turn _ _ _ _ _ i _ _ _ q (at-step-record .step-record .ensures) (at-done-kind .done-kind .ensures ∙ sym (ap (λ (a : Answer). answerWords a .0) (at-answer .answer .given .1))) (at-done-number .done-number .ensures ∙ sym (ap (λ (a : Answer). answerWords a .1) (at-answer .answer .given .1))) (at-put-answer2 .put-answer2 .ensures) ∙ inv .5,
+    )
 
 returns : tie.Need-returns Inv-loop μ-loop
 returns c = sym (finish _ _ _ (c .before .loop .i) _ _ (c .loop-test .left)) ∙ c .before .loop .inv .5
