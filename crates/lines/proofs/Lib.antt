@@ -1,0 +1,5 @@
+pub mod Numbers
+pub mod Loops
+pub mod Whole
+pub mod Calls
+pub mod Sizes

@@ -1,0 +1,117 @@
+-- Document 01's "The program splitrun and its lines": the whole output of an input, as bytes. Definitions only.
+use mathlib.Core.Bool.{Bool, true, false, cond, _||_}
+use mathlib.Core.List.{List, [], _∷_, _++_}
+use Prim.Native.Nat.{ℕ, zero, suc, _+_, _-_, _*_, _/_, _%_}
+use lib.ListN.{length, getD, drop, replicate}
+use lib.Dec.{ltb}
+use Rattle.model.specs.Record.{little}
+use Rattle.soundness.specs.Soundness.{freeCount}
+use Rattle.semantics.specs.declared.Refusal.{Refusal}
+use Rattle.semantics.specs.declared.Call.{Call}
+use Rattle.semantics.specs.declared.Call.the-variants.{Taken, Denied}
+use Rattle.semantics.specs.Answers.{refusalNumber}
+use Rattle.semantics.specs.Entries.{Begun, startOn, Played, play, numbersOf}
+
+-- ---- text
+
+-- the byte of the last decimal digit
+abbrev pub digit : ℕ → ℕ
+digit n = 48 + n % 10
+
+-- the decimal digits of n, most significant first, by at most k divisions
+unfoldable pub decimalBy : ℕ → ℕ → List ℕ
+decimalBy zero n = digit n ∷ []
+decimalBy (suc k) n = elim (ltb n 10) [ true ↦ digit n ∷ [] | false ↦ decimalBy k (n / 10) ++ digit n ∷ [] ]
+
+-- "written in decimal"; n divisions are enough
+unfoldable pub decimal : ℕ → List ℕ
+decimal n = decimalBy n n
+
+-- "Fields are parted by one space", and a line is ended by the byte 10
+abbrev pub line : List (List ℕ) → List ℕ
+line [] = 10 ∷ []
+line (f ∷ []) = f ++ 10 ∷ []
+line (f ∷ g ∷ fs) = f ++ 32 ∷ line (g ∷ fs)
+
+-- `unfit`, `refused`, `free`
+abbrev pub unfitWord : List ℕ
+unfitWord = 117 ∷ 110 ∷ 102 ∷ 105 ∷ 116 ∷ []
+
+abbrev pub refusedWord : List ℕ
+refusedWord = 114 ∷ 101 ∷ 102 ∷ 117 ∷ 115 ∷ 101 ∷ 100 ∷ []
+
+abbrev pub freeWord : List ℕ
+freeWord = 102 ∷ 114 ∷ 101 ∷ 101 ∷ []
+
+-- ---- the input
+
+-- "workers and n (16 bits each), nodes (32 bits)", little-endian
+unfoldable pub workersIn : List ℕ → ℕ
+workersIn input = little (getD input 0 0 ∷ getD input 1 0 ∷ [])
+
+unfoldable pub splittersIn : List ℕ → ℕ
+splittersIn input = little (getD input 2 0 ∷ getD input 3 0 ∷ [])
+
+-- the 32-bit number at a place
+unfoldable pub number32At : List ℕ → ℕ → ℕ
+number32At input at = little (getD input at 0 ∷ getD input (at + 1) 0 ∷ getD input (at + 2) 0 ∷ getD input (at + 3) 0 ∷ [])
+
+abbrev pub nodesIn : List ℕ → ℕ
+nodesIn input = number32At input 4
+
+-- k numbers from a place on: "n initial values" from 8 on
+unfoldable pub numbersAt : ℕ → List ℕ → ℕ → List ℕ
+numbersAt zero input at = []
+numbersAt (suc k) input at = number32At input at ∷ numbersAt k input (at + 4)
+
+-- "The records begin after the initial values and run to the end."
+abbrev pub recordsStart : ℕ → ℕ
+recordsStart n = 8 + 4 * n
+
+abbrev pub recordsIn : ℕ → List ℕ → List ℕ
+recordsIn n input = drop (recordsStart n) input
+
+-- "A header or values cut short, n over 256, nodes over 1,024 or more than 16,384 bytes of records": by the input's length, n
+-- and the nodes
+unfoldable pub unfit : ℕ → ℕ → ℕ → Bool
+unfit size n nodes = ltb size 8 || (ltb 256 n || (ltb 1024 nodes || (ltb size (recordsStart n) || ltb 16384 (size - recordsStart n))))
+
+-- ---- the output
+
+-- "one line per record with its two answer words"
+unfoldable pub answerLines : List ℕ → List ℕ
+answerLines [] = []
+answerLines (a ∷ []) = []
+answerLines (a ∷ b ∷ ws) = line (decimal a ∷ decimal b ∷ []) ++ answerLines ws
+
+-- "A call refused whole prints `refused` and the number after the first line, and no more."
+abbrev pub refusedLine : Refusal → List ℕ
+refusedLine r = line (refusedWord ∷ decimal (refusalNumber r) ∷ [])
+
+abbrev pub callLines : Call → List ℕ → List ℕ
+callLines Taken ls = ls
+callLines (Denied r) ls = refusedLine r
+
+-- the lines of the answer words, "last `free` and the free nodes"
+abbrev pub takenLines : List ℕ → ℕ → List ℕ
+takenLines answers free = answerLines answers ++ line (freeWord ∷ decimal free ∷ [])
+
+abbrev pub tapeLines : Played → List ℕ
+tapeLines p = callLines (p .call) (takenLines (p .answers) (freeCount (numbersOf (p .state)) (p .pool)))
+
+-- what follows the first line: of the start, then of the tape
+unfoldable pub runLines : ℕ → List ℕ → List ℕ → List ℕ → List ℕ → List ℕ → List ℕ
+runLines workers values pool work records answers =
+    let b : Begun = startOn workers values pool in
+    callLines (b .call) (tapeLines (play (b .state) (b .pool) work records answers))
+
+-- with a pool of as many whole nodes, a work slice that is long enough and two answer words per record, all zero
+unfoldable pub fitLines : ℕ → ℕ → ℕ → List ℕ → List ℕ
+fitLines workers n nodes input =
+    runLines workers (numbersAt n input 8) (replicate (4 * nodes) 0) (replicate nodes 0) (recordsIn n input) (replicate (2 * (length (recordsIn n input) / 8)) 0)
+
+-- the whole output: an unfit input prints "only `unfit`"; "Else the first line is workers, n, nodes"
+unfoldable pub linesOf : List ℕ → List ℕ
+linesOf input =
+    cond (unfit (length input) (splittersIn input) (nodesIn input)) (line (unfitWord ∷ []))
+    (line (decimal (workersIn input) ∷ decimal (splittersIn input) ∷ decimal (nodesIn input) ∷ []) ++ fitLines (workersIn input) (splittersIn input) (nodesIn input) input)

@@ -1,0 +1,167 @@
+// The start, the tape, and the lines that they print.
+ghost use mathlib.Core.Path.{_≡_};
+ghost use Prim.Native.Nat.{_+_, _-_, _*_, _≤_};
+ghost use lib.ListN.{length};
+ghost use Rattle.soundness.specs.Soundness.{freeNodes};
+ghost use Rattle.semantics.specs.Entries.{play};
+ghost use Rattle.lines.specs.Lines.{numbersAt, recordsStart, answerLines, refusedLine, takenLines, tapeLines, runLines, fitLines};
+ghost use Rattle.lines.specs.Output.{Stores, StoresUpTo, IsOutput};
+use crate::input::is_unfit;
+use crate::input::nodes_in;
+use crate::input::read_values;
+use crate::input::splitters_in;
+use crate::input::workers_in;
+use crate::text::put_bytes;
+use crate::text::put_named;
+use crate::text::put_three;
+use crate::text::put_two;
+use engine::refusal_number;
+use engine::start;
+use engine::tape;
+use pool::NONE;
+use pool::left_of;
+use semantics::Call;
+use semantics::Refusal;
+use semantics::State;
+
+// "one line per record with its two answer words"
+fn put_answers(out: &mut [u8], at: usize, answers: &[u32]) -> usize
+    ensures { λ r. ⌜ Stores (now (out .entry)) at (answerLines (now (answers .entry))) (now (out .exit)) r ⌝ }
+{
+    let mut to = at;
+    let mut i: usize = 0;
+    while i + 1 < answers.len() {
+        to = put_two(out, to, answers[i], answers[i + 1]);
+        i += 2;
+    }
+    to
+}
+
+// The free nodes, counted along the chain, in at most one step more than there are nodes.
+fn count_free(nodes: u32, pool: &[u32], first: u32) -> usize
+    ensures { λ r. ⌜ r ≡ length (freeNodes nodes (now (pool .entry)) first) ⌝ }
+{
+    let mut left = nodes as usize + 1;
+    let mut i = first;
+    let mut count: usize = 0;
+    while left > 0 {
+        if i == NONE {
+            return count;
+        }
+        i = left_of(pool, i);
+        left -= 1;
+        count += 1;
+    }
+    count
+}
+
+// `refused` and the number.
+fn put_refused(out: &mut [u8], at: usize, refusal: Refusal) -> usize
+    ensures { λ r. ⌜ StoresUpTo 19 (now (out .entry)) at (refusedLine refusal) (now (out .exit)) r ⌝ }
+{
+    put_named(out, at, b"refused ", refusal_number(refusal) as usize)
+}
+
+// The lines of the answer words, "last `free` and the free nodes".
+fn put_taken(
+    out: &mut [u8],
+    at: usize,
+    answers: &[u32],
+    nodes: u32,
+    pool: &[u32],
+    first: u32,
+) -> usize
+    ensures { λ r. ⌜ StoresUpTo (11 * length (now (answers .entry)) + 19) (now (out .entry)) at
+        (takenLines (now (answers .entry)) (length (freeNodes nodes (now (pool .entry)) first))) (now (out .exit)) r ⌝ }
+{
+    let to = put_answers(out, at, answers);
+    put_named(out, to, b"free ", count_free(nodes, pool, first))
+}
+
+// The lines of a tape.
+fn run_tape(
+    state: State,
+    pool: &mut [u32],
+    work: &mut [u32],
+    records: &[u8],
+    answers: &mut [u32],
+    out: &mut [u8],
+    at: usize,
+) -> usize
+    ensures { λ r. ⌜ StoresUpTo (11 * length (now (answers .entry)) + 19) (now (out .entry)) at
+        (tapeLines (play state (now (pool .entry)) (now (work .entry)) (now (records .entry)) (now (answers .entry)))) (now (out .exit)) r ⌝ }
+{
+    let played = tape(state, pool, work, records, answers);
+    let last = played.state;
+    let call = played.call;
+    if let Call::Denied(refusal) = call {
+        return put_refused(out, at, refusal);
+    }
+    put_taken(out, at, answers, last.nodes, pool, last.free)
+}
+
+// The lines after the first: of the start, then of the tape.
+fn run_on(
+    workers: u32,
+    input: &[u8],
+    values: &mut [u32],
+    pool: &mut [u32],
+    work: &mut [u32],
+    records: &[u8],
+    answers: &mut [u32],
+    out: &mut [u8],
+    at: usize,
+) -> usize
+    ensures { λ r. ⌜ StoresUpTo (11 * length (now (answers .entry)) + 19) (now (out .entry)) at (runLines workers (numbersAt (length (now (values .entry))) (now (input .entry)) 8)
+        (now (pool .entry)) (now (work .entry)) (now (records .entry)) (now (answers .entry))) (now (out .exit)) r ⌝ }
+{
+    read_values(input, values);
+    let started = start(workers, values, pool);
+    let state = started.state;
+    let call = started.call;
+    if let Call::Denied(refusal) = call {
+        return put_refused(out, at, refusal);
+    }
+    run_tape(state, pool, work, records, answers, out, at)
+}
+
+// The same, with a pool, a work slice and answer words of the right lengths, all zero.
+fn run_fit(input: &[u8], workers: u32, n: u32, nodes: u32, out: &mut [u8], at: usize) -> usize
+    requires { ⌜ (n ≤ 256) × (nodes ≤ 1024) × (recordsStart n ≤ length (now input)) × (length (now input) - recordsStart n ≤ 16384) ⌝ }
+    ensures { λ r. ⌜ StoresUpTo 45075 (now (out .entry)) at (fitLines workers n nodes (now (input .entry))) (now (out .exit)) r ⌝ }
+{
+    let mut values = [0u32; 256];
+    let mut pool = [0u32; 4096];
+    let mut work = [0u32; 1024];
+    let mut answers = [0u32; 4096];
+    let count = n as usize;
+    let start = 8 + 4 * count;
+    let room = nodes as usize;
+    let size = 4 * room;
+    let answered = 2 * ((input.len() - start) / 8);
+    run_on(
+        workers,
+        input,
+        &mut values[..count],
+        &mut pool[..size],
+        &mut work[..room],
+        &input[start..],
+        &mut answers[..answered],
+        out,
+        at,
+    )
+}
+
+// The whole output of an input, in the bytes of `out`, as far as they fit. Gives the place after the last.
+pub fn split_run(input: &[u8], out: &mut [u8]) -> usize
+    ensures { λ r. ⌜ IsOutput (now (input .entry)) (now (out .entry)) (now (out .exit)) r ⌝ }
+{
+    let workers = workers_in(input);
+    let n = splitters_in(input);
+    let nodes = nodes_in(input);
+    if is_unfit(input.len(), n, nodes) {
+        return put_bytes(out, 0, b"unfit\n");
+    }
+    let to = put_three(out, 0, workers, n, nodes);
+    run_fit(input, workers, n, nodes, out, to)
+}

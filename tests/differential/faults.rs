@@ -1,0 +1,147 @@
+// The faults of the faulty programs. Each is one change of the copying
+// program's text: in `file`, the one place that reads `rule` is made to read
+// `fault`. Shared by build.rs, which makes the changes, and bin/faulty.rs.
+
+pub struct Fault {
+    /// A Rust name: the faulty program is a module of this name.
+    pub name: &'static str,
+    pub says: &'static str,
+    pub file: &'static str,
+    pub rule: &'static str,
+    pub fault: &'static str,
+}
+
+pub const FAULTS: &[Fault] = &[
+    Fault {
+        name: "note_b",
+        says: "a resumed parent gets its last child's values",
+        file: "machine.rs",
+        rule: "self.resume(worker, parent);",
+        fault: "self.resume(worker, parent); self.frame_mut(parent).values = ended.values;",
+    },
+    Fault {
+        name: "note_b_tree",
+        says: "a resumed parent gets its last child's values and history",
+        file: "machine.rs",
+        rule: "self.resume(worker, parent);",
+        fault: "self.resume(worker, parent); let p = self.frame_mut(parent); \
+                p.values = ended.values; p.history = ended.history;",
+    },
+    Fault {
+        name: "thief_takes_bottom",
+        says: "a thief takes the bottom frame",
+        file: "machine.rs",
+        rule: "self.deques[victim].remove(0)",
+        fault: "self.deques[victim].pop().unwrap()",
+    },
+    Fault {
+        name: "same_deque_children",
+        says: "only children on the same deque are counted",
+        file: "machine.rs",
+        rule: "self.frames.values().any(|f| f.parent == Some(frame))",
+        fault: "self.deques.iter().any(|deque| deque.contains(&frame) \
+                && deque.iter().any(|f| self.frames[f].parent == Some(frame)))",
+    },
+    Fault {
+        name: "equal_write_takes_none",
+        says: "a write of an equal value takes no nodes",
+        file: "machine.rs",
+        rule: "frame.values[splitter] = value;\n        frame.history.push(id, splitter);",
+        fault: "if frame.values[splitter] != value { \
+                frame.values[splitter] = value; frame.history.push(id, splitter); }",
+    },
+    Fault {
+        name: "unshared_trees",
+        says: "nodes in use are live frames times T(n)",
+        file: "machine.rs",
+        rule: "let count = history::nodes_in_use(self.histories(), self.splitters);",
+        fault: "let count = self.nodes.min(self.frames.len() * shape::tree_nodes(self.splitters));",
+    },
+    Fault {
+        name: "short_path",
+        says: "16 is tested with H instead of H + 1",
+        file: "machine.rs",
+        rule: "self.free_nodes() < shape::path_nodes(self.splitters)",
+        fault: "self.free_nodes() < shape::height(self.splitters)",
+    },
+    Fault {
+        name: "long_path",
+        says: "16 is tested with H + 2 instead of H + 1",
+        file: "machine.rs",
+        rule: "self.free_nodes() < shape::path_nodes(self.splitters)",
+        fault: "self.free_nodes() < shape::path_nodes(self.splitters) + 1",
+    },
+    Fault {
+        name: "outcome_1_for_2",
+        says: "a resumption is answered with outcome 1",
+        file: "machine.rs",
+        rule: "return 2;",
+        fault: "return 1;",
+    },
+    Fault {
+        name: "late_copy",
+        says: "a spawn's copy sees later writes of the parent",
+        file: "machine.rs",
+        rule: "self.writes_made += 1;",
+        fault: "self.writes_made += 1; \
+                for f in self.frames.values_mut() { \
+                if f.parent == Some(frame_id) { f.values[splitter] = value; } }",
+    },
+    Fault {
+        name: "idle_before_returned",
+        says: "10 is checked before 9",
+        file: "machine.rs",
+        rule: "if self.main_has_returned() {",
+        fault: "if !matches!(step, Step::Steal { .. }) && self.bottom(worker).is_none() { \
+                return Err(Refusal::Idle); }\nif self.main_has_returned() {",
+    },
+    Fault {
+        name: "sync_value_untested",
+        says: "a sync's value field is not tested",
+        file: "record.rs",
+        rule: "(4, 0, 0)",
+        fault: "(4, 0, _)",
+    },
+    Fault {
+        name: "victim_cut",
+        says: "the victim is cut to 8 bits",
+        file: "record.rs",
+        rule: "(3, victim, 0) => Ok(Step::Steal { worker, victim })",
+        fault: "(3, victim, 0) => Ok(Step::Steal { worker, victim: victim % 256 })",
+    },
+    Fault {
+        name: "steal_of_one",
+        says: "a deque of one is stolen from",
+        file: "machine.rs",
+        rule: "self.deques[victim].len() < 2",
+        fault: "self.deques[victim].is_empty()",
+    },
+    Fault {
+        name: "depth_limit",
+        says: "13 is tested by depth instead of live frames",
+        file: "machine.rs",
+        rule: "self.frames.len() == MAX_LIVE_FRAMES",
+        fault: "self.frames.values().any(|f| f.depth == 63)",
+    },
+    Fault {
+        name: "suspended_not_counted",
+        says: "nodes that only suspended frames hold count as free",
+        file: "machine.rs",
+        rule: "self.frames.values().map(|frame| &frame.history)",
+        fault: "self.frames.values().filter(|f| !f.suspended).map(|frame| &frame.history)",
+    },
+    Fault {
+        name: "resumed_early",
+        says: "the first child's return resumes the parent, live siblings or not",
+        file: "machine.rs",
+        rule: "if idle && self.is_suspended(parent) && !self.has_live_child(parent) {",
+        fault: "if idle && self.is_suspended(parent) {",
+    },
+    Fault {
+        name: "one_root",
+        says: "all live frames are counted as sharing one root",
+        file: "history.rs",
+        rule: "count += writes.len();",
+        fault: "count += if level == shape::height(splitters) { 1 } else { writes.len() };",
+    },
+];

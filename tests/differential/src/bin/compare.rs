@@ -1,0 +1,177 @@
+//! The differential test: `compare PROGRAM [--runs 3000] [--seed S]` runs
+//! PROGRAM (splitrun) on document 01's edges and on seeded inputs, beside the
+//! copying machine, and sees demand 3 from outside.
+
+use differential::demand3::{self, Run};
+use differential::machine::Counting;
+use differential::program::Program;
+use differential::record::RECORD_BYTES;
+use differential::splitrun::{self, Input};
+use differential::tally::{self, Tally};
+use differential::{edges, generate, transcript};
+use std::path::PathBuf;
+use std::process::ExitCode;
+use std::time::Instant;
+
+const USAGE: &str = "usage: compare PROGRAM [--runs 3000] [--seed 1] [--recount]
+PROGRAM is the path of an executable that reads splitrun's input.";
+
+struct Options {
+    program: PathBuf,
+    runs: u64,
+    seed: u64,
+    counting: Counting,
+}
+
+fn options() -> Option<Options> {
+    let mut arguments = std::env::args().skip(1);
+    let program = arguments.next()?;
+    let mut options = Options {
+        program: std::fs::canonicalize(program).ok()?,
+        runs: 3_000,
+        seed: 1,
+        counting: Counting::Cached,
+    };
+    while let Some(argument) = arguments.next() {
+        match argument.as_str() {
+            "--runs" => options.runs = arguments.next()?.parse().ok()?,
+            "--seed" => options.seed = arguments.next()?.parse().ok()?,
+            "--recount" => options.counting = Counting::Recounted,
+            _ => return None,
+        }
+    }
+    Some(options)
+}
+
+fn main() -> ExitCode {
+    let Some(options) = options() else {
+        eprintln!("{USAGE}");
+        return ExitCode::from(2);
+    };
+    let began = Instant::now();
+    let passed = compare(&options);
+    let verdict = if passed { "passed" } else { "FAILED" };
+    println!("{verdict} in {:.1} s", began.elapsed().as_secs_f64());
+    if passed {
+        ExitCode::SUCCESS
+    } else {
+        ExitCode::FAILURE
+    }
+}
+
+fn compare(options: &Options) -> bool {
+    let program = Program::new(&options.program);
+    let mut edge_tally = Tally::default();
+    let edges_passed = compare_edges(&program, &mut edge_tally);
+    let mut random = RandomRuns::new(&program, options.counting);
+    let random_passed = random.compare(options);
+    if !edges_passed || !random_passed {
+        return false;
+    }
+    let (table, missing) = tally::table(&edge_tally, &random.tally);
+    print!("{table}");
+    for event in &missing {
+        println!("never seen in one of the columns: {event}");
+    }
+    missing.is_empty()
+}
+
+/// PROGRAM's output if it is the expected one, byte for byte; else why not.
+fn expect(program: &Program, input: &[u8], expected: &str) -> Result<String, String> {
+    let came = program.output(input)?;
+    if came == expected {
+        return Ok(came);
+    }
+    Err(transcript::difference(input, expected, &came))
+}
+
+/// Every edge is run; the first that differs is shown in full.
+fn compare_edges(program: &Program, tally: &mut Tally) -> bool {
+    let edges = edges::all();
+    let mut failed = 0;
+    for edge in &edges {
+        match expect(program, &edge.input, &edge.expected) {
+            Ok(output) => tally.add(&output),
+            Err(reason) => {
+                println!("edge: {}", edge.name);
+                if failed == 0 {
+                    println!("{reason}");
+                }
+                failed += 1;
+            }
+        }
+    }
+    println!("edges: {} run, {failed} failed", edges.len());
+    failed == 0
+}
+
+struct RandomRuns<'a> {
+    program: &'a Program,
+    counting: Counting,
+    tally: Tally,
+    records: usize,
+    homes: usize,
+    too_long: usize,
+}
+
+impl<'a> RandomRuns<'a> {
+    fn new(program: &'a Program, counting: Counting) -> RandomRuns<'a> {
+        RandomRuns {
+            program,
+            counting,
+            tally: Tally::default(),
+            records: 0,
+            homes: 0,
+            too_long: 0,
+        }
+    }
+
+    /// Runs seed after seed, up to the first that fails.
+    fn compare(&mut self, options: &Options) -> bool {
+        for run in 0..options.runs {
+            let seed = options.seed.wrapping_add(run);
+            if let Err(reason) = self.compare_one(seed) {
+                println!("random: run {} failed, seed {seed}", run + 1);
+                println!("(`generate {seed}` writes this input)\n{reason}");
+                return false;
+            }
+        }
+        println!(
+            "random: {} runs, none failed; demand 3: Main returned in {} of them, with {} \
+             records, and their one-worker runs agree ({} too long to run)",
+            options.runs, self.homes, self.records, self.too_long
+        );
+        true
+    }
+
+    fn compare_one(&mut self, seed: u64) -> Result<(), String> {
+        let bytes = generate::input(seed);
+        let expected = splitrun::output(&bytes, self.counting);
+        let output = expect(self.program, &bytes, &expected)?;
+        self.tally.add(&output);
+        if !demand3::main_has_returned(&output) {
+            return Ok(());
+        }
+        let input = Input::parse(&bytes).ok_or("a run of an unfit input")?;
+        self.homes += 1;
+        self.records += input.tape.len() / RECORD_BYTES;
+        self.see_demand_3(&input, &output)
+    }
+
+    fn see_demand_3(&mut self, input: &Input, output: &str) -> Result<(), String> {
+        let run = Run::observe(input, output)?;
+        let Some(one_worker_input) = run.one_worker_input(input) else {
+            self.too_long += 1;
+            return Ok(());
+        };
+        let bytes = one_worker_input.to_bytes();
+        let one_worker_output = self.program.output(&bytes)?;
+        Run::observe(&one_worker_input, &one_worker_output)
+            .and_then(|one_worker| demand3::check(input.nodes, &run, &one_worker))
+            .map_err(|reason| {
+                let expected = splitrun::output(&bytes, self.counting);
+                let lines = transcript::difference(&bytes, &expected, &one_worker_output);
+                format!("demand 3: {reason}\nthe one-worker run:\n{lines}")
+            })
+    }
+}

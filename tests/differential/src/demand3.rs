@@ -1,0 +1,256 @@
+//! Demand 3 seen from outside: a run in which Main has returned, and its
+//! one-worker run ("A run and its one-worker run").
+
+use crate::machine::{Counting, FrameId, Machine, MAIN};
+use crate::record::{self, Step};
+use crate::splitrun::{Input, MAX_TAPE_BYTES};
+use std::collections::BTreeMap;
+
+/// "Main's name is the empty chain. The child made by a frame's k-th accepted
+/// spawn, k counted from 1, has its parent's name with k after it."
+pub type Name = Vec<usize>;
+
+/// "What a frame has read", by the frame's name.
+type Reads = BTreeMap<Name, Vec<u32>>;
+
+/// One of a frame's steps, with the child that a spawn made.
+struct FrameStep {
+    step: Step,
+    child: Option<FrameId>,
+}
+
+#[derive(Default)]
+struct FrameLog {
+    name: Name,
+    steps: Vec<FrameStep>,
+    reads: Vec<u32>,
+    spawns: usize,
+}
+
+/// What was seen of one run: a log for each frame it made.
+pub struct Run {
+    logs: Vec<FrameLog>,
+    refused: usize,
+    free: u32,
+}
+
+/// "Main has returned once a return of the run was answered with outcome 3."
+pub fn main_has_returned(output: &str) -> bool {
+    output.lines().any(|line| line == "102 3")
+}
+
+impl Run {
+    /// Builds the logs from PROGRAM's own answers. The plain machine only
+    /// tells which frame was the worker's bottom.
+    pub fn observe(input: &Input, output: &str) -> Result<Run, String> {
+        let workers = usize::from(input.workers);
+        let mut machine = Machine::start(
+            workers,
+            input.nodes as usize,
+            &input.values,
+            Counting::Cached,
+        )
+        .map_err(|refusal| format!("the plain machine refuses the start: {refusal:?}"))?;
+        let (answers, free) = answers(output)?;
+        let mut run = Run {
+            logs: vec![FrameLog::default()],
+            refused: 0,
+            free,
+        };
+        for (place, record) in record::records(&input.tape).enumerate() {
+            let (word, number) = *answers.get(place).ok_or("an answer is missing")?;
+            match record::decode(record) {
+                Ok(step) if word == 100 + u32::from(step.kind()) => {
+                    run.log(&machine, step, number)?;
+                    machine
+                        .step(step)
+                        .map_err(|r| format!("record {place}: the plain machine says {r:?}"))?;
+                }
+                _ => run.refused += 1,
+            }
+        }
+        Ok(run)
+    }
+
+    /// Logs an accepted step, before the plain machine takes it. "A frame's
+    /// steps are the accepted steps of the run, steals left out, that a
+    /// worker took while this was its bottom frame on the plain machine."
+    fn log(&mut self, machine: &Machine, step: Step, number: u32) -> Result<(), String> {
+        if let Step::Steal { .. } = step {
+            return Ok(());
+        }
+        let bottom = machine
+            .bottom(step.worker().into())
+            .ok_or("an accepted step of an idle worker")?;
+        let child = match step {
+            Step::Spawn { .. } => Some(self.name_child(bottom, machine.frames_made())),
+            _ => None,
+        };
+        let log = &mut self.logs[bottom];
+        log.steps.push(FrameStep { step, child });
+        if let Step::Read { .. } = step {
+            log.reads.push(number);
+        }
+        Ok(())
+    }
+
+    fn name_child(&mut self, parent: FrameId, child: FrameId) -> FrameId {
+        assert_eq!(child, self.logs.len(), "frames are logged as they are made");
+        let parent = &mut self.logs[parent];
+        parent.spawns += 1;
+        let mut name = parent.name.clone();
+        name.push(parent.spawns);
+        self.logs.push(FrameLog {
+            name,
+            ..FrameLog::default()
+        });
+        child
+    }
+
+    /// "A frame's child-first list is its steps in order, each spawn followed
+    /// at once by the whole child-first list of the child it made."
+    fn child_first(&self, frame: FrameId) -> Vec<Step> {
+        let mut list = Vec::new();
+        for FrameStep { step, child } in &self.logs[frame].steps {
+            list.push(*step);
+            if let Some(child) = child {
+                list.extend(self.child_first(*child));
+            }
+        }
+        list
+    }
+
+    /// "The one-worker run starts with one worker, the same initial values
+    /// and a pool of as many whole nodes. It enters Main's child-first list
+    /// step by step, all for worker 0." None if its tape is too long.
+    pub fn one_worker_input(&self, input: &Input) -> Option<Input> {
+        let list = self.child_first(MAIN);
+        let tape: Vec<u8> = list
+            .into_iter()
+            .flat_map(|step| step.taken_by(0).encode())
+            .collect();
+        (tape.len() <= MAX_TAPE_BYTES).then(|| Input {
+            workers: 1,
+            nodes: input.nodes,
+            values: input.values.clone(),
+            tape,
+        })
+    }
+
+    fn reads(&self) -> Reads {
+        let logs = self.logs.iter();
+        logs.map(|log| (log.name.clone(), log.reads.clone()))
+            .collect()
+    }
+}
+
+/// "Once Main has returned, no step of the one-worker run is refused, its
+/// frames have the same names, frames of the same name have read equal lists
+/// of values, and after either run all recorded nodes lie once on the free
+/// chain": from outside, `free` equals the nodes.
+pub fn check(nodes: u32, run: &Run, one_worker: &Run) -> Result<(), String> {
+    if one_worker.refused != 0 {
+        let refused = one_worker.refused;
+        return Err(format!("{refused} steps of the one-worker run are refused"));
+    }
+    check_reads(&run.reads(), &one_worker.reads())?;
+    if run.free != nodes || one_worker.free != nodes {
+        return Err(format!(
+            "of {nodes} nodes, {} are free after the run and {} after its one-worker run",
+            run.free, one_worker.free
+        ));
+    }
+    Ok(())
+}
+
+fn check_reads(run: &Reads, one_worker: &Reads) -> Result<(), String> {
+    if !run.keys().eq(one_worker.keys()) {
+        return Err(format!(
+            "the run's frames are {:?}, its one-worker run's {:?}",
+            run.keys(),
+            one_worker.keys()
+        ));
+    }
+    for (name, reads) in run {
+        let others = &one_worker[name];
+        if reads != others {
+            return Err(format!(
+                "frame {name:?} read {reads:?}, in the one-worker run {others:?}"
+            ));
+        }
+    }
+    Ok(())
+}
+
+/// The two answer words of each record, and the number of the `free` line.
+fn answers(output: &str) -> Result<(Vec<(u32, u32)>, u32), String> {
+    let lines: Vec<&str> = output.lines().collect();
+    let [_first, records @ .., last] = lines.as_slice() else {
+        return Err("fewer than two lines".to_string());
+    };
+    let answers = records.iter().map(|line| answer(line)).collect();
+    let free = last.strip_prefix("free ").and_then(|n| n.parse().ok());
+    let bad_line = || "a line that is not an answer".to_string();
+    Option::zip(answers, free).ok_or_else(bad_line)
+}
+
+fn answer(line: &str) -> Option<(u32, u32)> {
+    let (word, number) = line.split_once(' ')?;
+    Some((word.parse().ok()?, number.parse().ok()?))
+}
+
+#[cfg(test)]
+mod tests {
+    use super::*;
+    use crate::edges;
+    use crate::splitrun;
+
+    fn example() -> (Input, String) {
+        let example = edges::all().swap_remove(0);
+        let input = Input::parse(&example.input).expect("a fit input");
+        (input, example.expected)
+    }
+
+    #[test]
+    fn the_examples_child_first_list() {
+        let (input, output) = example();
+        assert!(main_has_returned(&output));
+        let run = Run::observe(&input, &output).expect("a run");
+        let kinds: Vec<u8> = run.child_first(MAIN).iter().map(|s| s.kind()).collect();
+        // Main: spawn, write, sync, read, return; its child: read, return.
+        assert_eq!(kinds, [1, 5, 2, 6, 4, 5, 2]);
+    }
+
+    /// The example's run against its one-worker run, of whose output one
+    /// line is changed.
+    fn check_changed(line: &str, changed: &str) -> Result<(), String> {
+        let (input, output) = example();
+        let run = Run::observe(&input, &output)?;
+        let one_worker = run.one_worker_input(&input).expect("a short tape");
+        let output = splitrun::output(&one_worker.to_bytes(), Counting::Recounted);
+        let output = output.replace(line, changed);
+        check(input.nodes, &run, &Run::observe(&one_worker, &output)?)
+    }
+
+    #[test]
+    fn the_examples_one_worker_run() {
+        let (input, output) = example();
+        let run = Run::observe(&input, &output).expect("a run");
+        let one_worker = run.one_worker_input(&input).expect("a short tape");
+        assert_eq!(
+            splitrun::output(&one_worker.to_bytes(), Counting::Recounted),
+            "1 5 20\n101 1\n105 50\n102 0\n106 9\n104 0\n105 99\n102 3\nfree 20\n"
+        );
+        assert_eq!(check_changed("", ""), Ok(()));
+    }
+
+    #[test]
+    fn misses_of_demand_3_are_caught() {
+        let read = check_changed("105 99", "105 50").expect_err("another read");
+        assert!(read.starts_with("frame [] read [99]"), "{read}");
+        let refused = check_changed("106 9", "16 0").expect_err("a refused step");
+        assert!(refused.starts_with("1 steps"), "{refused}");
+        let lost = check_changed("free 20", "free 19").expect_err("a lost node");
+        assert!(lost.starts_with("of 20 nodes"), "{lost}");
+    }
+}

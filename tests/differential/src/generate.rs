@@ -1,0 +1,447 @@
+//! Seeded inputs for splitrun. The generator runs the plain machine beside
+//! the tape it writes, so that most steps mean something.
+
+use crate::machine::{Counting, Machine, MAIN};
+use crate::random::Random;
+use crate::record::{self, Record, Step, RECORD_BYTES};
+use crate::refusal::Refusal;
+use crate::shape;
+use crate::splitrun::{Input, MAX_NODES, MAX_SPLITTERS, MAX_TAPE_BYTES};
+
+/// Past this many records, a run that is to bring Main home only heads home.
+const LONG_TAPE: usize = 1_700;
+
+/// The input that belongs to a seed.
+pub fn input(seed: u64) -> Vec<u8> {
+    let mut random = Random::new(seed);
+    match random.below(100) {
+        0..=5 => unfit(&mut random),
+        6..=11 => refused_whole(&mut random),
+        12..=19 => run(&mut random, Ending::Unfinished).to_bytes(),
+        20..=74 => run(&mut random, Ending::Home).to_bytes(),
+        _ => run(&mut random, Ending::PastHome).to_bytes(),
+    }
+}
+
+/// How a run's tape ends.
+#[derive(Clone, Copy, PartialEq, Eq)]
+enum Ending {
+    Unfinished,
+    /// Main returns by the last record.
+    Home,
+    /// Main returns, and further records follow.
+    PastHome,
+}
+
+fn unfit(random: &mut Random) -> Vec<u8> {
+    let mut input = run(random, Ending::Home);
+    match random.below(4) {
+        0 => {
+            let mut bytes = input.to_bytes();
+            bytes.truncate(random.below(8 + 4 * input.values.len()));
+            bytes
+        }
+        1 => {
+            let splitters = random.between(MAX_SPLITTERS + 1, 2 * MAX_SPLITTERS);
+            input.values = initial_values(random, splitters);
+            input.to_bytes()
+        }
+        2 => {
+            let beyond = random.pick(&[1, 2, 15_360, u32::MAX - MAX_NODES]);
+            input.nodes = MAX_NODES + beyond;
+            input.to_bytes()
+        }
+        _ => {
+            let beyond = random.pick(&[1, 7, RECORD_BYTES, 800]);
+            input.tape = vec![0; MAX_TAPE_BYTES + beyond];
+            input.to_bytes()
+        }
+    }
+}
+
+/// Calls refused whole by 1 to 4, some by more than one of them.
+fn refused_whole(random: &mut Random) -> Vec<u8> {
+    let mut input = run(random, Ending::Home);
+    let mut splitters = input.values.len();
+    let first = random.below(4);
+    for cause in first..4 {
+        if cause != first && !random.percent(20) {
+            continue;
+        }
+        match cause {
+            0 => splitters = 0,
+            1 => input.workers = random.pick(&[0, 9, 10, 256, 257, u16::MAX]),
+            2 => input.nodes = random.below(shape::tree_nodes(splitters.max(1))) as u32,
+            _ => {
+                let ragged = input.tape.len() + random.between(1, 7);
+                input.tape.resize(ragged, 0);
+            }
+        }
+    }
+    input.values.truncate(splitters);
+    input.to_bytes()
+}
+
+fn initial_values(random: &mut Random, splitters: usize) -> Vec<u32> {
+    let small = random.percent(50);
+    (0..splitters).map(|_| value(random, small)).collect()
+}
+
+fn value(random: &mut Random, small: bool) -> u32 {
+    if small {
+        random.below(4) as u32
+    } else if random.percent(5) {
+        u32::MAX
+    } else {
+        random.word()
+    }
+}
+
+fn splitter_count(random: &mut Random) -> usize {
+    match random.below(10) {
+        0..=4 => random.between(1, 9),
+        5..=6 => MAX_SPLITTERS,
+        7 => random.pick(&[15, 16, 17, 31, 32, 33, 63, 64, 65, 127, 128, 129, 255]),
+        _ => random.between(1, MAX_SPLITTERS),
+    }
+}
+
+/// Tight pools hold the tree and a few paths, with some nodes over.
+fn pool_nodes(random: &mut Random, splitters: usize) -> u32 {
+    let tree = shape::tree_nodes(splitters);
+    let path = shape::path_nodes(splitters);
+    let most = MAX_NODES as usize;
+    let nodes = match random.below(10) {
+        0..=3 => tree + random.below(4) * path + random.below(path),
+        4..=6 => tree + random.between(4, 16) * path,
+        7..=8 => random.between(tree, most),
+        _ => most,
+    };
+    nodes.min(most) as u32
+}
+
+/// The weights of spawn, return, steal, sync, read and write.
+const MIXTURES: [[usize; 6]; 5] = [
+    [20, 15, 20, 10, 20, 20], // even
+    [60, 5, 10, 2, 8, 10],    // deep
+    [30, 10, 60, 15, 15, 20], // wide
+    [10, 10, 20, 5, 15, 60],  // writing
+    [12, 25, 25, 25, 30, 15], // syncing
+];
+
+/// Steps of the tape's body.
+fn body_length(random: &mut Random) -> usize {
+    match random.below(20) {
+        0 => random.between(300, 1_200),
+        1..=5 => random.between(80, 250),
+        6 => random.below(4),
+        _ => random.between(5, 80),
+    }
+}
+
+fn run(random: &mut Random, ending: Ending) -> Input {
+    let splitters = splitter_count(random);
+    let workers = random.between(1, 8);
+    let nodes = pool_nodes(random, splitters);
+    let values = initial_values(random, splitters);
+    let machine = Machine::start(workers, nodes as usize, &values, Counting::Cached)
+        .expect("a start that is not refused");
+    let mut writer = TapeWriter::new(random, machine);
+    writer.body();
+    if ending != Ending::Unfinished {
+        writer.bring_main_home();
+    }
+    if ending == Ending::PastHome {
+        writer.past_home();
+    }
+    Input {
+        workers: workers as u16,
+        nodes,
+        values,
+        tape: writer.tape,
+    }
+}
+
+struct TapeWriter<'a> {
+    random: &'a mut Random,
+    machine: Machine,
+    tape: Vec<u8>,
+    /// Splitters that most reads and writes go to.
+    favourites: Vec<u16>,
+    weights: [usize; 6],
+    small_values: bool,
+    /// Of 100 records of the body, those that are not meant to be accepted.
+    strays: usize,
+}
+
+impl<'a> TapeWriter<'a> {
+    fn new(random: &'a mut Random, machine: Machine) -> TapeWriter<'a> {
+        let splitters = machine.splitters();
+        let mut favourites = vec![0, splitters as u16 - 1];
+        favourites.extend((0..3).map(|_| random.below(splitters) as u16));
+        let weights = random.pick(&MIXTURES);
+        let small_values = random.percent(50);
+        let strays = random.pick(&[0, 5, 10, 25]);
+        TapeWriter {
+            random,
+            machine,
+            tape: Vec::new(),
+            favourites,
+            weights,
+            small_values,
+            strays,
+        }
+    }
+
+    fn push(&mut self, record: Record) {
+        self.tape.extend(record);
+        if let Ok(step) = record::decode(record) {
+            // A refused step alters nothing, so its answer is of no use here.
+            let _ = self.machine.step(step);
+        }
+    }
+
+    fn body(&mut self) {
+        for _ in 0..body_length(self.random) {
+            let record = if self.random.percent(self.strays) {
+                self.stray_record()
+            } else {
+                self.likely_step().encode()
+            };
+            if !self.ends_main(record) {
+                self.push(record);
+            }
+        }
+    }
+
+    fn ends_main(&self, record: Record) -> bool {
+        let Ok(Step::Return { worker }) = record::decode(record) else {
+            return false;
+        };
+        let accepted = self.machine.check(Step::Return { worker }).is_ok();
+        accepted && self.machine.bottom(worker.into()) == Some(MAIN)
+    }
+
+    /// Returns frames, syncs those that wait for children and lets idle
+    /// workers steal, until Main has returned.
+    fn bring_main_home(&mut self) {
+        while !self.machine.main_has_returned() {
+            let aside = self.tape.len() / RECORD_BYTES < LONG_TAPE && self.random.percent(35);
+            let step = if aside {
+                self.step_aside()
+            } else {
+                self.step_home()
+            };
+            self.push(step.encode());
+        }
+    }
+
+    fn step_home(&mut self) -> Step {
+        let worker = self.busy_worker();
+        let end = Step::Return { worker };
+        match self.machine.check(end) {
+            Ok(()) => end,
+            Err(_) => Step::Sync { worker },
+        }
+    }
+
+    fn step_aside(&mut self) -> Step {
+        let kind = self.random.pick(&[3, 4, 5, 5, 6]);
+        self.step_of_kind(kind).unwrap_or_else(|| self.step_home())
+    }
+
+    fn past_home(&mut self) {
+        for _ in 0..self.random.between(1, 12) {
+            let record = self.stray_record();
+            self.push(record);
+        }
+    }
+
+    /// A step that is accepted, or refused by 16.
+    fn likely_step(&mut self) -> Step {
+        let kind = 1 + self.random.weighted(&self.weights);
+        self.step_of_kind(kind).unwrap_or_else(|| {
+            let worker = self.busy_worker();
+            self.read(worker)
+        })
+    }
+
+    fn step_of_kind(&mut self, kind: usize) -> Option<Step> {
+        let worker = self.busy_worker();
+        let step = match kind {
+            1 => Step::Spawn { worker },
+            2 => Step::Return { worker },
+            3 => return self.accepted_steal(),
+            4 => Step::Sync { worker },
+            5 => self.read(worker),
+            _ => self.write(worker),
+        };
+        let wanted = match self.machine.check(step) {
+            Err(Refusal::TooFewNodes) => self.random.percent(40),
+            checked => checked.is_ok(),
+        };
+        wanted.then_some(step)
+    }
+
+    fn accepted_steal(&mut self) -> Option<Step> {
+        let workers = self.machine.workers();
+        let mut steals = Vec::new();
+        for worker in 0..workers as u8 {
+            for victim in 0..workers as u16 {
+                steals.push(Step::Steal { worker, victim });
+            }
+        }
+        steals.retain(|steal| self.machine.check(*steal).is_ok());
+        (!steals.is_empty()).then(|| self.random.pick(&steals))
+    }
+
+    /// A worker that is not idle: there is one until Main has returned.
+    fn busy_worker(&mut self) -> u8 {
+        let workers = 0..self.machine.workers();
+        let busy: Vec<usize> = workers
+            .filter(|worker| self.machine.bottom(*worker).is_some())
+            .collect();
+        self.random.pick(&busy) as u8
+    }
+
+    fn splitter(&mut self) -> u16 {
+        if self.random.percent(75) {
+            self.random.pick(&self.favourites)
+        } else {
+            self.random.below(self.machine.splitters()) as u16
+        }
+    }
+
+    fn read(&mut self, worker: u8) -> Step {
+        let splitter = self.splitter();
+        Step::Read { worker, splitter }
+    }
+
+    /// A write, one time in four of the value that is there already.
+    fn write(&mut self, worker: u8) -> Step {
+        let splitter = self.splitter();
+        let bottom = self.machine.bottom(worker.into());
+        let value = match bottom {
+            Some(frame) if self.random.percent(25) => self.machine.value(frame, splitter.into()),
+            _ => value(self.random, self.small_values),
+        };
+        Step::Write {
+            worker,
+            splitter,
+            value,
+        }
+    }
+
+    fn stray_record(&mut self) -> Record {
+        match self.random.below(10) {
+            0 => std::array::from_fn(|_| self.random.byte()),
+            1 => self.bad_kind(),
+            2..=3 => self.unused_field_set(),
+            _ => self.stray_step().encode(),
+        }
+    }
+
+    fn bad_kind(&mut self) -> Record {
+        let mut record = self.stray_step().encode();
+        record[0] = self.random.pick(&[0, 7, 8, 128 + 1, 255]);
+        record
+    }
+
+    /// A step with one byte of an unused field not zero.
+    fn unused_field_set(&mut self) -> Record {
+        let worker = self.stray_worker();
+        let kind = self.random.pick(&[1, 2, 3, 4, 5]);
+        let mut record = self.stray_step_of_kind(kind, worker).encode();
+        let first_unused = if kind == 3 || kind == 5 { 4 } else { 2 };
+        let place = self.random.between(first_unused, RECORD_BYTES - 1);
+        record[place] = 1 << self.random.below(8);
+        record
+    }
+
+    fn stray_step(&mut self) -> Step {
+        let kind = self.random.between(1, 6);
+        let worker = self.stray_worker();
+        self.stray_step_of_kind(kind, worker)
+    }
+
+    fn stray_step_of_kind(&mut self, kind: usize, worker: u8) -> Step {
+        match kind {
+            1 => Step::Spawn { worker },
+            2 => Step::Return { worker },
+            3 => Step::Steal {
+                worker,
+                victim: self.stray_victim(),
+            },
+            4 => Step::Sync { worker },
+            5 => Step::Read {
+                worker,
+                splitter: self.stray_splitter(),
+            },
+            _ => Step::Write {
+                worker,
+                splitter: self.stray_splitter(),
+                value: self.random.word(),
+            },
+        }
+    }
+
+    /// Any worker, one time in ten one that does not exist.
+    fn stray_worker(&mut self) -> u8 {
+        let workers = self.machine.workers();
+        if self.random.percent(10) {
+            self.random.pick(&[workers as u8, 8, 9, 128, 255])
+        } else {
+            self.random.below(workers) as u8
+        }
+    }
+
+    fn stray_victim(&mut self) -> u16 {
+        let workers = self.machine.workers();
+        if self.random.percent(15) {
+            self.random.pick(&[workers as u16, 8, 255, 256, u16::MAX])
+        } else {
+            self.random.below(workers) as u16
+        }
+    }
+
+    /// Any splitter, one time in three one that is not below n.
+    fn stray_splitter(&mut self) -> u16 {
+        let splitters = self.machine.splitters() as u16;
+        if self.random.percent(33) {
+            self.random
+                .pick(&[splitters, splitters + 1, splitters + 256, 256, u16::MAX])
+        } else {
+            self.splitter()
+        }
+    }
+}
+
+#[cfg(test)]
+mod tests {
+    use super::*;
+    use crate::splitrun;
+
+    #[test]
+    fn a_seed_gives_the_same_input() {
+        for seed in 0..20 {
+            assert_eq!(input(seed), input(seed));
+        }
+    }
+
+    #[test]
+    fn two_thirds_bring_main_home() {
+        let homes = (0..300)
+            .map(|seed| splitrun::output(&input(seed), Counting::Cached))
+            .filter(|output| output.contains("\n102 3\n"))
+            .count();
+        assert!(homes >= 200, "{homes} of 300 runs bring Main home");
+    }
+
+    /// The debug mode: every cached count equals a plain recount.
+    #[test]
+    fn cached_counts_are_right() {
+        for seed in 0..60 {
+            splitrun::output(&input(seed), Counting::Recounted);
+        }
+    }
+}

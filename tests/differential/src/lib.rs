@@ -1,0 +1,16 @@
+//! The copying program of document 01 and the differential test of splitrun
+//! against it. Everything here is written from document 01's text alone.
+
+pub mod demand3;
+pub mod edges;
+pub mod generate;
+pub mod history;
+pub mod machine;
+pub mod program;
+pub mod random;
+pub mod record;
+pub mod refusal;
+pub mod shape;
+pub mod splitrun;
+pub mod tally;
+pub mod transcript;

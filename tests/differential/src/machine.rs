@@ -1,0 +1,346 @@
+//! Document 01's plain machine: each live frame has its own full list of
+//! values and its whole history, and nodes in use are counted from those.
+
+use super::history::{self, History, WriteId};
+use super::record::Step;
+use super::refusal::Refusal;
+use super::shape;
+use std::collections::BTreeMap;
+
+/// A frame's identity: the number of frames made before it. It is never used
+/// again.
+pub type FrameId = usize;
+
+pub const MAIN: FrameId = 0;
+
+const MAX_SPLITTERS: usize = 256;
+const MAX_WORKERS: usize = 8;
+const MAX_NODES: usize = 16_384;
+/// "At most 64 live frames."
+const MAX_LIVE_FRAMES: usize = 64;
+
+struct Frame {
+    parent: Option<FrameId>,
+    depth: u32,
+    suspended: bool,
+    values: Vec<u32>,
+    history: History,
+}
+
+/// How nodes in use are counted.
+#[derive(Clone, Copy, PartialEq, Eq)]
+pub enum Counting {
+    Cached,
+    /// The debug mode: each count is compared with a plain recount.
+    Recounted,
+}
+
+pub struct Machine {
+    splitters: usize,
+    nodes: usize,
+    /// The live frames.
+    frames: BTreeMap<FrameId, Frame>,
+    /// One deque per worker: the top frame first, the bottom one last.
+    deques: Vec<Vec<FrameId>>,
+    frames_made: usize,
+    writes_made: WriteId,
+    counting: Counting,
+}
+
+impl Machine {
+    /// A start, refused by 1 to 3.
+    pub fn start(
+        workers: usize,
+        nodes: usize,
+        values: &[u32],
+        counting: Counting,
+    ) -> Result<Machine, Refusal> {
+        let splitters = values.len();
+        if splitters == 0 || splitters > MAX_SPLITTERS {
+            return Err(Refusal::InitialValues);
+        }
+        if workers == 0 || workers > MAX_WORKERS {
+            return Err(Refusal::Workers);
+        }
+        if nodes < shape::tree_nodes(splitters) || nodes > MAX_NODES {
+            return Err(Refusal::PoolNodes);
+        }
+        let main = Frame {
+            parent: None,
+            depth: 0,
+            suspended: false,
+            values: values.to_vec(),
+            history: History::of_main(splitters),
+        };
+        // "At the start Main, depth 0, is alone on worker 0's deque."
+        let mut deques = vec![Vec::new(); workers];
+        deques[0].push(MAIN);
+        Ok(Machine {
+            splitters,
+            nodes,
+            frames: BTreeMap::from([(MAIN, main)]),
+            deques,
+            frames_made: 1,
+            writes_made: 0,
+            counting,
+        })
+    }
+
+    /// One step: the answer's number, or its refusal. "A refused step alters
+    /// nothing."
+    pub fn step(&mut self, step: Step) -> Result<u32, Refusal> {
+        self.check(step)?;
+        Ok(self.take(step))
+    }
+
+    /// Refusals 8 to 16, in checking order.
+    pub fn check(&self, step: Step) -> Result<(), Refusal> {
+        let worker = usize::from(step.worker());
+        if worker >= self.workers() {
+            return Err(Refusal::NoWorker);
+        }
+        if self.main_has_returned() {
+            return Err(Refusal::MainReturned);
+        }
+        if let Step::Steal { victim, .. } = step {
+            return self.check_steal(worker, usize::from(victim));
+        }
+        let Some(bottom) = self.bottom(worker) else {
+            return Err(Refusal::Idle);
+        };
+        match step {
+            Step::Spawn { .. } => self.check_spawn(),
+            Step::Return { .. } => self.check_return(bottom),
+            Step::Read { splitter, .. } => self.check_splitter(splitter),
+            Step::Write { splitter, .. } => self.check_write(splitter),
+            Step::Steal { .. } | Step::Sync { .. } => Ok(()),
+        }
+    }
+
+    fn check_steal(&self, thief: usize, victim: usize) -> Result<(), Refusal> {
+        if !self.deques[thief].is_empty() {
+            return Err(Refusal::ThiefNotIdle);
+        }
+        if victim >= self.workers() || self.deques[victim].len() < 2 {
+            return Err(Refusal::Victim);
+        }
+        Ok(())
+    }
+
+    fn check_spawn(&self) -> Result<(), Refusal> {
+        if self.frames.len() == MAX_LIVE_FRAMES {
+            return Err(Refusal::TooManyFrames);
+        }
+        Ok(())
+    }
+
+    fn check_return(&self, bottom: FrameId) -> Result<(), Refusal> {
+        if self.has_live_child(bottom) {
+            return Err(Refusal::LiveChild);
+        }
+        Ok(())
+    }
+
+    fn check_splitter(&self, splitter: u16) -> Result<(), Refusal> {
+        if usize::from(splitter) >= self.splitters {
+            return Err(Refusal::Splitter);
+        }
+        Ok(())
+    }
+
+    fn check_write(&self, splitter: u16) -> Result<(), Refusal> {
+        self.check_splitter(splitter)?;
+        if self.free_nodes() < shape::path_nodes(self.splitters) {
+            return Err(Refusal::TooFewNodes);
+        }
+        Ok(())
+    }
+
+    /// Takes a step that passed `check` and gives the answer's number: "spawn
+    /// the child's depth, steal the stolen frame's depth, return and sync the
+    /// outcome, read the value, write the free nodes left".
+    fn take(&mut self, step: Step) -> u32 {
+        let worker = usize::from(step.worker());
+        match step {
+            Step::Spawn { .. } => self.spawn(worker),
+            Step::Return { .. } => self.end(worker),
+            Step::Steal { victim, .. } => self.steal(worker, usize::from(victim)),
+            Step::Sync { .. } => self.sync(worker),
+            Step::Read { splitter, .. } => self.read(worker, usize::from(splitter)),
+            Step::Write {
+                splitter, value, ..
+            } => self.write(worker, usize::from(splitter), value),
+        }
+    }
+
+    /// "A new frame, child of the worker's bottom frame and one deeper, goes
+    /// to the bottom of the same deque." "Spawn copies the parent's list as
+    /// it is then."
+    fn spawn(&mut self, worker: usize) -> u32 {
+        let parent_id = self.executed(worker);
+        let parent = &self.frames[&parent_id];
+        let child = Frame {
+            parent: Some(parent_id),
+            depth: parent.depth + 1,
+            suspended: false,
+            values: parent.values.clone(),
+            history: parent.history.clone(),
+        };
+        let depth = child.depth;
+        let child_id = self.frames_made;
+        self.frames_made += 1;
+        self.frames.insert(child_id, child);
+        self.deques[worker].push(child_id);
+        depth
+    }
+
+    /// "The bottom frame ends." "Return drops the child's list."
+    fn end(&mut self, worker: usize) -> u32 {
+        let ended_id = self.executed(worker);
+        self.deques[worker].pop();
+        let ended = self.frames.remove(&ended_id).expect("a live frame");
+        // "The end of Main is outcome 3."
+        let Some(parent) = ended.parent else {
+            return 3;
+        };
+        // "If its parent is then the bottom, the outcome is 0."
+        if self.bottom(worker) == Some(parent) {
+            return 0;
+        }
+        // "If the deque is empty, the parent is suspended and has no live
+        // child left, the parent resumes on this worker, past its sync:
+        // outcome 2."
+        let idle = self.deques[worker].is_empty();
+        if idle && self.is_suspended(parent) && !self.has_live_child(parent) {
+            self.resume(worker, parent);
+            return 2;
+        }
+        // "If the deque is empty otherwise, the worker is idle: outcome 1."
+        1
+    }
+
+    /// "Sync, steal and resumption alter none" of the lists.
+    fn resume(&mut self, worker: usize, parent: FrameId) {
+        self.frame_mut(parent).suspended = false;
+        self.deques[worker].push(parent);
+    }
+
+    /// "An idle worker takes the top frame of a victim with at least two
+    /// frames."
+    fn steal(&mut self, thief: usize, victim: usize) -> u32 {
+        let stolen = self.deques[victim].remove(0);
+        self.deques[thief].push(stolen);
+        self.frames[&stolen].depth
+    }
+
+    /// "With no live child the bottom frame passes, outcome 0. Else it is
+    /// suspended, its worker goes idle, outcome 1."
+    fn sync(&mut self, worker: usize) -> u32 {
+        let frame = self.executed(worker);
+        if !self.has_live_child(frame) {
+            return 0;
+        }
+        self.frame_mut(frame).suspended = true;
+        self.deques[worker].pop();
+        1
+    }
+
+    /// "Read answers the value at its place in the bottom frame's list."
+    fn read(&self, worker: usize, splitter: usize) -> u32 {
+        self.frames[&self.executed(worker)].values[splitter]
+    }
+
+    /// "Write alters one place of the bottom frame's list."
+    fn write(&mut self, worker: usize, splitter: usize, value: u32) -> u32 {
+        let frame_id = self.executed(worker);
+        self.writes_made += 1;
+        let id = self.writes_made;
+        let frame = self.frame_mut(frame_id);
+        frame.values[splitter] = value;
+        frame.history.push(id, splitter);
+        self.free_nodes() as u32
+    }
+
+    /// "Its free nodes are the pool's less those in use."
+    pub fn free_nodes(&self) -> usize {
+        self.nodes - self.nodes_in_use()
+    }
+
+    fn nodes_in_use(&self) -> usize {
+        let count = history::nodes_in_use(self.histories(), self.splitters);
+        if self.counting == Counting::Recounted {
+            assert_eq!(count, history::recount_nodes_in_use(self.histories()));
+        }
+        count
+    }
+
+    fn histories(&self) -> impl Iterator<Item = &History> {
+        self.frames.values().map(|frame| &frame.history)
+    }
+
+    /// "A frame's outstanding count is the number of its live children."
+    pub fn has_live_child(&self, frame: FrameId) -> bool {
+        self.frames.values().any(|f| f.parent == Some(frame))
+    }
+
+    fn is_suspended(&self, frame: FrameId) -> bool {
+        self.frames.get(&frame).is_some_and(|f| f.suspended)
+    }
+
+    /// The bottom frame of a worker's deque, none if the worker is idle.
+    pub fn bottom(&self, worker: usize) -> Option<FrameId> {
+        self.deques[worker].last().copied()
+    }
+
+    /// The bottom frame of a worker that is not idle.
+    fn executed(&self, worker: usize) -> FrameId {
+        self.bottom(worker).expect("the worker is not idle")
+    }
+
+    fn frame_mut(&mut self, frame: FrameId) -> &mut Frame {
+        self.frames.get_mut(&frame).expect("a live frame")
+    }
+
+    pub fn main_has_returned(&self) -> bool {
+        !self.frames.contains_key(&MAIN)
+    }
+
+    pub fn workers(&self) -> usize {
+        self.deques.len()
+    }
+
+    pub fn splitters(&self) -> usize {
+        self.splitters
+    }
+
+    /// Frames made so far, Main among them: the next child's identity.
+    pub fn frames_made(&self) -> usize {
+        self.frames_made
+    }
+
+    pub fn value(&self, frame: FrameId, splitter: usize) -> u32 {
+        self.frames[&frame].values[splitter]
+    }
+}
+
+#[cfg(test)]
+mod tests {
+    use super::*;
+
+    fn refusal_of(workers: usize, nodes: usize, splitters: usize) -> Option<Refusal> {
+        Machine::start(workers, nodes, &vec![0; splitters], Counting::Recounted).err()
+    }
+
+    /// Among them the starts that splitrun calls unfit.
+    #[test]
+    fn starts() {
+        assert_eq!(refusal_of(1, 600, 0), Some(Refusal::InitialValues));
+        assert_eq!(refusal_of(1, 600, 257), Some(Refusal::InitialValues));
+        assert_eq!(refusal_of(0, 600, 256), Some(Refusal::Workers));
+        assert_eq!(refusal_of(9, 600, 256), Some(Refusal::Workers));
+        assert_eq!(refusal_of(8, 510, 256), Some(Refusal::PoolNodes));
+        assert_eq!(refusal_of(8, 16_385, 256), Some(Refusal::PoolNodes));
+        assert_eq!(refusal_of(8, 511, 256), None);
+        assert_eq!(refusal_of(8, 16_384, 256), None);
+    }
+}

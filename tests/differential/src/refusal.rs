@@ -1,0 +1,40 @@
+//! The refusals, "Refused, in checking order". Numbers 5 and 6 cannot occur
+//! in splitrun: its work slice is long enough and its state is sound.
+
+#[derive(Clone, Copy, Debug, PartialEq, Eq)]
+pub enum Refusal {
+    /// "At a start, there are 0 or more than 256 initial values."
+    InitialValues = 1,
+    /// "At a start, there are 0 or more than 8 workers."
+    Workers = 2,
+    /// "At a start, the pool has fewer than T(n) or more than 16,384 nodes."
+    PoolNodes = 3,
+    /// "The tape is not a multiple of 8 bytes."
+    RaggedTape = 4,
+    /// "The kind is not 1 to 6, or an unused field is not zero."
+    Record = 7,
+    /// "The worker does not exist."
+    NoWorker = 8,
+    /// "Main has returned."
+    MainReturned = 9,
+    /// "The step is not a steal and the worker is idle."
+    Idle = 10,
+    /// "The step is a steal and the thief is not idle."
+    ThiefNotIdle = 11,
+    /// "The victim does not exist or has fewer than two frames."
+    Victim = 12,
+    /// "The step is a spawn and 64 frames live."
+    TooManyFrames = 13,
+    /// "The step is a return and the frame has a live child."
+    LiveChild = 14,
+    /// "The step is a read or a write and the splitter is not below n."
+    Splitter = 15,
+    /// "The step is a write and fewer than H + 1 nodes are free."
+    TooFewNodes = 16,
+}
+
+impl Refusal {
+    pub fn number(self) -> u32 {
+        self as u32
+    }
+}

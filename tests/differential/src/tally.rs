@@ -1,0 +1,74 @@
+//! How often each accepted kind, outcome and refusal occurred.
+
+use std::collections::BTreeMap;
+
+/// Each line that splitrun can show, by the words that tell it apart.
+const EVENTS: [(&str, &str); 25] = [
+    ("101", "spawn"),
+    ("102 0", "return, outcome 0"),
+    ("102 1", "return, outcome 1"),
+    ("102 2", "return, outcome 2"),
+    ("102 3", "return, outcome 3"),
+    ("103", "steal"),
+    ("104 0", "sync, outcome 0"),
+    ("104 1", "sync, outcome 1"),
+    ("105", "read"),
+    ("106", "write"),
+    ("unfit", "unfit"),
+    ("refused 1", "refusal 1"),
+    ("refused 2", "refusal 2"),
+    ("refused 3", "refusal 3"),
+    ("refused 4", "refusal 4"),
+    ("7 0", "refusal 7"),
+    ("8 0", "refusal 8"),
+    ("9 0", "refusal 9"),
+    ("10 0", "refusal 10"),
+    ("11 0", "refusal 11"),
+    ("12 0", "refusal 12"),
+    ("13 0", "refusal 13"),
+    ("14 0", "refusal 14"),
+    ("15 0", "refusal 15"),
+    ("16 0", "refusal 16"),
+];
+
+#[derive(Default)]
+pub struct Tally {
+    counts: BTreeMap<String, usize>,
+}
+
+impl Tally {
+    /// Counts the lines of one output, its first line and `free` left out.
+    pub fn add(&mut self, output: &str) {
+        let first_is_event = output == "unfit\n";
+        let skipped = if first_is_event { 0 } else { 1 };
+        for line in output.lines().skip(skipped) {
+            *self.counts.entry(event(line)).or_default() += 1;
+        }
+    }
+
+    fn count(&self, event: &str) -> usize {
+        self.counts.get(event).copied().unwrap_or(0)
+    }
+}
+
+/// Numbers other than outcomes are left out of the event.
+fn event(line: &str) -> String {
+    match line.split_once(' ') {
+        Some((word @ ("101" | "103" | "105" | "106"), _)) => word.to_string(),
+        _ => line.to_string(),
+    }
+}
+
+/// The table of both tallies, and the events that one of them lacks.
+pub fn table(edges: &Tally, random: &Tally) -> (String, Vec<&'static str>) {
+    let mut table = format!("{:20} {:>9} {:>9}\n", "", "edges", "random");
+    let mut missing = Vec::new();
+    for (key, name) in EVENTS {
+        let (in_edges, in_random) = (edges.count(key), random.count(key));
+        table += &format!("{name:20} {in_edges:>9} {in_random:>9}\n");
+        if in_edges == 0 || in_random == 0 {
+            missing.push(name);
+        }
+    }
+    (table, missing)
+}
