@@ -1,0 +1,1 @@
+"""Scripts, the plain machine, explanations and pictures of splitrun's tapes."""

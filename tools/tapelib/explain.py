@@ -1,0 +1,135 @@
+"""Each answer of a run in words, and two machines side by side."""
+from .machine import name_text, tree_nodes
+from .script import record_line, split_input, split_records
+
+# Document 01's sentences, "Refused, in checking order".
+REFUSED = {
+    1: "At a start, there are 0 or more than 256 initial values.",
+    2: "At a start, there are 0 or more than 8 workers.",
+    3: "At a start, the pool has fewer than T(n) or more than 16,384 nodes.",
+    4: "The tape is not a multiple of 8 bytes, or the answer slice has fewer than two words per record.",
+    5: "The work slice has fewer words than the recorded node count.",
+    6: "State and pool are not sound.",
+    7: "The kind is not 1 to 6, or an unused field is not zero.",
+    8: "The worker does not exist.",
+    9: "Main has returned.",
+    10: "The step is not a steal and the worker is idle.",
+    11: "The step is a steal and the thief is not idle.",
+    12: "The victim does not exist or has fewer than two frames.",
+    13: "The step is a spawn and 64 frames live.",
+    14: "The step is a return and the frame has a live child.",
+    15: "The step is a read or a write and the splitter is not below n.",
+    16: "The step is a write and fewer than H + 1 nodes are free.",
+}
+UNFIT = (
+    "unfit: header or values cut short, n over 256, nodes over 1,024 or more than 16,384 bytes of records."
+)
+
+
+def who(name):
+    """A frame at the head of a sentence or in it: Main, frame 1.2"""
+    return f"frame {name_text(name)}" if name else "Main"
+
+
+def return_words(event):
+    me = who(event.frame)
+    parent = who(event.other) if event.other is not None else ""
+    return {
+        0: f"{me} ends; its parent {parent} is the bottom of worker {event.worker} again",
+        1: f"{me} ends; worker {event.worker} is idle",
+        2: f"{me} ends, the last child; {parent} resumes on worker {event.worker}, past its sync",
+        3: "Main ends; the run is over",
+    }[event.number]
+
+
+def accepted_words(event):
+    me, kind = who(event.frame), event.kind
+    if kind == "spawn":
+        return f"{me} spawns {who(event.other)}, depth {event.number}, a copy of {me}'s values"
+    if kind == "return":
+        return return_words(event)
+    if kind == "steal":
+        return f"worker {event.worker} takes {me}, depth {event.number}, from worker {event.low}"
+    if kind == "sync":
+        waits = f"{me} has a live child and is suspended; worker {event.worker} is idle"
+        return waits if event.number else f"{me} has no live child and passes"
+    if kind == "read":
+        return f"{me} reads splitter {event.low}: {event.number}"
+    return f"{me} writes {event.value} to splitter {event.low}"
+
+
+def event_words(event):
+    """What the record did, and the free nodes after it."""
+    if not event.refusal:
+        return f"{accepted_words(event)}. Free nodes: {event.free}"
+    bottom = f" (bottom frame: {name_text(event.frame)})" if event.frame is not None else ""
+    return f"refused {event.refusal}: {REFUSED[event.refusal]}{bottom} Nothing changes. Free nodes: {event.free}"
+
+
+def start_words(run):
+    """The first line, in words."""
+    text = f"{run.workers} workers, {len(run.values)} splitters, {run.nodes} nodes"
+    if run.events is None:
+        return text
+    tree = tree_nodes(len(run.values))
+    return f"{text}: {tree} in Main's tree, {run.nodes - tree} free. Main is alone on worker 0"
+
+
+def run_words(run):
+    """Words for each line of run.lines."""
+    if run.lines == ["unfit"]:
+        return [UNFIT]
+    words = [start_words(run)]
+    if run.events is None:
+        return words + [f"the call is refused whole, number {run.refused}: {REFUSED[run.refused]}"]
+    over = "Main has returned" if main_returned(run) else "Main has not returned"
+    return words + [event_words(event) for event in run.events] + [f"the free nodes at the end; {over}"]
+
+
+def main_returned(run):
+    return any(e.kind == "return" and not e.refusal and e.number == 3 for e in run.events)
+
+
+def step_texts(data, run):
+    """The script's lines for run.lines: none for the first and last line."""
+    if run.events is None:
+        return [""] * len(run.lines)
+    return ["start"] + [record_line(r) for r in split_records(split_input(data)[3])] + [""]
+
+
+def table(rows):
+    """Rows of texts in columns, the last column free."""
+    widths = [max(len(row[at]) for row in rows) for at in range(len(rows[0]) - 1)]
+    return ["  ".join([*(c.ljust(w) for c, w in zip(row, widths)), row[-1]]).rstrip() for row in rows]
+
+
+def explained(data, run, printed):
+    """(text, whether all answers are alike) for splitrun's lines next to the plain machine's."""
+    rows, alike = [("record", "step", "answer", "in words")], printed == run.lines
+    words, steps = run_words(run), step_texts(data, run)
+    for at in range(max(len(printed), len(run.lines))):
+        got = printed[at] if at < len(printed) else "(no line)"
+        want = run.lines[at] if at < len(run.lines) else "(no line)"
+        label = str(at) if run.events is not None and 1 <= at <= len(run.events) else ""
+        step = steps[at] if at < len(steps) else ""
+        text = words[at] if at < len(words) else ""
+        if got != want:
+            text = f"!!! DIFFERS: splitrun says '{got}', the plain machine '{want}' ({text})"
+        rows.append((label, step, got, text))
+    return "\n".join(table(rows)) + "\n", alike
+
+
+def side_by_side(data, own, other):
+    """(text, number of reads that differ) for document 01's rule and note B's."""
+    if own.events is None:
+        return f"no record is run: {run_words(own)[-1]}\n", 0
+    rows, reads = [("record", "step", "frame", "document 01", "note B", "")], []
+    for at, (a, b) in enumerate(zip(own.events, other.events), 1):
+        frame = name_text(a.frame) if a.frame is not None else "-"
+        differs = a.answer() != b.answer()
+        rows.append((str(at), record_line(a.record), frame, a.answer(), b.answer(), "<-- differs" if differs else ""))
+        if differs and a.kind == "read":
+            reads.append(f"record {at}: {who(a.frame)} reads splitter {a.low}: {a.number} by document 01, {b.number} under note B")
+    rows.append(("", "end", "", own.lines[-1], other.lines[-1], "<-- differs" if own.lines[-1] != other.lines[-1] else ""))
+    last = ["", f"reads that differ: {len(reads)}"] + ["  " + line for line in reads]
+    return "\n".join(table(rows) + last) + "\n", len(reads)
