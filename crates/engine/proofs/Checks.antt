@@ -1,6 +1,5 @@
 -- The check's ways out, and those of the entries at a state, over plain variables.
 use mathlib.Core.Path.{_≡_, refl, sym, ap, _∙_}
-use mathlib.Core.Logic.{inl, inr}
 use mathlib.Core.Bool.{Bool, true, false, cond, _&&_}
 use mathlib.Core.List.{List, []}
 use Prim.Native.Nat.{ℕ, _*_, _≤_, _<_}
@@ -8,7 +7,7 @@ use native.Mathlib.Omega.{arith}
 use lib.Dec.{leb}
 use lib.ListN.{length}
 use borrow.Author.Tests.{le-leb, lt-leb}
-use Rattle.words.specs.Tests.{decided, both, true≢false}
+use Rattle.words.specs.Tests.{both, true≢false}
 use Rattle.sizes.specs.Sizes.{treeNodes}
 use Rattle.soundness.specs.declared.Numbers.{Numbers}
 use Rattle.soundness.specs.declared.Checked.{Checked}
@@ -29,6 +28,7 @@ use Rattle.semantics.specs.declared.Call.{Call}
 use Rattle.semantics.specs.declared.Call.the-variants.{Taken, Denied}
 use Rattle.semantics.specs.Core.{did, stepOn}
 use Rattle.semantics.specs.Entries.{Entered, Played, numbersOf, headOf, coreOf, stateOf, enter, stepChecked, play, tapeChecked, unfitTape, ran, runOn, recordsOf}
+use Rattle.semantics.specs.Theory.WorkSlice.{checked-room, no-room-keeps}
 use Rattle.engine.specs.Promises.{core, IsStep, IsTape}
 
 -- ---- the check
@@ -60,10 +60,6 @@ good : (p : Bool) (m free : ℕ) → Good free ≡ cond p (Good m) Bad → Sound
 good true m free e = let q : free ≡ m = cc in ap Sound q
 good false m free e = let z : _≡_ {A = ℕ} 0 1 = cc in absurd (omega arith)
 
-has-room : (p : Bool) (m : ℕ) → cond p (Sound m) Checked.Unsound ≡ NoRoom → ⊥
-has-room true m e = let z : _≡_ {A = ℕ} 0 1 = cc in omega arith
-has-room false m e = let z : _≡_ {A = ℕ} 0 1 = cc in omega arith
-
 pub tables-no : (b n f : Bool) → b ≡ n → b ≡ false → false ≡ n && f
 tables-no b n f e z = rw (← e, z)
 
@@ -75,23 +71,12 @@ module _ (s : Numbers) (ds fs ws ks : List ℕ) where
   unfolding checked cleared
   no-room l = (rw (lt-leb (s .nodes) (length ks) l), rw (lt-leb (s .nodes) (length ks) l))
 
-  checked-room : leb (s .nodes) (length ks) ≡ true → checked s ds fs ws ks ≡ cond (sound s ds fs ws) (Sound (freeCount s ws)) Checked.Unsound
-  unfolding checked
-  checked-room e = rw e
-
-  no-room-keeps : checked s ds fs ws ks ≡ NoRoom → cleared (s .nodes) ks ≡ ks
-  unfolding cleared
-  no-room-keeps e = elim (decided (leb (s .nodes) (length ks))) [
-    | inl t ↦ absurd (has-room (sound s ds fs ws) (freeCount s ws) (sym (checked-room t) ∙ e))
-    | inr f ↦ rw f
-  ]
-
   module _ (room : s .nodes ≤ length ks) (b : Bool) (eb : b ≡ (numbersSound s ws && framesSound (s .workers) (s .vacant) ds fs)) (ks′ : List ℕ) where
     pub tables-unsound : b ≡ false → ks′ ≡ cleared (s .nodes) ks → Checks s ds fs ws ks ks′ Checked.Unsound
     unfolding sound
     tables-unsound f ek =
         let u : sound s ds fs ws ≡ false = unsound-first (numbersSound s ws) (framesSound (s .workers) (s .vacant) ds fs) _ (sym eb ∙ f) in
-        (ek, sym (checked-room (le-leb (s .nodes) (length ks) room) ∙ ap (λ t. cond t (Sound (freeCount s ws)) Checked.Unsound) u))
+        (ek, sym (checked-room s ds fs ws ks (le-leb (s .nodes) (length ks) room) ∙ ap (λ t. cond t (Sound (freeCount s ws)) Checked.Unsound) u))
 
     module _ (t : b ≡ true) (a : PoolChecked) (ea : (ks′ ≡ cleared (s .nodes) ks) × (a ≡ poolChecked (s .splitters) (s .nodes) (s .free) fs ws ks)) where
       abbrev trees : Bool
@@ -111,7 +96,7 @@ module _ (s : Numbers) (ds fs ws ks : List ℕ) where
           ea .1 ∙ rw (i .0, i .1, le-leb (s .nodes) (length ks) room)
 
       check-is : checked s ds fs ws ks ≡ cond trees (Sound (freeCount s ws)) Checked.Unsound
-      check-is = checked-room (le-leb (s .nodes) (length ks) room) ∙ ap (λ p. cond p (Sound (freeCount s ws)) Checked.Unsound) sound-is
+      check-is = checked-room s ds fs ws ks (le-leb (s .nodes) (length ks) room) ∙ ap (λ p. cond p (Sound (freeCount s ws)) Checked.Unsound) sound-is
 
       pub pool-unsound : a ≡ Bad → Checks s ds fs ws ks ks′ Checked.Unsound
       pool-unsound e = (ea .0, bad trees (freeCount s ws) (sym e ∙ answer-is) ∙ sym check-is)

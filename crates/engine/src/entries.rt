@@ -62,7 +62,8 @@ fn state_of(h: Head, deques: [u32; 520], frames: [u32; 384]) -> State
     }
 }
 
-fn check_state(state: State, pool: &[u32], work: &mut [u32]) -> Checked
+// Are this state and the pool sound?
+pub fn check_state(state: State, pool: &[u32], work: &mut [u32]) -> Checked
     ensures { λ r. ⌜ (now (work .exit) ≡ cleared (state .nodes) (now (work .entry)))
         × (r ≡ checked (numbersOf state) (state .deques) (state .frames) (now (pool .entry)) (now (work .entry))) ⌝ }
 {

@@ -14,6 +14,7 @@ pub use answers::first_word;
 pub use answers::refusal_number;
 pub use begin::start;
 pub use checking::check;
+pub use entries::check_state;
 pub use entries::step;
 pub use entries::tape;
 pub use kinds::step_read;

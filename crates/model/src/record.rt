@@ -7,6 +7,13 @@ ghost use mathlib.Core.List.{[], _∷_};
 ghost use lib.Dec.{eqb};
 ghost use Rattle.model.specs.Record.{little, validIf, recordOf, decodeAt};
 
+// A byte's number.
+fn wide(b: u8) -> u32
+    ensures { λ r. ⌜ r ≡ b ⌝ }
+{
+    b as u32
+}
+
 // The number of two bytes, the lowest first.
 pub fn number16(b0: u8, b1: u8) -> u32
     ensures { λ r. ⌜ r ≡ little (b0 ∷ b1 ∷ []) ⌝ }
@@ -35,17 +42,16 @@ fn valid_if_zero(step: Step, field: u32, value: u32) -> Decoded
 }
 
 // The step of a record with these fields.
-fn step_of(kind: u8, worker: u8, field: u32, value: u32) -> Decoded
+pub fn step_of(kind: u32, worker: u32, field: u32, value: u32) -> Decoded
     ensures { λ r. ⌜ r ≡ recordOf kind worker field value ⌝ }
 {
-    let w = worker as u32;
     match kind {
-        1 => valid_if_zero(Step::Spawn(w), field, value),
-        2 => valid_if_zero(Step::Return(w), field, value),
-        3 => valid_if_zero(Step::Steal(w, field), 0, value),
-        4 => valid_if_zero(Step::Sync(w), field, value),
-        5 => valid_if_zero(Step::Read(w, field), 0, value),
-        6 => Decoded::Valid(Step::Write(w, field, value)),
+        1 => valid_if_zero(Step::Spawn(worker), field, value),
+        2 => valid_if_zero(Step::Return(worker), field, value),
+        3 => valid_if_zero(Step::Steal(worker, field), 0, value),
+        4 => valid_if_zero(Step::Sync(worker), field, value),
+        5 => valid_if_zero(Step::Read(worker, field), 0, value),
+        6 => Decoded::Valid(Step::Write(worker, field, value)),
         _ => Decoded::Invalid,
     }
 }
@@ -62,5 +68,5 @@ pub fn decode(tape: &[u8], at: usize) -> Decoded
     }
     let field = number16(tape[at + 2], tape[at + 3]);
     let value = number32(tape[at + 4], tape[at + 5], tape[at + 6], tape[at + 7]);
-    step_of(tape[at], tape[at + 1], field, value)
+    step_of(wide(tape[at]), wide(tape[at + 1]), field, value)
 }

@@ -54,3 +54,5 @@ pub mod StartedRuns
 pub mod SoundSteps
 -- an empty tape changes only the work slice
 pub mod EmptyTape
+-- a work slice that is too short is left alone
+pub mod WorkSlice

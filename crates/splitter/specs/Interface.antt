@@ -1,0 +1,114 @@
+-- The C interface: the state as words, and what each exported function returns and leaves, on all inputs. Definitions only.
+use mathlib.Core.Path.{_≡_}
+use mathlib.Core.Bool.{Bool, cond}
+use mathlib.Core.List.{List, [], _∷_, _++_}
+use Prim.Native.Nat.{ℕ, _+_, _*_, _^_}
+use lib.ListN.{length, getD, take, drop}
+use lib.Dec.{ltb}
+use Rattle.soundness.specs.declared.Checked.{Checked}
+use Rattle.soundness.specs.declared.Checked.the-variants.{NoRoom, Sound}
+use Rattle.soundness.specs.Soundness.{checked, cleared}
+use Rattle.model.specs.declared.Decoded.{Decoded}
+use Rattle.model.specs.Record.{recordOf}
+use Rattle.semantics.specs.declared.State.{State}
+use Rattle.semantics.specs.declared.Refusal.{Refusal}
+use Rattle.semantics.specs.declared.Refusal.the-variants.{Work, Record}
+use Rattle.semantics.specs.declared.Answer.{Answer}
+use Rattle.semantics.specs.declared.Answer.the-variants.{Refused}
+use Rattle.semantics.specs.declared.Call.{Call}
+use Rattle.semantics.specs.declared.Call.the-variants.{Taken, Denied}
+use Rattle.semantics.specs.Answers.{refusalNumber, answerWords}
+use Rattle.semantics.specs.Entries.{Begun, Entered, Played, startOn, numbersOf, coreOf, entered, recordOn, play}
+
+-- ---- the state as words: document 02's R-1, "workers, splitters, nodes, first free node, first free frame place; for each of 8
+-- workers its deque length and 64 places for its frames from the top; 64 frame records"
+
+abbrev pub stateWords : ℕ
+stateWords = 909
+
+abbrev pub numberWords : State → List ℕ
+numberWords s = s .workers ∷ s .splitters ∷ s .nodes ∷ s .free ∷ s .vacant ∷ []
+
+abbrev pub imageOf : State → List ℕ
+imageOf s = numberWords s ++ s .deques ++ s .frames
+
+-- the state in the first words of a slice
+abbrev pub stateIn : List ℕ → State
+stateIn image =
+    record {
+      workers = getD image 0 0;
+      splitters = getD image 1 0;
+      nodes = getD image 2 0;
+      free = getD image 3 0;
+      vacant = getD image 4 0;
+      deques = take 520 (drop 5 image);
+      frames = take 384 (drop 525 image);
+    }
+
+-- a slice with this state in its first words; the others are unchanged
+abbrev pub withState : State → List ℕ → List ℕ
+withState s image = imageOf s ++ drop stateWords image
+
+-- ---- numbers
+
+-- the interface's own refusal: the state slice is too short
+abbrev pub shortState : ℕ
+shortState = 99
+
+-- 0, or the number of the refusal
+abbrev pub callNumber : Call → ℕ
+callNumber Taken = 0
+callNumber (Denied r) = refusalNumber r
+
+-- the first answer word in the low half, the second in the high half
+abbrev pub bothWords : ℕ × ℕ → ℕ
+bothWords w = w .0 + 2 ^ 32 * w .1
+
+-- ---- a step by the fields of a record: 5 and 6 refuse the call, then 7 the record
+
+-- of a record that is no step
+abbrev pub recordRefusal : Checked → Refusal
+recordRefusal NoRoom = Work
+recordRefusal Checked.Unsound = Refusal.Unsound
+recordRefusal (Sound k) = Record
+
+abbrev pub recordChecked : Checked → State → List ℕ → List ℕ → Decoded → Entered
+recordChecked NoRoom s ws work d = record { state = s; pool = ws; work = work; answer = Refused Work }
+recordChecked Checked.Unsound s ws work d = record { state = s; pool = ws; work = cleared (s .nodes) work; answer = Refused Refusal.Unsound }
+recordChecked (Sound k) s ws work d = entered (recordOn (coreOf s ws k) d) (cleared (s .nodes) work)
+
+unfoldable pub enterRecord : State → List ℕ → List ℕ → Decoded → Entered
+enterRecord s ws work d = recordChecked (checked (numbersOf s) (s .deques) (s .frames) ws work) s ws work d
+
+-- what such a step leaves and answers
+pub record IsRecordStep (s : State) (ws ks : List ℕ) (d : Decoded) (s′ : State) (ws′ ks′ : List ℕ) (a : Answer) : Type 0 where
+  pub result : a ≡ enterRecord s ws ks d .answer
+  pub state : s′ ≡ enterRecord s ws ks d .state
+  pub pool : ws′ ≡ enterRecord s ws ks d .pool
+  pub work : ks′ ≡ enterRecord s ws ks d .work
+
+-- ---- what the exported functions return and leave; a state slice that is too short is refused first, and nothing changes
+
+abbrev pub short : List ℕ → Bool
+short image = ltb (length image) stateWords
+
+-- of splitter_start, with this state slice, these workers, initial values vs and pool ws
+pub record IsHostStart (image : List ℕ) (workers : ℕ) (vs ws image′ ws′ : List ℕ) (r : ℕ) : Type 0 where
+  pub result : r ≡ cond (short image) shortState (callNumber (startOn workers vs ws .call))
+  pub state : image′ ≡ cond (short image) image (withState (startOn workers vs ws .state) image)
+  pub pool : ws′ ≡ cond (short image) ws (startOn workers vs ws .pool)
+
+-- of splitter_step, with this state slice, pool ws, work slice ks and step
+pub record IsHostStep (image ws ks : List ℕ) (kind worker field value : ℕ) (image′ ws′ ks′ : List ℕ) (r : ℕ) : Type 0 where
+  pub result : r ≡ cond (short image) shortState (bothWords (answerWords (enterRecord (stateIn image) ws ks (recordOf kind worker field value) .answer)))
+  pub state : image′ ≡ cond (short image) image (withState (enterRecord (stateIn image) ws ks (recordOf kind worker field value) .state) image)
+  pub pool : ws′ ≡ cond (short image) ws (enterRecord (stateIn image) ws ks (recordOf kind worker field value) .pool)
+  pub work : ks′ ≡ cond (short image) ks (enterRecord (stateIn image) ws ks (recordOf kind worker field value) .work)
+
+-- of splitter_tape, with this state slice, pool ws, work slice ks, tape bytes and answer slice rs
+pub record IsHostTape (image ws ks bytes rs image′ ws′ ks′ rs′ : List ℕ) (r : ℕ) : Type 0 where
+  pub result : r ≡ cond (short image) shortState (callNumber (play (stateIn image) ws ks bytes rs .call))
+  pub state : image′ ≡ cond (short image) image (withState (play (stateIn image) ws ks bytes rs .state) image)
+  pub pool : ws′ ≡ cond (short image) ws (play (stateIn image) ws ks bytes rs .pool)
+  pub work : ks′ ≡ cond (short image) ks (play (stateIn image) ws ks bytes rs .work)
+  pub answers : rs′ ≡ cond (short image) rs (play (stateIn image) ws ks bytes rs .answers)
