@@ -18,10 +18,11 @@ loop-holds : tie.Need-loop-holds Inv-loop μ-loop
 loop-holds c = (paste-zero (c .args .to .now) (c .args .i) (drop (c .args .j) (c .args .from .now)), refl, omega arith)
 
 loop-again : tie.Need-loop-again Inv-loop μ-loop
-loop-again c =
-    (copy-next (c .before .before .before .args .to .now) (c .before .before .before .args .from .now) (c .before .before .before .args .i) (c .before .before .before .args .j) (c .before .before .loop .k) (c .before .before .loop .to) (omega arith) (omega arith) (c .before .before .loop .inv .0),
-      simp length-set (c .before .before .loop .inv .1),
-      omega arith)
+loop-again c = (
+  copy-next (c .before .before .before .args .to .now) (c .before .before .before .args .from .now) (c .before .before .before .args .i) (c .before .before .before .args .j) (c .before .before .loop .k) (c .before .before .loop .to) (omega arith) (omega arith) (c .before .before .loop .inv .0),
+  simp length-set (c .before .before .loop .inv .1),
+  omega arith,
+)
 
 returns : tie.Need-returns Inv-loop μ-loop
 returns c = copy-done (c .before .before .args .to .now) (c .before .before .args .i) (drop (c .before .before .args .j) (c .before .before .args .from .now)) (c .before .loop .to) (c .before .loop .k) (c .before .before .args .n) (omega arith) (c .before .loop .inv .0)
