@@ -56,3 +56,5 @@ pub mod SoundSteps
 pub mod EmptyTape
 -- a work slice that is too short is left alone
 pub mod WorkSlice
+-- the lengths of a state's two tables never change
+pub mod Lengths

@@ -19,7 +19,7 @@ use Rattle.semantics.specs.declared.Call.{Call}
 use Rattle.semantics.specs.Answers.{answerWords}
 use Rattle.semantics.specs.Entries.{numbersOf, startOn, enter, play}
 use Rattle.engine.specs.Promises.{IsStart, IsStep, IsTape}
-use Rattle.splitter.specs.Interface.{stateIn, withState, callNumber, bothWords, recordRefusal, enterRecord, IsRecordStep, IsHostStart, IsHostStep, IsHostTape}
+use Rattle.splitter.specs.Interface.{stateIn, withState, callNumber, bothWords, recordRefusal, enterRecord, IsRecordStep, hostStart, hostStep, hostTape, IsHostStart, IsHostStep, IsHostTape}
 use Rattle.splitter.specs.Theory.RecordSteps.{valid-record, refusedWith, invalid-record}
 
 -- ---- a step by the fields of a record
@@ -41,16 +41,20 @@ module _ (s : State) (ws ks : List ℕ) (d : Decoded) where
 module _ (image : List ℕ) where
   module _ (small : length image < 909) where
     pub start-short : (workers : ℕ) (vs ws : List ℕ) → IsHostStart image workers vs ws image ws 99
+    unfolding hostStart
     start-short workers vs ws = let t = lt-ltb (length image) 909 small in record { result = rw t; state = rw t; pool = rw t }
 
     pub step-short : (ws ks : List ℕ) (kind worker field value : ℕ) → IsHostStep image ws ks kind worker field value image ws ks 99
+    unfolding hostStep
     step-short ws ks kind worker field value = let t = lt-ltb (length image) 909 small in record { result = rw t; state = rw t; pool = rw t; work = rw t }
 
     pub tape-short : (ws ks bytes rs : List ℕ) → IsHostTape image ws ks bytes rs image ws ks rs 99
+    unfolding hostTape
     tape-short ws ks bytes rs = let t = lt-ltb (length image) 909 small in record { result = rw t; state = rw t; pool = rw t; work = rw t; answers = rw t }
 
   module _ (room : 909 ≤ length image) (s′ : State) (image′ ws ws′ : List ℕ) (stored : image′ ≡ withState s′ image) where
     pub start-done : (workers : ℕ) (vs : List ℕ) (a : Call) (r : ℕ) → IsStart workers vs ws s′ ws′ a → r ≡ callNumber a → IsHostStart image workers vs ws image′ ws′ r
+    unfolding hostStart
     start-done workers vs a r p e =
         let t = le-ltb (length image) 909 room in
         record { result = rw t (e ∙ ap callNumber (p .result)); state = rw t (stored ∙ ap (λ q. withState q image) (p .state)); pool = rw t (p .pool) }
@@ -58,6 +62,7 @@ module _ (image : List ℕ) where
     module _ (s : State) (loaded : s ≡ stateIn image) (ks ks′ : List ℕ) (r : ℕ) where
       pub step-done : (kind worker field value : ℕ) (d : Decoded) (a : Answer) → d ≡ recordOf kind worker field value
           → IsRecordStep s ws ks d s′ ws′ ks′ a → r ≡ bothWords (answerWords a) → IsHostStep image ws ks kind worker field value image′ ws′ ks′ r
+      unfolding hostStep
       step-done kind worker field value d a ed p e =
           let t = le-ltb (length image) 909 room in
           let o : enterRecord s ws ks d ≡ enterRecord (stateIn image) ws ks (recordOf kind worker field value) = rw (loaded, ed) in
@@ -69,6 +74,7 @@ module _ (image : List ℕ) where
           }
 
       pub tape-done : (bytes rs rs′ : List ℕ) (a : Call) → IsTape s ws ks bytes rs s′ ws′ ks′ rs′ a → r ≡ callNumber a → IsHostTape image ws ks bytes rs image′ ws′ ks′ rs′ r
+      unfolding hostTape
       tape-done bytes rs rs′ a p e =
           let t = le-ltb (length image) 909 room in
           let o : play s ws ks bytes rs ≡ play (stateIn image) ws ks bytes rs = ap (λ q. play q ws ks bytes rs) loaded in

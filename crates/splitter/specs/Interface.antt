@@ -87,28 +87,70 @@ pub record IsRecordStep (s : State) (ws ks : List ℕ) (d : Decoded) (s′ : Sta
   pub pool : ws′ ≡ enterRecord s ws ks d .pool
   pub work : ks′ ≡ enterRecord s ws ks d .work
 
--- ---- what the exported functions return and leave; a state slice that is too short is refused first, and nothing changes
+-- ---- what the exported functions leave in the lent slices, and return; a state slice that is too short is refused first, and
+-- nothing changes
 
 abbrev pub short : List ℕ → Bool
 short image = ltb (length image) stateWords
 
--- of splitter_start, with this state slice, these workers, initial values vs and pool ws
+-- splitter_start, with this state slice, these workers, initial values vs and pool ws
+pub record Started : Type 0 where
+  pub image : List ℕ
+  pub pool : List ℕ
+  pub result : ℕ
+
+abbrev pub started : List ℕ → Begun → Started
+started image b = record { image = withState (b .state) image; pool = b .pool; result = callNumber (b .call) }
+
+unfoldable pub hostStart : List ℕ → ℕ → List ℕ → List ℕ → Started
+hostStart image workers vs ws = cond (short image) (record { image = image; pool = ws; result = shortState }) (started image (startOn workers vs ws))
+
+-- splitter_step, with this state slice, pool ws, work slice ks, kind, worker, field and value
+pub record Stepped : Type 0 where
+  pub image : List ℕ
+  pub pool : List ℕ
+  pub work : List ℕ
+  pub result : ℕ
+
+abbrev pub stepped : List ℕ → Entered → Stepped
+stepped image e = record { image = withState (e .state) image; pool = e .pool; work = e .work; result = bothWords (answerWords (e .answer)) }
+
+unfoldable pub hostStep : List ℕ → List ℕ → List ℕ → ℕ → ℕ → ℕ → ℕ → Stepped
+hostStep image ws ks kind worker field value =
+    cond (short image) (record { image = image; pool = ws; work = ks; result = shortState })
+    (stepped image (enterRecord (stateIn image) ws ks (recordOf kind worker field value)))
+
+-- splitter_tape, with this state slice, pool ws, work slice ks, tape bytes and answer slice rs
+pub record Taped : Type 0 where
+  pub image : List ℕ
+  pub pool : List ℕ
+  pub work : List ℕ
+  pub answers : List ℕ
+  pub result : ℕ
+
+abbrev pub taped : List ℕ → Played → Taped
+taped image p = record { image = withState (p .state) image; pool = p .pool; work = p .work; answers = p .answers; result = callNumber (p .call) }
+
+unfoldable pub hostTape : List ℕ → List ℕ → List ℕ → List ℕ → List ℕ → Taped
+hostTape image ws ks bytes rs =
+    cond (short image) (record { image = image; pool = ws; work = ks; answers = rs; result = shortState }) (taped image (play (stateIn image) ws ks bytes rs))
+
+-- ---- the promises
+
 pub record IsHostStart (image : List ℕ) (workers : ℕ) (vs ws image′ ws′ : List ℕ) (r : ℕ) : Type 0 where
-  pub result : r ≡ cond (short image) shortState (callNumber (startOn workers vs ws .call))
-  pub state : image′ ≡ cond (short image) image (withState (startOn workers vs ws .state) image)
-  pub pool : ws′ ≡ cond (short image) ws (startOn workers vs ws .pool)
+  pub result : r ≡ hostStart image workers vs ws .result
+  pub state : image′ ≡ hostStart image workers vs ws .image
+  pub pool : ws′ ≡ hostStart image workers vs ws .pool
 
--- of splitter_step, with this state slice, pool ws, work slice ks and step
 pub record IsHostStep (image ws ks : List ℕ) (kind worker field value : ℕ) (image′ ws′ ks′ : List ℕ) (r : ℕ) : Type 0 where
-  pub result : r ≡ cond (short image) shortState (bothWords (answerWords (enterRecord (stateIn image) ws ks (recordOf kind worker field value) .answer)))
-  pub state : image′ ≡ cond (short image) image (withState (enterRecord (stateIn image) ws ks (recordOf kind worker field value) .state) image)
-  pub pool : ws′ ≡ cond (short image) ws (enterRecord (stateIn image) ws ks (recordOf kind worker field value) .pool)
-  pub work : ks′ ≡ cond (short image) ks (enterRecord (stateIn image) ws ks (recordOf kind worker field value) .work)
+  pub result : r ≡ hostStep image ws ks kind worker field value .result
+  pub state : image′ ≡ hostStep image ws ks kind worker field value .image
+  pub pool : ws′ ≡ hostStep image ws ks kind worker field value .pool
+  pub work : ks′ ≡ hostStep image ws ks kind worker field value .work
 
--- of splitter_tape, with this state slice, pool ws, work slice ks, tape bytes and answer slice rs
 pub record IsHostTape (image ws ks bytes rs image′ ws′ ks′ rs′ : List ℕ) (r : ℕ) : Type 0 where
-  pub result : r ≡ cond (short image) shortState (callNumber (play (stateIn image) ws ks bytes rs .call))
-  pub state : image′ ≡ cond (short image) image (withState (play (stateIn image) ws ks bytes rs .state) image)
-  pub pool : ws′ ≡ cond (short image) ws (play (stateIn image) ws ks bytes rs .pool)
-  pub work : ks′ ≡ cond (short image) ks (play (stateIn image) ws ks bytes rs .work)
-  pub answers : rs′ ≡ cond (short image) rs (play (stateIn image) ws ks bytes rs .answers)
+  pub result : r ≡ hostTape image ws ks bytes rs .result
+  pub state : image′ ≡ hostTape image ws ks bytes rs .image
+  pub pool : ws′ ≡ hostTape image ws ks bytes rs .pool
+  pub work : ks′ ≡ hostTape image ws ks bytes rs .work
+  pub answers : rs′ ≡ hostTape image ws ks bytes rs .answers

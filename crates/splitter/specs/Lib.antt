@@ -1,3 +1,4 @@
--- What a reader must believe: Interface. What is proved of it: Theory.
+-- What a reader must believe: Interface, Run. What is proved of it: Theory.
 pub mod Interface
+pub mod Run
 pub mod Theory

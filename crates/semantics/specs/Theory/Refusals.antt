@@ -46,28 +46,29 @@ Alike (t ∷ ts) (u ∷ us) = (t .0 ≡ u .0) × (refusalNumber (t .1) ≡ u .1)
 abbrev pub refusedBy : Core → Refusal → Did
 refusedBy c r = record { core = c; answer = Refused r }
 
-some-number : (r : Refusal) → 0 < refusalNumber r
-some-number Values = omega arith
-some-number Workers = omega arith
-some-number Nodes = omega arith
-some-number Tape = omega arith
-some-number Work = omega arith
-some-number Unsound = omega arith
-some-number Record = omega arith
-some-number NoWorker = omega arith
-some-number MainReturned = omega arith
-some-number WorkerIdle = omega arith
-some-number ThiefBusy = omega arith
-some-number NoVictim = omega arith
-some-number FramesFull = omega arith
-some-number ChildLives = omega arith
-some-number NoSplitter = omega arith
-some-number PoolFull = omega arith
+-- the numbers are 1 to 16
+pub number-range : (r : Refusal) → (0 < refusalNumber r) × (refusalNumber r ≤ 16)
+number-range Values = omega arith
+number-range Workers = omega arith
+number-range Nodes = omega arith
+number-range Tape = omega arith
+number-range Work = omega arith
+number-range Unsound = omega arith
+number-range Record = omega arith
+number-range NoWorker = omega arith
+number-range MainReturned = omega arith
+number-range WorkerIdle = omega arith
+number-range ThiefBusy = omega arith
+number-range NoVictim = omega arith
+number-range FramesFull = omega arith
+number-range ChildLives = omega arith
+number-range NoSplitter = omega arith
+number-range PoolFull = omega arith
 
 judged-passes : (ts : List (Bool × Refusal)) (us : List (Bool × ℕ)) (c : Core) (d : Did) → Alike ts us → firstTrue 0 us ≡ 0 → judged ts c d ≡ d
 judged-passes [] [] c d a e = refl
 judged-passes (t ∷ ts) (u ∷ us) c d a e = elim (decided (u .0)) [
-  | inl s ↦ absurd (omega (arith, some-number (t .1), a .1, rw s at e))
+  | inl s ↦ absurd (omega (arith, number-range (t .1) .0, a .1, rw s at e))
   | inr s ↦ rw (a .0 ∙ s) (judged-passes ts us c d (a .2 s) (rw s at e))
 ]
 

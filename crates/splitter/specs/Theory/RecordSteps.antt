@@ -1,12 +1,11 @@
 -- A step by the fields of a record: a valid one is a step from outside, another is refused after the check.
-use mathlib.Core.Path.{_≡_, refl, sym, ap, _∙_}
+use mathlib.Core.Path.{_≡_, refl, sym, ap}
 use mathlib.Core.List.{List}
 use Prim.Native.Nat.{ℕ}
 use Rattle.soundness.specs.declared.Checked.{Checked}
 use Rattle.soundness.specs.declared.Checked.the-variants.{NoRoom, Sound}
 use Rattle.soundness.specs.Soundness.{checked, cleared}
 use Rattle.model.specs.declared.Step.{Step}
-use Rattle.model.specs.declared.Decoded.{Decoded}
 use Rattle.model.specs.declared.Decoded.the-variants.{Valid, Invalid}
 use Rattle.semantics.specs.declared.State.{State}
 use Rattle.semantics.specs.declared.Answer.{Answer}
@@ -37,3 +36,7 @@ module _ (s : State) (ws ks : List ℕ) where
   pub invalid-record : refusedWith (cleared (s .nodes) ks) (Refused (recordRefusal (checked (numbersOf s) (s .deques) (s .frames) ws ks))) ≡ enterRecord s ws ks Invalid
   unfolding enterRecord
   invalid-record = refused-check (checked (numbersOf s) (s .deques) (s .frames) ws ks) (no-room-keeps (numbersOf s) (s .deques) (s .frames) ws ks)
+
+  -- such a record leaves the state and the pool
+  pub invalid-keeps : (enterRecord s ws ks Invalid .state ≡ s) × (enterRecord s ws ks Invalid .pool ≡ ws)
+  invalid-keeps = (sym (ap (λ (e : Entered). e .state) invalid-record), sym (ap (λ (e : Entered). e .pool) invalid-record))

@@ -1,0 +1,22 @@
+//! Runs one peer on one case, for callgrind: `one PEER WORKLOAD N [empty]` or `one PEER check N NODES FRAMES WRITES`.
+//! By hand: `valgrind --tool=callgrind --dump-instr=yes --toggle-collect=bench_measured one library mix 16`.
+
+use bench::job::Job;
+use bench::measure;
+use bench::peer::Peer;
+use std::env;
+use std::process::ExitCode;
+
+fn main() -> ExitCode {
+    let words: Vec<String> = env::args().skip(1).collect();
+    let words: Vec<&str> = words.iter().map(String::as_str).collect();
+    let asked = words
+        .split_first()
+        .and_then(|(peer, job)| Some((Peer::named(peer)?, Job::from_words(job)?)));
+    let Some((peer, job)) = asked else {
+        eprintln!("one PEER WORKLOAD N [empty]\none PEER check N NODES FRAMES WRITES");
+        return ExitCode::FAILURE;
+    };
+    measure::once(peer, &job.case());
+    ExitCode::SUCCESS
+}

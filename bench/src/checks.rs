@@ -1,0 +1,83 @@
+//! What the soundness check costs: the instructions of a call with an empty tape.
+
+use crate::callgrind::count_all;
+use crate::case::{tree_nodes, Standing, MAX_NODES};
+use crate::job::Job;
+use crate::peer::Peer;
+
+/// Live frames.
+const FRAMES: [usize; 4] = [1, 8, 32, 64];
+
+pub struct CheckCost {
+    pub standing: Standing,
+    pub library: u64,
+    pub plain: u64,
+}
+
+impl CheckCost {
+    pub fn ratio(&self) -> f64 {
+        self.library as f64 / self.plain as f64
+    }
+}
+
+pub fn count(standings: &[Standing]) -> Vec<CheckCost> {
+    let jobs = |peer| {
+        standings
+            .iter()
+            .map(move |&standing| (peer, Job::Check(standing)))
+    };
+    let all: Vec<(Peer, Job)> = jobs(Peer::Library).chain(jobs(Peer::Plain)).collect();
+    let counts = count_all(&all);
+    let (library, plain) = counts.split_at(standings.len());
+    let counted = standings.iter().zip(library.iter().zip(plain));
+    counted
+        .map(|(&standing, (&library, &plain))| CheckCost {
+            standing,
+            library,
+            plain,
+        })
+        .collect()
+}
+
+/// One frame; pools from 2 T(n) nodes up, by four, and the largest.
+pub fn over_nodes(n: usize) -> Vec<Standing> {
+    let pools = (0..)
+        .map(|k| (2 * tree_nodes(n)) << (2 * k))
+        .take_while(|nodes| 2 * nodes <= MAX_NODES);
+    pools
+        .chain([MAX_NODES])
+        .map(|nodes| Standing {
+            n,
+            nodes,
+            frames: 1,
+            writes: 0,
+        })
+        .collect()
+}
+
+/// 1 to 64 frames that share one tree.
+pub fn sharing(n: usize) -> Vec<Standing> {
+    over_frames(n, 0)
+}
+
+/// 1 to 64 frames, each with writes of its own since its spawn: as many as there are splitters, 8 at most.
+pub fn written(n: usize) -> Vec<Standing> {
+    over_frames(n, n.min(8))
+}
+
+/// In a pool that is not much larger than needed, so that the frames show.
+fn over_frames(n: usize, writes: usize) -> Vec<Standing> {
+    let nodes = match n {
+        1 => 128,
+        16 => 2_048,
+        _ => 8_192,
+    };
+    FRAMES
+        .map(|frames| Standing {
+            n,
+            nodes,
+            frames,
+            writes,
+        })
+        .to_vec()
+}

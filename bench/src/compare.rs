@@ -1,0 +1,45 @@
+//! Every peer must answer as the library does, before anything is measured.
+
+use crate::case::{Case, Workload};
+use crate::measure::answers;
+use crate::peer::{Peer, PEERS};
+
+const WRITTEN: u32 = 106;
+
+/// Peers with nodes: all words. Others: a write's second word, the free nodes, is left out.
+fn assert_same_answers(case: &Case, what: &str) {
+    let expected = answers(Peer::Library, case);
+    assert!(
+        expected.chunks(2).all(|pair| pair[0] > 100),
+        "{what}: a record is refused"
+    );
+    for peer in PEERS {
+        let given = answers(peer, case);
+        let same = expected.len() == given.len()
+            && expected
+                .chunks(2)
+                .zip(given.chunks(2))
+                .all(|(a, b)| agree(peer, a, b));
+        assert!(
+            same,
+            "{what}: {} does not answer as the library does",
+            peer.name()
+        );
+    }
+}
+
+fn agree(peer: Peer, expected: &[u32], given: &[u32]) -> bool {
+    expected == given || (!peer.has_nodes() && expected[0] == WRITTEN && given[0] == WRITTEN)
+}
+
+/// Every workload at every size.
+pub fn all(workloads: &[Workload], sizes: &[usize]) {
+    for &workload in workloads {
+        for &n in sizes {
+            assert_same_answers(
+                &Case::records(workload, n),
+                &format!("{} {n}", workload.name()),
+            );
+        }
+    }
+}

@@ -1,0 +1,66 @@
+//! The whole benchmark: all peers, all tables, the pictures.
+
+use crate::case::{Standing, WORKLOADS};
+use crate::checks::{self, CheckCost};
+use crate::compare;
+use crate::peer::PEERS;
+use crate::pictures;
+use crate::records::{self, Cost};
+use crate::report;
+use crate::tables::SIZES;
+use crate::timing::{self, Time};
+use std::fs;
+use std::io;
+use std::path::Path;
+
+/// The sizes of the growth curves; those of the tables are among them.
+const GROWTH: [usize; 9] = [1, 2, 4, 8, 16, 32, 64, 128, 256];
+
+pub struct Figures {
+    pub costs: Vec<Cost>,
+    pub times: Vec<Time>,
+    /// One frame, growing pool.
+    pub over_nodes: Vec<CheckCost>,
+    /// Growing number of frames with one tree.
+    pub sharing: Vec<CheckCost>,
+    /// The same after writes in each frame.
+    pub written: Vec<CheckCost>,
+}
+
+/// Writes BENCH.md, bench_records.svg and bench_check.svg to `docs`, and prints the first.
+pub fn run(docs: &Path) -> io::Result<()> {
+    eprintln!("bench: all peers answer alike?");
+    compare::all(&WORKLOADS, &GROWTH);
+    let figures = measure();
+    fs::write(
+        docs.join("bench_records.svg"),
+        pictures::records(&figures.costs).svg(),
+    )?;
+    let checks = pictures::checks(
+        &figures.over_nodes,
+        &figures.sharing,
+        &figures.written,
+        &SIZES,
+    );
+    fs::write(docs.join("bench_check.svg"), checks.svg())?;
+    let text = report::text(&figures);
+    print!("{text}");
+    fs::write(docs.join("BENCH.md"), text)
+}
+
+fn measure() -> Figures {
+    eprintln!("bench: time");
+    let times = timing::time_all(&WORKLOADS, &SIZES);
+    eprintln!("bench: instructions of records");
+    let costs = records::count(&PEERS, &WORKLOADS, &GROWTH);
+    eprintln!("bench: instructions of the check");
+    let all_sizes =
+        |standings: fn(usize) -> Vec<Standing>| checks::count(&SIZES.map(standings).concat());
+    Figures {
+        costs,
+        times,
+        over_nodes: all_sizes(checks::over_nodes),
+        sharing: all_sizes(checks::sharing),
+        written: all_sizes(checks::written),
+    }
+}

@@ -1,0 +1,77 @@
+//! The goals, met or not by the figures.
+
+use crate::case::Workload;
+use crate::checks::CheckCost;
+use crate::peer::Peer;
+use crate::records::{self, Cost};
+use crate::tables::SIZES;
+
+/// How much more than plain Rust's the check may cost.
+const CHECK_LIMIT: f64 = 1.2;
+
+struct Goal {
+    what: &'static str,
+    met: bool,
+    figures: String,
+}
+
+/// Lines of a list in markdown.
+pub fn list(costs: &[Cost], checks: &[&CheckCost]) -> String {
+    let goals = [
+        records_goal(
+            "mix: no more instructions per further record than plain Rust",
+            costs,
+            Workload::Mix,
+            |ratio| ratio <= 1.0,
+        ),
+        records_goal(
+            "reads: fewer instructions per further record than plain Rust",
+            costs,
+            Workload::Reads,
+            |ratio| ratio < 1.0,
+        ),
+        check_goal(checks),
+    ];
+    let line = |goal: Goal| {
+        let met = if goal.met { "met" } else { "not met" };
+        format!("- {}: **{met}** ({})\n", goal.what, goal.figures)
+    };
+    goals.map(line).concat()
+}
+
+fn records_goal(
+    what: &'static str,
+    costs: &[Cost],
+    workload: Workload,
+    meets: fn(f64) -> bool,
+) -> Goal {
+    let ratio = |n| {
+        let of = |peer| records::find(costs, peer, workload, n).marginal();
+        of(Peer::Library) / of(Peer::Plain)
+    };
+    let ratios = SIZES.map(ratio);
+    let figures: Vec<String> = SIZES
+        .iter()
+        .zip(ratios)
+        .map(|(n, ratio)| format!("n = {n}: {ratio:.3}"))
+        .collect();
+    Goal {
+        what,
+        met: ratios.into_iter().all(meets),
+        figures: format!("library / plain: {}", figures.join(", ")),
+    }
+}
+
+fn check_goal(checks: &[&CheckCost]) -> Goal {
+    let ratios = || checks.iter().map(|check| check.ratio());
+    let within = ratios().filter(|&ratio| ratio <= CHECK_LIMIT).count();
+    let (least, most) = ratios().fold((f64::MAX, 0.0_f64), |(least, most), ratio| {
+        (least.min(ratio), most.max(ratio))
+    });
+    let count = checks.len();
+    Goal {
+        what: "check: within 1.2 times of plain Rust's, in every state measured",
+        met: within == count,
+        figures: format!("library / plain from {least:.3} to {most:.3}; within the limit in {within} of {count} states"),
+    }
+}

@@ -1,0 +1,46 @@
+//! The quick tables for tuning: instructions of the library and of plain Rust.
+
+use crate::case::{Standing, MAX_NODES, WORKLOADS};
+use crate::checks;
+use crate::compare;
+use crate::peer::Peer;
+use crate::records::{self, Cost};
+use crate::tables::{self, SIZES};
+
+const PEERS: [Peer; 2] = [Peer::Library, Peer::Plain];
+
+pub fn run() {
+    compare::all(&WORKLOADS, &SIZES);
+    let costs = records::count(&PEERS, &WORKLOADS, &SIZES);
+    println!("Instructions per further record:\n");
+    println!(
+        "{}",
+        tables::instructions(&costs, &PEERS, Cost::marginal).markdown()
+    );
+    println!("Instructions of a call with an empty tape, that is of the soundness check:\n");
+    println!(
+        "{}",
+        tables::checks(&checks::count(&standings())).markdown()
+    );
+}
+
+fn standings() -> Vec<Standing> {
+    let of = |(n, nodes, frames, writes)| Standing {
+        n,
+        nodes,
+        frames,
+        writes,
+    };
+    let chosen = [
+        (1, 2, 1, 0),
+        (1, MAX_NODES, 1, 0),
+        (16, 62, 1, 0),
+        (16, 2_048, 64, 0),
+        (16, 2_048, 64, 16),
+        (256, 1_022, 1, 0),
+        (256, MAX_NODES, 8, 8),
+        (256, MAX_NODES, 64, 0),
+        (256, MAX_NODES, 64, 8),
+    ];
+    chosen.map(of).to_vec()
+}

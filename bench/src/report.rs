@@ -1,0 +1,145 @@
+//! docs/BENCH.md, from the figures alone.
+
+use crate::case::{POOL_VIEWS, WORKERS};
+use crate::checks::CheckCost;
+use crate::contents;
+use crate::facts;
+use crate::full::Figures;
+use crate::goals;
+use crate::peer::PEERS;
+use crate::records::Cost;
+use crate::table::Table;
+use crate::tables;
+use crate::timing::{Time, ROUNDS};
+
+const HEAD: &str = "\
+# Benchmarks
+
+Written by `make bench` (`bench/run`) together with its two pictures; not edited by hand.
+
+";
+
+const PEERS_TEXT: &str = "\
+## The peers
+
+All are fed the same tapes and give the same answer words, which the bench compares before it measures.
+
+- library: `splitter_tape` of libsplitter.a through its C interface.
+- plain: the same algorithm in plain Rust on `&mut` state (`tests/host/src/plain.rs`), with the same soundness check in each call.
+- copying: a machine in Rust that keeps a `Vec<u32>` of values for each live frame; spawn copies it into the buffer of its frame's
+  place, which later frames in this place use again.
+- im-rc: the same machine with `im_rc::Vector<u32>` for each frame; spawn clones it, a write sets a place. It is left out where
+  Debian's librust-im-rc-dev is not installed.
+
+Copying and im-rc have neither nodes nor a soundness check: a write's second answer word, the free nodes, is 0 and not compared, and
+refusal 16 does not exist. They make the tests of refusals 7 to 15. The Rust peers are built with opt-level 3, fat LTO and one codegen
+unit, for x86-64 without further features; libsplitter.a is linked as it is.
+
+";
+
+const PICTURES: &str = "\
+## Growth
+
+![instructions per further record against n](bench_records.svg)
+
+![instructions of a check against nodes and frames](bench_check.svg)
+";
+
+pub fn text(figures: &Figures) -> String {
+    let checks: Vec<&CheckCost> = [&figures.over_nodes, &figures.sharing, &figures.written]
+        .into_iter()
+        .flatten()
+        .collect();
+    [
+        HEAD.to_string(),
+        facts::list(),
+        format!("\n## Goals\n\n{}\n", goals::list(&figures.costs, &checks)),
+        PEERS_TEXT.to_string(),
+        how(),
+        section("What the tapes hold (n = 16)", "", contents::table(16)),
+        records(figures),
+        rates(figures),
+        check(figures),
+        PICTURES.to_string(),
+    ]
+    .concat()
+}
+
+fn section(title: &str, text: &str, table: Table) -> String {
+    let gap = if text.is_empty() { "" } else { "\n\n" };
+    format!("## {title}\n\n{text}{gap}{}\n", table.markdown())
+}
+
+fn how() -> String {
+    format!(
+        "\
+## How it is measured
+
+A tape has 8,192 records, all accepted, made from a seed. Before it, not measured, comes a fresh start with {WORKERS} workers and
+{POOL_VIEWS} T(n) nodes and a prelude: each worker gets a frame, and each frame makes n / 2 writes (rounded up) to random splitters, so
+that their trees share some nodes. Reads and writes take a random busy worker and a random splitter. Mix is 70 in 100 reads, 22 writes, 8 control. At most 24
+frames live.
+
+Instructions are callgrind's, of the one call and nothing else, after one such call that is not counted. \"Per further record\" is a
+call with all records less a call with an empty tape, divided by 8,192: the check, once per call, is not in it. \"With the check\" is
+the call with all records divided by 8,192. The C library's memset and memcpy are kept to vector loops while counting, as callgrind
+takes each byte of a `rep stosb` for an instruction. Time is the best of {ROUNDS} calls, the peers by turns in one process.
+
+No buffer is cleared by the bench between calls: the work slice is as the call before left it, the answer words are those of the call
+before. The state is in the caller's memory for every peer; what the C interface does to it is part of each call of the library.
+
+"
+    )
+}
+
+fn records(figures: &Figures) -> String {
+    let table = |of| tables::instructions(&figures.costs, &PEERS, of);
+    let ratio = "Ratios below 1: the library needs fewer.";
+    section(
+        "Instructions per further record",
+        ratio,
+        table(Cost::marginal),
+    ) + &section(
+        "Instructions per record, with the check",
+        ratio,
+        table(Cost::with_check),
+    )
+}
+
+fn rates(figures: &Figures) -> String {
+    let table = |of| tables::rates(&figures.times, of);
+    let ratio = "Millions. Ratios above 1: the library is faster. Times vary from run to run; the instructions above hardly do.";
+    section(
+        "Records per second, without the check",
+        ratio,
+        table(Time::rate),
+    ) + &section(
+        "Records per second, with the check",
+        ratio,
+        table(Time::rate_with_check),
+    )
+}
+
+fn check(figures: &Figures) -> String {
+    let intro = "\
+Instructions of a call with an empty tape. One worker; the frames are a line of descendants of Main. \"Writes each\" are writes to
+random splitters in every frame after its spawn.";
+    [
+        section(
+            "The soundness check against nodes",
+            intro,
+            tables::checks(&figures.over_nodes),
+        ),
+        section(
+            "The soundness check against frames that share one tree",
+            "",
+            tables::checks(&figures.sharing),
+        ),
+        section(
+            "The soundness check against frames after writes",
+            "",
+            tables::checks(&figures.written),
+        ),
+    ]
+    .concat()
+}

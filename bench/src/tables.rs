@@ -1,0 +1,75 @@
+//! The tables of the report, from the figures.
+
+use crate::case::{Workload, WORKLOADS};
+use crate::checks::CheckCost;
+use crate::peer::{Peer, PEERS};
+use crate::records::{self, Cost};
+use crate::table::{grouped, Table};
+use crate::timing::{self, Time};
+
+/// The sizes of the tables.
+pub const SIZES: [usize; 3] = [1, 16, 256];
+
+/// A row for each workload and n: a figure of each peer, then the library's divided by each other peer's.
+fn by_peer(peers: &[Peer], digits: usize, figure: impl Fn(Peer, Workload, usize) -> f64) -> Table {
+    let others = || peers.iter().filter(|&&peer| peer != Peer::Library);
+    let names = peers.iter().map(|peer| peer.name().to_string());
+    let ratios = others().map(|peer| format!("library / {}", peer.name()));
+    let header = ["workload".to_string(), "n".to_string()]
+        .into_iter()
+        .chain(names)
+        .chain(ratios);
+    let mut table = Table::new(header.collect());
+    for workload in WORKLOADS {
+        for n in SIZES {
+            let library = figure(Peer::Library, workload, n);
+            let mut row = vec![workload.name().to_string(), n.to_string()];
+            row.extend(
+                peers
+                    .iter()
+                    .map(|&peer| format!("{:.digits$}", figure(peer, workload, n))),
+            );
+            row.extend(others().map(|&peer| format!("{:.2}", library / figure(peer, workload, n))));
+            table.row(row);
+        }
+    }
+    table
+}
+
+/// Instructions per record, without the check or with its share.
+pub fn instructions(costs: &[Cost], peers: &[Peer], of: fn(&Cost) -> f64) -> Table {
+    by_peer(peers, 1, |peer, workload, n| {
+        of(records::find(costs, peer, workload, n))
+    })
+}
+
+/// Millions of records per second.
+pub fn rates(times: &[Time], of: fn(&Time) -> f64) -> Table {
+    by_peer(&PEERS, 1, |peer, workload, n| {
+        of(timing::find(times, peer, workload, n)) / 1e6
+    })
+}
+
+pub fn checks(checks: &[CheckCost]) -> Table {
+    let header = [
+        "n",
+        "nodes",
+        "live frames",
+        "writes each",
+        "library",
+        "plain",
+        "library / plain",
+    ];
+    let mut table = Table::new(header.map(String::from).into());
+    for check in checks {
+        let s = check.standing;
+        let numbers = [s.n, s.nodes, s.frames, s.writes].map(|number| grouped(number as u64));
+        let costs = vec![
+            grouped(check.library),
+            grouped(check.plain),
+            format!("{:.2}", check.ratio()),
+        ];
+        table.row([numbers.to_vec(), costs].concat());
+    }
+    table
+}

@@ -1,0 +1,15 @@
+//! A record of a tape: 8 bytes.
+
+pub const SPAWN: u8 = 1;
+pub const RETURN: u8 = 2;
+pub const STEAL: u8 = 3;
+pub const SYNC: u8 = 4;
+pub const READ: u8 = 5;
+pub const WRITE: u8 = 6;
+
+/// The field is a splitter, or the victim of a steal.
+pub fn record(kind: u8, worker: u8, field: u16, value: u32) -> [u8; 8] {
+    let [f0, f1] = field.to_le_bytes();
+    let [v0, v1, v2, v3] = value.to_le_bytes();
+    [kind, worker, f0, f1, v0, v1, v2, v3]
+}

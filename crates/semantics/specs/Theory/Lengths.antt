@@ -1,0 +1,189 @@
+-- A state's deques have 520 words and its frame table 384: at every start, and after every call.
+use mathlib.Core.Path.{_≡_, refl, _∙_}
+use mathlib.Core.Bool.{Bool, cond, _||_}
+use mathlib.Core.Logic.{inl, inr}
+use mathlib.Core.List.{List, [], _∷_}
+use Prim.Native.Nat.{ℕ, zero, suc, _+_, _-_}
+use lib.ListN.{length, replicate, length-replicate}
+use lib.Dec.{eqb, ltb}
+use Rattle.words.specs.Basics.{none}
+use Rattle.words.specs.Tests.{decided}
+use Rattle.sizes.specs.Sizes.{treeNodes}
+use Rattle.frames.specs.declared.Frame.{Frame}
+use Rattle.frames.specs.Frames.{setFrame, withSuspended}
+use Rattle.frames.specs.Deques.{size, setPlace, bottom, push, pop, shiftUp, dropTop, initDeques}
+use Rattle.frames.specs.Steps.{Table, acting, resumes, spawn, ended, parentAfter, parentPlace, parentFrame, return, steal, sync}
+use Rattle.frames.specs.Theory.Records.{length-setFrame}
+use Rattle.frames.specs.Theory.Cells.{length-setSize, length-setPlace}
+use Rattle.frames.specs.Theory.Start.{length-init}
+use Rattle.soundness.specs.declared.Checked.{Checked}
+use Rattle.soundness.specs.declared.Checked.the-variants.{NoRoom, Sound}
+use Rattle.soundness.specs.Soundness.{checked}
+use Rattle.model.specs.declared.Step.{Step}
+use Rattle.model.specs.declared.Step.the-variants.{Spawn, Return, Steal, Sync, Read, Write}
+use Rattle.model.specs.declared.Decoded.{Decoded}
+use Rattle.model.specs.declared.Decoded.the-variants.{Valid, Invalid}
+use Rattle.semantics.specs.declared.State.{State}
+use Rattle.semantics.specs.declared.Refusal.{Refusal}
+use Rattle.semantics.specs.Core.{Core, Did, tableOf, judged, testsOf, spawned, robbed, waited, valued, wrote, doneBy, stepOn}
+use Rattle.semantics.specs.Core.{ended as endedFrame}
+use Rattle.semantics.specs.Entries.{numbersOf, coreOf, stateOf, zeros, Begun, wholeNodes, firstState, startOn, stepChecked, enter, recordOn, putAnswer, ran, runOn, recordsOf, unfitTape, tapeChecked, play}
+use Rattle.semantics.specs.Calls.{HostCall, outside, tape, Held, afterCall, afterCalls}
+
+pub record Fits (s : State) : Type 0 where
+  pub deques : length (s .deques) ≡ 520
+  pub frames : length (s .frames) ≡ 384
+
+-- ---- the deques
+
+module _ (ds : List ℕ) (w : ℕ) where
+  length-push : (p : ℕ) → length (push ds w p) ≡ length ds
+  unfolding push
+  length-push p = length-setSize (setPlace ds w (size ds w) p) w _ ∙ length-setPlace ds w (size ds w) p
+
+  length-pop : length (pop ds w) ≡ length ds
+  unfolding pop
+  length-pop = length-setSize (setPlace ds w (size ds w - 1) 0) w _ ∙ length-setPlace ds w (size ds w - 1) 0
+
+length-shift : (c : ℕ) (ds : List ℕ) (w k : ℕ) → length (shiftUp c ds w k) ≡ length ds
+unfolding shiftUp
+length-shift zero ds w k = refl
+length-shift (suc c) ds w k = length-shift c _ w _ ∙ length-setPlace ds w k _
+
+length-dropTop : (ds : List ℕ) (w : ℕ) → length (dropTop ds w) ≡ length ds
+unfolding dropTop
+length-dropTop ds w =
+    let es = shiftUp (size ds w - 1) ds w 0 in
+    length-setSize (setPlace es w (size ds w - 1) 0) w _ ∙ length-setPlace es w (size ds w - 1) 0 ∙ length-shift (size ds w - 1) ds w 0
+
+-- ---- a table is as long as before
+
+record AsLong (t t′ : Table) : Type 0 where
+  deques : length (t′ .deques) ≡ length (t .deques)
+  frames : length (t′ .frames) ≡ length (t .frames)
+
+as-long-refl : (t : Table) → AsLong t t
+as-long-refl t = record { deques = refl; frames = refl }
+
+as-long-trans : {t u v : Table} → AsLong t u → AsLong u v → AsLong t v
+as-long-trans a b = record { deques = b .deques ∙ a .deques; frames = b .frames ∙ a .frames }
+
+-- the one or the other
+either : (b : Bool) {t u v : Table} → AsLong t u → AsLong t v → AsLong t (cond b u v)
+either b a c = elim (decided b) [ inl e ↦ rw e a | inr e ↦ rw e c ]
+
+module _ (t : Table) (w : ℕ) where
+  spawn-long : AsLong t (spawn t w)
+  unfolding spawn
+  spawn-long = record {
+    deques = length-push (t .deques) w (t .free);
+    frames = length-setFrame (setFrame (t .frames) (bottom (t .deques) w) _) (t .free) _ ∙ length-setFrame (t .frames) (bottom (t .deques) w) _;
+  }
+
+  ended-long : AsLong t (ended t w)
+  ended-long = record { deques = length-pop (t .deques) w; frames = length-setFrame (t .frames) (bottom (t .deques) w) _ }
+
+  parent-long : (q : ℕ) (f : Frame) → AsLong t (parentAfter t w q f)
+  parent-long q f =
+      either (resumes (size (t .deques) w) f)
+      (record { deques = length-push (t .deques) w q; frames = length-setFrame (t .frames) q (withSuspended f 0) })
+      (record { deques = refl; frames = length-setFrame (t .frames) q f })
+
+  steal-long : (v : ℕ) → AsLong t (steal t w v)
+  unfolding steal
+  steal-long v = record { deques = length-push (dropTop (t .deques) v) w _ ∙ length-dropTop (t .deques) v; frames = refl }
+
+  sync-long : AsLong t (sync t w)
+  unfolding sync
+  sync-long =
+      either (eqb (acting t w .outstanding) 0) (as-long-refl t)
+      (record { deques = length-pop (t .deques) w; frames = length-setFrame (t .frames) (bottom (t .deques) w) _ })
+
+return-long : (t : Table) (w : ℕ) → AsLong t (return t w)
+unfolding return
+return-long t w =
+    either (eqb (parentPlace t w) none) (ended-long t w)
+    (as-long-trans (ended-long t w) (parent-long (ended t w) w (parentPlace t w) (parentFrame t w)))
+
+-- ---- a step
+
+done-long : (c : Core) (st : Step) → AsLong (tableOf c) (tableOf (doneBy c st .core))
+done-long c (Spawn w) = let L = spawn-long (tableOf c) w in unfold spawned in record { deques = L .deques; frames = L .frames }
+done-long c (Return w) = let L = return-long (tableOf c) w in unfold endedFrame in record { deques = L .deques; frames = L .frames }
+done-long c (Steal w v) = unfold robbed in record { deques = steal-long (tableOf c) w v .deques; frames = refl }
+done-long c (Sync w) = let L = sync-long (tableOf c) w in unfold waited in record { deques = L .deques; frames = L .frames }
+done-long c (Read w x) = unfold valued in record { deques = refl; frames = refl }
+done-long c (Write w x v) = unfold wrote in record { deques = refl; frames = length-setFrame (c .frames) (bottom (c .deques) w) _ }
+
+judged-fits : (ts : List (Bool × Refusal)) (c : Core) (d : Did) → Fits (stateOf c) → Fits (stateOf (d .core)) → Fits (stateOf (judged ts c d .core))
+judged-fits [] c d f g = g
+judged-fits (t ∷ ts) c d f g = elim (decided (t .0)) [ inl e ↦ rw e f | inr e ↦ rw e (judged-fits ts c d f g) ]
+
+step-fits : (c : Core) (st : Step) → Fits (stateOf c) → Fits (stateOf (stepOn c st .core))
+unfolding stepOn
+step-fits c st f =
+    let L = done-long c st in
+    judged-fits (testsOf c st) c (doneBy c st) f (record { deques = L .deques ∙ f .deques; frames = L .frames ∙ f .frames })
+
+record-fits : (c : Core) (d : Decoded) → Fits (stateOf c) → Fits (stateOf (recordOn c d .core))
+record-fits c (Valid st) f = step-fits c st f
+record-fits c Invalid f = f
+
+run-fits : (ds : List Decoded) (c : Core) (as′ : List ℕ) (k : ℕ) → Fits (stateOf c) → Fits (stateOf (runOn (ran c as′) k ds .core))
+unfolding runOn
+run-fits [] c as′ k f = f
+run-fits (d ∷ ds) c as′ k f = run-fits ds (recordOn c d .core) (putAnswer as′ k (recordOn c d .answer)) (k + 2) (record-fits c d f)
+
+-- ---- the entries
+
+zeros-fit : Fits zeros
+zeros-fit = record { deques = length-replicate {A = ℕ} 520 0; frames = length-replicate {A = ℕ} 384 0 }
+
+first-fits : (workers n nodes free : ℕ) → Fits (firstState workers n nodes free)
+unfolding initDeques
+first-fits workers n nodes free =
+    record { deques = length-push (replicate 520 0) 0 0 ∙ zeros-fit .deques; frames = length-init (replicate 384 0) (zeros-fit .frames) }
+
+either-start : (b : Bool) (x y : Begun) → Fits (x .state) → Fits (y .state) → Fits (cond b x y .state)
+either-start b x y f g = elim (decided b) [ inl e ↦ rw e f | inr e ↦ rw e g ]
+
+pub start-fits : (workers : ℕ) (vs ws : List ℕ) → Fits (startOn workers vs ws .state)
+unfolding startOn
+start-fits workers vs ws =
+    either-start (eqb (length vs) 0 || ltb 256 (length vs)) _ _ zeros-fit
+    (either-start (eqb workers 0 || ltb 8 workers) _ _ zeros-fit
+    (either-start (ltb (wholeNodes ws) (treeNodes (length vs)) || ltb 16384 (wholeNodes ws)) _ _ zeros-fit
+    (first-fits workers (length vs) (wholeNodes ws) _)))
+
+module _ (s : State) (ws ks : List ℕ) (f : Fits s) where
+  step-checked-fits : (k : Checked) (st : Step) → Fits (stepChecked k s ws ks st .state)
+  step-checked-fits NoRoom st = f
+  step-checked-fits Checked.Unsound st = f
+  step-checked-fits (Sound n) st = step-fits (coreOf s ws n) st f
+
+  pub enter-fits : (st : Step) → Fits (enter s ws ks st .state)
+  unfolding enter
+  enter-fits st = step-checked-fits (checked (numbersOf s) (s .deques) (s .frames) ws ks) st
+
+  module _ (bytes rs : List ℕ) where
+    tape-checked-fits : (k : Checked) → Fits (tapeChecked k s ws ks bytes rs .state)
+    tape-checked-fits NoRoom = f
+    tape-checked-fits Checked.Unsound = f
+    tape-checked-fits (Sound n) = run-fits (recordsOf bytes) (coreOf s ws n) rs 0 f
+
+    pub play-fits : Fits (play s ws ks bytes rs .state)
+    unfolding play
+    play-fits = elim (decided (unfitTape bytes rs)) [
+      | inl e ↦ rw e f
+      | inr e ↦ rw e (tape-checked-fits (checked (numbersOf s) (s .deques) (s .frames) ws ks))
+    ]
+
+-- ---- calls
+
+pub call-fits : (h : Held) (c : HostCall) → Fits (h .state) → Fits (afterCall h c .state)
+call-fits h (outside st work) f = enter-fits (h .state) (h .pool) work f st
+call-fits h (tape bytes work answers) f = play-fits (h .state) (h .pool) work f bytes answers
+
+pub calls-fit : (cs : List HostCall) (h : Held) → Fits (h .state) → Fits (afterCalls h cs .state)
+calls-fit [] h f = f
+calls-fit (c ∷ cs) h f = calls-fit cs (afterCall h c) (call-fits h c f)

@@ -1,0 +1,67 @@
+#include "checked.h"
+
+#include <stdio.h>
+#include <stdlib.h>
+
+void surprise(const char *what) {
+    printf("surprise: %s\n", what);
+    exit(1);
+}
+
+uint64_t same(const char *what, uint64_t got, uint64_t wanted) {
+    if (got != wanted) {
+        unsigned kind = splitter_answer_kind(got), wanted_kind = splitter_answer_kind(wanted);
+        printf("answered %u %u (%s), expected %u %u (%s)\n", kind, splitter_answer_number(got), splitter_name(kind),
+               wanted_kind, splitter_answer_number(wanted), splitter_name(wanted_kind));
+        surprise(what);
+    }
+    return got;
+}
+
+uint32_t checked_start(struct checked *run, unsigned workers, const uint32_t *values, size_t values_len) {
+    const struct splitter_lent *lent = &run->lent;
+    uint32_t got = splitter_start(lent->state, lent->state_len, workers, values, values_len, lent->pool, lent->pool_len);
+    same("start", got, plain_start(&run->plain, workers, values, values_len, lent->pool_len / SPLITTER_NODE_WORDS));
+    return got;
+}
+
+uint64_t checked_spawn(struct checked *run, unsigned worker) {
+    return same("spawn", splitter_spawn(&run->lent, worker), plain_step(&run->plain, SPLITTER_SPAWN, worker, 0, 0));
+}
+
+uint64_t checked_return(struct checked *run, unsigned worker) {
+    return same("return", splitter_return(&run->lent, worker), plain_step(&run->plain, SPLITTER_RETURN, worker, 0, 0));
+}
+
+uint64_t checked_steal(struct checked *run, unsigned worker, unsigned victim) {
+    return same("steal", splitter_steal(&run->lent, worker, victim), plain_step(&run->plain, SPLITTER_STEAL, worker, victim, 0));
+}
+
+uint64_t checked_sync(struct checked *run, unsigned worker) {
+    return same("sync", splitter_sync(&run->lent, worker), plain_step(&run->plain, SPLITTER_SYNC, worker, 0, 0));
+}
+
+uint64_t checked_read(struct checked *run, unsigned worker, unsigned splitter) {
+    return same("read", splitter_read(&run->lent, worker, splitter), plain_step(&run->plain, SPLITTER_READ, worker, splitter, 0));
+}
+
+uint64_t checked_write(struct checked *run, unsigned worker, unsigned splitter, uint32_t value) {
+    uint64_t wanted = plain_step(&run->plain, SPLITTER_WRITE, worker, splitter, value);
+    return same("write", splitter_write(&run->lent, worker, splitter, value), wanted);
+}
+
+/* What the plain machine answers to a record. */
+static uint64_t plain_record(struct plain *machine, const uint8_t *record) {
+    uint32_t value = record[4] | (uint32_t)record[5] << 8 | (uint32_t)record[6] << 16 | (uint32_t)record[7] << 24;
+    return plain_step(machine, record[0], record[1], record[2] | (uint32_t)record[3] << 8, value);
+}
+
+void checked_tape(struct checked *run, const uint8_t *tape, size_t tape_len, uint32_t *answers, size_t answers_len) {
+    const struct splitter_lent *lent = &run->lent;
+    same("tape", splitter_tape(lent->state, lent->state_len, lent->pool, lent->pool_len, lent->work, lent->work_len,
+                               tape, tape_len, answers, answers_len), SPLITTER_OK);
+    for (size_t i = 0; i < tape_len / SPLITTER_RECORD_BYTES; i++) {
+        uint64_t wanted = plain_record(&run->plain, tape + i * SPLITTER_RECORD_BYTES);
+        same("record", splitter_answer(answers[2 * i], answers[2 * i + 1]), wanted);
+    }
+}

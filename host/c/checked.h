@@ -1,0 +1,31 @@
+/* The library's calls, each compared with the plain machine's. An answer that differs is a surprise: a line, and exit status 1.
+ * A product calls splitter_spawn and its fellows directly. */
+#ifndef CHECKED_H
+#define CHECKED_H
+
+#include "plain.h"
+
+/* A run: the memory lent to the library, and the plain machine beside it. */
+struct checked {
+    struct splitter_lent lent;
+    struct plain plain;
+};
+
+/* Says what is wrong, and exits. */
+void surprise(const char *what);
+
+/* The answer that was got, which must be the one expected. */
+uint64_t same(const char *what, uint64_t got, uint64_t wanted);
+
+uint32_t checked_start(struct checked *run, unsigned workers, const uint32_t *values, size_t values_len);
+uint64_t checked_spawn(struct checked *run, unsigned worker);
+uint64_t checked_return(struct checked *run, unsigned worker);
+uint64_t checked_steal(struct checked *run, unsigned worker, unsigned victim);
+uint64_t checked_sync(struct checked *run, unsigned worker);
+uint64_t checked_read(struct checked *run, unsigned worker, unsigned splitter);
+uint64_t checked_write(struct checked *run, unsigned worker, unsigned splitter, uint32_t value);
+
+/* A tape of whole records, with two answer words for each. */
+void checked_tape(struct checked *run, const uint8_t *tape, size_t tape_len, uint32_t *answers, size_t answers_len);
+
+#endif

@@ -1,0 +1,205 @@
+#include "plain.h"
+
+/* The least H with 2^H at least n. */
+static unsigned height(unsigned n) {
+    unsigned h = 0;
+    while (1u << h < n) {
+        h += 1;
+    }
+    return h;
+}
+
+static unsigned tree_nodes(unsigned n) {
+    unsigned sum = 0;
+    for (unsigned level = 0; level <= height(n); level++) {
+        sum += ((n - 1) >> level) + 1;
+    }
+    return sum;
+}
+
+uint32_t plain_start(struct plain *machine, uint32_t workers, const uint32_t *values, size_t values_len, size_t nodes) {
+    static const struct plain none;
+    *machine = none;
+    if (values_len < 1 || values_len > SPLITTER_MAX_SPLITTERS) {
+        return SPLITTER_NO_VALUES;
+    }
+    if (workers < 1 || workers > SPLITTER_MAX_WORKERS) {
+        return SPLITTER_NO_WORKERS;
+    }
+    if (nodes < tree_nodes((unsigned)values_len) || nodes > SPLITTER_MAX_NODES) {
+        return SPLITTER_NO_NODES;
+    }
+    machine->workers = workers;
+    machine->splitters = (unsigned)values_len;
+    machine->nodes = (unsigned)nodes;
+    machine->live = 1;
+    machine->lengths[0] = 1;
+    machine->frames[0].live = 1;
+    for (size_t i = 0; i < values_len; i++) {
+        machine->frames[0].values[i] = values[i];
+    }
+    return SPLITTER_OK;
+}
+
+/* The last write, in this frame's history, to the splitters from first to below end. */
+static unsigned last_write(const struct plain_frame *frame, unsigned first, unsigned end) {
+    unsigned last = 0;
+    for (unsigned i = first; i < end; i++) {
+        last = frame->written[i] > last ? frame->written[i] : last;
+    }
+    return last;
+}
+
+/* How many different last writes the live frames have for one group. */
+static unsigned group_nodes(const struct plain *machine, unsigned first, unsigned end) {
+    unsigned seen[SPLITTER_MAX_FRAMES], count = 0;
+    for (unsigned f = 0; f < SPLITTER_MAX_FRAMES; f++) {
+        if (!machine->frames[f].live) {
+            continue;
+        }
+        unsigned at = 0;
+        seen[count] = last_write(&machine->frames[f], first, end);
+        while (seen[at] != seen[count]) {
+            at += 1;
+        }
+        count += at == count;
+    }
+    return count;
+}
+
+unsigned plain_free(const struct plain *machine) {
+    unsigned used = 0, n = machine->splitters;
+    for (unsigned level = 0; level <= height(n); level++) {
+        for (unsigned first = 0; first < n; first += 1u << level) {
+            unsigned end = first + (1u << level);
+            used += group_nodes(machine, first, end < n ? end : n);
+        }
+    }
+    return machine->nodes - used;
+}
+
+static unsigned bottom(const struct plain *machine, unsigned worker) {
+    return machine->deques[worker][machine->lengths[worker] - 1];
+}
+
+static void push(struct plain *machine, unsigned worker, unsigned frame) {
+    machine->deques[worker][machine->lengths[worker]++] = frame;
+}
+
+static uint32_t steal_refusal(const struct plain *machine, uint32_t thief, uint32_t victim) {
+    if (machine->lengths[thief] > 0) {
+        return SPLITTER_THIEF_BUSY;
+    }
+    return victim >= machine->workers || machine->lengths[victim] < 2 ? SPLITTER_NO_VICTIM : 0;
+}
+
+/* Document 01's refusals 7 to 16, in its order; 0 where none refuses. */
+static uint32_t refusal(const struct plain *machine, uint32_t kind, uint32_t worker, uint32_t field, uint32_t value) {
+    int names_splitter = kind == SPLITTER_READ || kind == SPLITTER_WRITE;
+    if (kind < SPLITTER_SPAWN || kind > SPLITTER_WRITE || (field != 0 && !names_splitter && kind != SPLITTER_STEAL)
+        || (value != 0 && kind != SPLITTER_WRITE)) {
+        return SPLITTER_BAD_RECORD;
+    }
+    if (worker >= machine->workers) {
+        return SPLITTER_NO_WORKER;
+    }
+    if (machine->live == 0) {
+        return SPLITTER_MAIN_RETURNED;
+    }
+    if (kind == SPLITTER_STEAL) {
+        return steal_refusal(machine, worker, field);
+    }
+    if (machine->lengths[worker] == 0) {
+        return SPLITTER_WORKER_IDLE;
+    }
+    if (kind == SPLITTER_SPAWN && machine->live == SPLITTER_MAX_FRAMES) {
+        return SPLITTER_FRAMES_FULL;
+    }
+    if (kind == SPLITTER_RETURN && machine->frames[bottom(machine, worker)].children > 0) {
+        return SPLITTER_CHILD_LIVES;
+    }
+    if (names_splitter && field >= machine->splitters) {
+        return SPLITTER_NO_SPLITTER;
+    }
+    return kind == SPLITTER_WRITE && plain_free(machine) < height(machine->splitters) + 1 ? SPLITTER_POOL_FULL : 0;
+}
+
+static uint64_t spawn(struct plain *machine, unsigned worker) {
+    unsigned parent = bottom(machine, worker), child = 0;
+    while (machine->frames[child].live) {
+        child += 1;
+    }
+    struct plain_frame *frame = &machine->frames[child];
+    *frame = machine->frames[parent];
+    frame->parent = parent;
+    frame->depth += 1;
+    frame->children = 0;
+    machine->frames[parent].children += 1;
+    machine->live += 1;
+    push(machine, worker, child);
+    return splitter_answer(SPLITTER_SPAWNED, frame->depth);
+}
+
+static uint64_t end(struct plain *machine, unsigned worker) {
+    struct plain_frame *frame = &machine->frames[bottom(machine, worker)];
+    struct plain_frame *parent = &machine->frames[frame->parent];
+    frame->live = 0;
+    machine->live -= 1;
+    machine->lengths[worker] -= 1;
+    if (frame == parent) {
+        return splitter_answer(SPLITTER_RETURNED, SPLITTER_FINISHED);
+    }
+    parent->children -= 1;
+    if (machine->lengths[worker] > 0) {
+        return splitter_answer(SPLITTER_RETURNED, SPLITTER_CONTINUED);
+    }
+    if (!parent->suspended || parent->children > 0) {
+        return splitter_answer(SPLITTER_RETURNED, SPLITTER_IDLE);
+    }
+    parent->suspended = 0;
+    push(machine, worker, frame->parent);
+    return splitter_answer(SPLITTER_RETURNED, SPLITTER_RESUMED);
+}
+
+static uint64_t steal(struct plain *machine, unsigned thief, unsigned victim) {
+    unsigned stolen = machine->deques[victim][0];
+    machine->lengths[victim] -= 1;
+    for (unsigned i = 0; i < machine->lengths[victim]; i++) {
+        machine->deques[victim][i] = machine->deques[victim][i + 1];
+    }
+    push(machine, thief, stolen);
+    return splitter_answer(SPLITTER_STOLEN, machine->frames[stolen].depth);
+}
+
+static uint64_t sync(struct plain *machine, unsigned worker) {
+    struct plain_frame *frame = &machine->frames[bottom(machine, worker)];
+    if (frame->children == 0) {
+        return splitter_answer(SPLITTER_SYNCED, SPLITTER_PASSED);
+    }
+    frame->suspended = 1;
+    machine->lengths[worker] -= 1;
+    return splitter_answer(SPLITTER_SYNCED, SPLITTER_SUSPENDED);
+}
+
+static uint64_t write(struct plain *machine, unsigned worker, unsigned splitter, uint32_t value) {
+    struct plain_frame *frame = &machine->frames[bottom(machine, worker)];
+    machine->writes += 1;
+    frame->values[splitter] = value;
+    frame->written[splitter] = machine->writes;
+    return splitter_answer(SPLITTER_WRITTEN, plain_free(machine));
+}
+
+uint64_t plain_step(struct plain *machine, uint32_t kind, uint32_t worker, uint32_t field, uint32_t value) {
+    uint32_t refused = refusal(machine, kind, worker, field, value);
+    if (refused) {
+        return splitter_answer(refused, 0);
+    }
+    switch (kind) {
+    case SPLITTER_SPAWN: return spawn(machine, worker);
+    case SPLITTER_RETURN: return end(machine, worker);
+    case SPLITTER_STEAL: return steal(machine, worker, field);
+    case SPLITTER_SYNC: return sync(machine, worker);
+    case SPLITTER_READ: return splitter_answer(SPLITTER_VALUE, machine->frames[bottom(machine, worker)].values[field]);
+    default: return write(machine, worker, field, value);
+    }
+}

@@ -1,0 +1,31 @@
+/* Document 01's plain machine: a full list of values for each frame, free nodes by counting the distinct triples.
+ * The worked hosts compare the library's answers with it. A product needs no such thing. */
+#ifndef PLAIN_H
+#define PLAIN_H
+
+#include "splitter.h"
+
+struct plain_frame {
+    int live, suspended;
+    unsigned parent, depth, children;         /* Main is its own parent */
+    uint32_t values[SPLITTER_MAX_SPLITTERS];
+    unsigned written[SPLITTER_MAX_SPLITTERS]; /* which write was the last to each splitter; the start is write 0 */
+};
+
+struct plain {
+    unsigned workers, splitters, nodes, writes, live;
+    struct plain_frame frames[SPLITTER_MAX_FRAMES];
+    unsigned deques[SPLITTER_MAX_WORKERS][SPLITTER_MAX_FRAMES]; /* from the top */
+    unsigned lengths[SPLITTER_MAX_WORKERS];
+};
+
+/* What splitter_start answers: SPLITTER_OK or a refusal. */
+uint32_t plain_start(struct plain *machine, uint32_t workers, const uint32_t *values, size_t values_len, size_t nodes);
+
+/* What splitter_step answers to a sound state and a long enough work slice: 101 to 106, or a refusal 7 to 16. */
+uint64_t plain_step(struct plain *machine, uint32_t kind, uint32_t worker, uint32_t field, uint32_t value);
+
+/* The free nodes: the pool's less the distinct triples of a level, a group and the last write to it, over all live frames. */
+unsigned plain_free(const struct plain *machine);
+
+#endif

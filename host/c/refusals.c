@@ -1,0 +1,116 @@
+/* A tape, and each refusal once. */
+#include <stdio.h>
+
+#include "search.h"
+
+void show_tape(void) {
+    static const uint32_t values[] = {10, 20, 30, 40, 50};
+    enum { RECORDS = 9 };
+    uint8_t tape[RECORDS * SPLITTER_RECORD_BYTES], *at = tape;
+    uint32_t answers[2 * RECORDS];
+    at = splitter_put_record(at, SPLITTER_SPAWN, 0, 0, 0);
+    at = splitter_put_record(at, SPLITTER_STEAL, 1, 0, 0);
+    at = splitter_put_record(at, SPLITTER_WRITE, 1, 4, 99);
+    at = splitter_put_record(at, SPLITTER_READ, 0, 4, 0);
+    at = splitter_put_record(at, SPLITTER_SYNC, 1, 0, 0);
+    at = splitter_put_record(at, SPLITTER_READ, 1, 4, 0);
+    at = splitter_put_record(at, SPLITTER_RETURN, 0, 0, 0);
+    at = splitter_put_record(at, SPLITTER_READ, 0, 4, 0);
+    splitter_put_record(at, SPLITTER_RETURN, 0, 0, 0);
+
+    printf("\nTape: 2 workers, 5 splitters, 20 nodes\n");
+    lend(20);
+    same("start", checked_start(&run, 2, values, 5), SPLITTER_OK);
+    checked_tape(&run, tape, sizeof tape, answers, 2 * RECORDS);
+    for (unsigned i = 0; i < RECORDS; i++) {
+        printf("%u %u  %s\n", answers[2 * i], answers[2 * i + 1], splitter_name(answers[2 * i]));
+    }
+}
+
+static void show(uint64_t answer, uint32_t wanted, const char *what) {
+    same(what, answer, wanted);
+    printf("%2u  %s: %s\n", wanted, what, splitter_name(wanted));
+}
+
+static void refused_starts(void) {
+    show(checked_start(&run, 2, factory_marks, 0), SPLITTER_NO_VALUES, "a start without values");
+    show(checked_start(&run, 9, factory_marks, BLOCKS), SPLITTER_NO_WORKERS, "a start with 9 workers");
+    lend((unsigned)splitter_tree_nodes(BLOCKS) - 1);
+    show(checked_start(&run, 2, factory_marks, BLOCKS), SPLITTER_NO_NODES, "a start with a node too few");
+}
+
+/* Calls refused whole. Each leaves state and pool as they were, so the run goes on. */
+static void refused_calls(void) {
+    struct splitter_lent lent = run.lent;
+    const uint8_t tape[SPLITTER_RECORD_BYTES] = {SPLITTER_SPAWN};
+    uint32_t answers[2];
+    show(splitter_tape(lent.state, lent.state_len, lent.pool, lent.pool_len, lent.work, lent.work_len,
+                       tape, sizeof tape - 1, answers, 2), SPLITTER_BAD_TAPE, "a tape of 7 bytes");
+    lent.work_len -= 1;
+    show(splitter_read(&lent, 0, 3), SPLITTER_SHORT_WORK, "a work slice with a word too few");
+    lent = run.lent;
+    lent.state_len -= 1;
+    show(splitter_read(&lent, 0, 3), SPLITTER_SHORT_STATE, "a state slice with a word too few");
+    run.lent.pool[0] ^= 1;
+    show(splitter_read(&run.lent, 0, 3), SPLITTER_UNSOUND, "a bit of the pool has flipped");
+    run.lent.pool[0] ^= 1;
+    printf("    the bit flipped back, block 3 reads %u\n", splitter_answer_number(checked_read(&run, 0, 3)));
+}
+
+static void refused_steps(void) {
+    const uint8_t tape[SPLITTER_RECORD_BYTES] = {9};
+    uint32_t answers[2];
+    checked_tape(&run, tape, sizeof tape, answers, 2);
+    show(answers[0], SPLITTER_BAD_RECORD, "a record of kind 9");
+    show(checked_spawn(&run, 2), SPLITTER_NO_WORKER, "worker 2 of 2 spawns");
+    show(checked_sync(&run, 1), SPLITTER_WORKER_IDLE, "worker 1 syncs");
+    show(checked_read(&run, 0, BLOCKS), SPLITTER_NO_SPLITTER, "worker 0 reads block 16");
+}
+
+static void refused_steals(void) {
+    show(checked_steal(&run, 0, 1), SPLITTER_THIEF_BUSY, "worker 0 steals");
+    show(checked_steal(&run, 1, 0), SPLITTER_NO_VICTIM, "worker 1 steals from a deque of one");
+}
+
+/* Main moves to worker 1; its child stays on worker 0. */
+static void refused_return(void) {
+    checked_spawn(&run, 0);
+    checked_steal(&run, 1, 0);
+    show(checked_return(&run, 1), SPLITTER_CHILD_LIVES, "Main returns while its child runs elsewhere");
+}
+
+/* The pool has room for one path beside the first view: Main's. What the child wants to write must wait, or the child must end. */
+static void full_pool(void) {
+    checked_write(&run, 1, 12, 103);
+    show(checked_write(&run, 0, 12, 109), SPLITTER_POOL_FULL, "Main has written, then its child writes");
+    checked_return(&run, 0);
+    printf("    the child has ended, Main writes again: %u nodes free\n", splitter_answer_number(checked_write(&run, 1, 13, 109)));
+}
+
+static void full_frames(void) {
+    uint64_t answer = checked_spawn(&run, 1);
+    while (splitter_answer_kind(answer) == SPLITTER_SPAWNED) {
+        answer = checked_spawn(&run, 1);
+    }
+    show(answer, SPLITTER_FRAMES_FULL, "64 frames, each the child of the one before, and one more");
+    checked_return(&run, 1);
+    printf("    one has ended, the next spawn has depth %u\n", splitter_answer_number(checked_spawn(&run, 1)));
+    do {
+        answer = checked_return(&run, 1);
+    } while (answer == splitter_answer(SPLITTER_RETURNED, SPLITTER_CONTINUED));
+    same("last return", answer, splitter_answer(SPLITTER_RETURNED, SPLITTER_FINISHED));
+    show(checked_read(&run, 1, 3), SPLITTER_MAIN_RETURNED, "a read after Main's return");
+}
+
+void show_refusals(void) {
+    printf("\nRefusals\n");
+    refused_starts();
+    lend((unsigned)splitter_tree_nodes(BLOCKS) + 5);
+    same("start", checked_start(&run, 2, factory_marks, BLOCKS), SPLITTER_OK);
+    refused_calls();
+    refused_steps();
+    refused_steals();
+    refused_return();
+    full_pool();
+    full_frames();
+}

@@ -1,0 +1,94 @@
+/* How much stack a call takes: each runs on a painted stack of its own. Exit status 1 above splitter.h's SPLITTER_STACK_BYTES.
+ * 256 splitters and 64 frames: the deepest walks and releases that there are. */
+#define _XOPEN_SOURCE 700
+#include <stdio.h>
+#include <stdlib.h>
+#include <string.h>
+#include <ucontext.h>
+
+#include "splitter.h"
+
+enum { NODES = 2048, PAINT = 0xa5, FRAMES = 64, RECORDS = 6 * FRAMES };
+
+static uint32_t state[SPLITTER_STATE_WORDS], pool[NODES * SPLITTER_NODE_WORDS], work[NODES], values[SPLITTER_MAX_SPLITTERS];
+static const struct splitter_lent lent = {state, SPLITTER_STATE_WORDS, pool, NODES * SPLITTER_NODE_WORDS, work, NODES};
+static uint8_t tape[RECORDS * SPLITTER_RECORD_BYTES];
+static uint32_t answers[2 * RECORDS];
+static unsigned char stack[1 << 17];
+
+static void start(void) {
+    splitter_start(state, SPLITTER_STATE_WORDS, 2, values, SPLITTER_MAX_SPLITTERS, pool, NODES * SPLITTER_NODE_WORDS);
+}
+
+/* Down to the deepest frame, a write in each; a steal and a sync; then all the way back. */
+static void steps(void) {
+    for (unsigned i = 1; i < FRAMES; i++) {
+        splitter_spawn(&lent, 0);
+        splitter_write(&lent, 0, SPLITTER_MAX_SPLITTERS - i, i);
+        splitter_read(&lent, 0, i);
+    }
+    splitter_steal(&lent, 1, 0);
+    splitter_sync(&lent, 1);
+    for (unsigned i = 0; i < FRAMES; i++) {
+        splitter_return(&lent, 0);
+    }
+}
+
+static void tapes(void) {
+    splitter_tape(state, SPLITTER_STATE_WORDS, pool, NODES * SPLITTER_NODE_WORDS, work, NODES, tape, sizeof tape, answers, 2 * RECORDS);
+}
+
+/* The same steps as records. The rest of the tape stays zero: refused records. */
+static void write_tape(void) {
+    uint8_t *at = tape;
+    for (unsigned i = 1; i < FRAMES; i++) {
+        at = splitter_put_record(at, SPLITTER_SPAWN, 0, 0, 0);
+        at = splitter_put_record(at, SPLITTER_WRITE, 0, (uint16_t)(SPLITTER_MAX_SPLITTERS - i), i);
+        at = splitter_put_record(at, SPLITTER_READ, 0, (uint16_t)i, 0);
+    }
+    at = splitter_put_record(at, SPLITTER_STEAL, 1, 0, 0);
+    at = splitter_put_record(at, SPLITTER_SYNC, 1, 0, 0);
+    for (unsigned i = 0; i < FRAMES; i++) {
+        at = splitter_put_record(at, SPLITTER_RETURN, 0, 0, 0);
+    }
+}
+
+/* The bytes of the stack that the function wrote to. */
+static size_t stack_of(void (*function)(void)) {
+    ucontext_t here, there;
+    size_t untouched = 0;
+    memset(stack, PAINT, sizeof stack);
+    getcontext(&there);
+    there.uc_stack.ss_sp = stack;
+    there.uc_stack.ss_size = sizeof stack;
+    there.uc_link = &here;
+    makecontext(&there, function, 0);
+    swapcontext(&here, &there);
+    while (untouched < sizeof stack && stack[untouched] == PAINT) {
+        untouched += 1;
+    }
+    return sizeof stack - untouched;
+}
+
+/* Main must have returned, or the run went another way and the measure says little. */
+static void check_end(void) {
+    if (splitter_answer_kind(splitter_spawn(&lent, 0)) != SPLITTER_MAIN_RETURNED) {
+        printf("surprise: Main has not returned\n");
+        exit(1);
+    }
+}
+
+int main(void) {
+    write_tape();
+    size_t starts = stack_of(start), stepped = stack_of(steps);
+    check_end();
+    start();
+    size_t taped = stack_of(tapes);
+    check_end();
+    printf("stack: a start takes %zu bytes, a step %zu, a tape %zu\n", starts, stepped, taped);
+    if (starts > SPLITTER_STACK_BYTES || stepped > SPLITTER_STACK_BYTES || taped > SPLITTER_STACK_BYTES) {
+        printf("surprise: splitter.h promises at most %u\n", SPLITTER_STACK_BYTES);
+        return 1;
+    }
+    return 0;
+}

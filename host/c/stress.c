@@ -1,0 +1,213 @@
+/* Random runs through the archive, every answer compared with the plain machine's. Usage: stress [RUNS [SEED]].
+ *
+ * Beyond the answers: words past each lent slice and past the last whole node never change; the work slice is zero after each call;
+ * a refused call or step leaves state and pool as they were; a pool with a wrong count of holders is refused. */
+#include <stdio.h>
+#include <stdlib.h>
+#include <string.h>
+
+#include "checked.h"
+
+enum { NODES = 1024, GUARD = 3, STEPS = 300, RECORDS = 20 };
+#define GUARD_WORD 0xdeadbeefu
+
+static uint32_t state[SPLITTER_STATE_WORDS + GUARD], old_state[SPLITTER_STATE_WORDS];
+static uint32_t pool[NODES * SPLITTER_NODE_WORDS + GUARD], old_pool[NODES * SPLITTER_NODE_WORDS];
+static uint32_t work[NODES + GUARD], answers[2 * RECORDS + GUARD];
+static struct checked run;
+static unsigned long counts[SPLITTER_WRITTEN + 1]; /* by first answer word */
+
+static uint32_t seed;
+
+/* Xorshift: a number below the bound. */
+static uint32_t any(uint32_t below) {
+    seed ^= seed << 13;
+    seed ^= seed >> 17;
+    seed ^= seed << 5;
+    return (uint32_t)((uint64_t)seed * below >> 32);
+}
+
+static void guard(uint32_t *words) {
+    for (unsigned i = 0; i < GUARD; i++) {
+        words[i] = GUARD_WORD;
+    }
+}
+
+static void check_guard(const uint32_t *words, const char *what) {
+    for (unsigned i = 0; i < GUARD; i++) {
+        if (words[i] != GUARD_WORD) {
+            surprise(what);
+        }
+    }
+}
+
+/* After every call. */
+static void check_memory(void) {
+    check_guard(run.lent.state + run.lent.state_len, "words past the state changed");
+    check_guard(run.lent.pool + run.plain.nodes * SPLITTER_NODE_WORDS, "words past the last whole node changed");
+    check_guard(run.lent.work + run.lent.work_len, "words past the work slice changed");
+    for (size_t i = 0; i < run.lent.work_len; i++) {
+        if (run.lent.work[i] != 0) {
+            surprise("the work slice is not zero");
+        }
+    }
+}
+
+/* The check must not rely on what the work slice holds. */
+static void soil_work(void) {
+    memset(work, 0xa5, run.lent.work_len * sizeof work[0]);
+}
+
+static void remember(void) {
+    memcpy(old_state, state, sizeof old_state);
+    memcpy(old_pool, pool, sizeof old_pool);
+}
+
+static void check_unchanged(void) {
+    if (memcmp(old_state, state, sizeof old_state) != 0 || memcmp(old_pool, pool, sizeof old_pool) != 0) {
+        surprise("a refused step changed state or pool");
+    }
+}
+
+struct step {
+    uint32_t kind, worker, field, value;
+};
+
+/* Mostly a step that could be accepted, now and then any record at all. */
+static struct step any_step(void) {
+    struct step junk = {any(256), any(256), any(65536), any(3)};
+    struct step step = {SPLITTER_SPAWN + any(6), any(run.plain.workers), 0, 0};
+    if (any(50) == 0) {
+        return junk;
+    }
+    if (step.kind == SPLITTER_RETURN && any(2) == 0) {
+        step.kind = SPLITTER_SPAWN;
+    }
+    if (step.kind == SPLITTER_STEAL) {
+        step.field = any(run.plain.workers + 1);
+    }
+    if (step.kind == SPLITTER_READ || step.kind == SPLITTER_WRITE) {
+        step.field = any(30) == 0 ? any(65536) : any(run.plain.splitters);
+    }
+    step.value = step.kind == SPLITTER_WRITE ? any(4) : 0;
+    return step;
+}
+
+static void stress_step(void) {
+    struct step s = any_step();
+    soil_work();
+    remember();
+    uint64_t wanted = plain_step(&run.plain, s.kind, s.worker, s.field, s.value);
+    same("step", splitter_take(&run.lent, s.kind, s.worker, s.field, s.value), wanted);
+    counts[splitter_answer_kind(wanted)] += 1;
+    if (splitter_answer_kind(wanted) < SPLITTER_SPAWNED) {
+        check_unchanged();
+    }
+}
+
+static void stress_tape(void) {
+    uint8_t tape[RECORDS * SPLITTER_RECORD_BYTES], *at = tape;
+    unsigned records = any(RECORDS + 1);
+    for (unsigned i = 0; i < records; i++) {
+        struct step s = any_step();
+        at = splitter_put_record(at, (uint8_t)s.kind, (uint8_t)s.worker, (uint16_t)s.field, s.value);
+    }
+    soil_work();
+    guard(answers + 2 * records);
+    checked_tape(&run, tape, records * SPLITTER_RECORD_BYTES, answers, 2 * records);
+    check_guard(answers + 2 * records, "words past the answers changed");
+    for (unsigned i = 0; i < records; i++) {
+        counts[answers[2 * i]] += 1;
+    }
+}
+
+/* Any step at all, with state or pool refused before it: nothing changes. */
+static void stress_refused(const struct splitter_lent *lent, uint32_t wanted) {
+    struct step s = any_step();
+    remember();
+    same("refused", splitter_take(lent, s.kind, s.worker, s.field, s.value), wanted);
+    check_unchanged();
+    counts[wanted] += 1;
+}
+
+/* A wrong count of holders is never sound, be the node in use or free. */
+static void stress_unsound(void) {
+    uint32_t *holders = &pool[any(run.plain.nodes) * SPLITTER_NODE_WORDS];
+    uint32_t bit = 1u << any(32);
+    *holders ^= bit;
+    soil_work();
+    stress_refused(&run.lent, SPLITTER_UNSOUND);
+    *holders ^= bit;
+}
+
+static void stress_short_work(void) {
+    struct splitter_lent lent = run.lent;
+    lent.work_len = any(run.plain.nodes);
+    stress_refused(&lent, SPLITTER_SHORT_WORK);
+}
+
+static void stress_call(void) {
+    switch (any(40)) {
+    case 0: stress_unsound(); break;
+    case 1: stress_short_work(); break;
+    case 2:
+    case 3: stress_tape(); break;
+    default: stress_step(); break;
+    }
+}
+
+static void stress_run(void) {
+    uint32_t values[SPLITTER_MAX_SPLITTERS];
+    unsigned n = 1 + any(any(4) == 0 ? SPLITTER_MAX_SPLITTERS : 20);
+    unsigned tree = (unsigned)splitter_tree_nodes(n);
+    unsigned nodes = tree + any(any(2) == 0 ? 3 * tree : NODES - tree + 1);
+    nodes = nodes < NODES ? nodes : NODES;
+    struct splitter_lent lent = {state, SPLITTER_STATE_WORDS, pool, nodes * SPLITTER_NODE_WORDS + any(4), work, nodes};
+    run.lent = lent;
+    for (unsigned i = 0; i < n; i++) {
+        values[i] = any(5);
+    }
+    memset(work, 0, sizeof work);
+    guard(state + lent.state_len);
+    guard(pool + nodes * SPLITTER_NODE_WORDS);
+    guard(work + lent.work_len);
+    same("start", checked_start(&run, 1 + any(SPLITTER_MAX_WORKERS), values, n), SPLITTER_OK);
+    for (unsigned i = 0; i < STEPS && run.plain.live > 0; i++) {
+        stress_call();
+        check_memory();
+    }
+}
+
+static unsigned long argument(const char *text) {
+    char *end;
+    unsigned long number = strtoul(text, &end, 10);
+    if (*text < '0' || *text > '9' || *end != '\0') {
+        fprintf(stderr, "stress: %s is not a number; usage: stress [RUNS [SEED]]\n", text);
+        exit(2);
+    }
+    return number;
+}
+
+/* Every answer and refusal of a step has come, or the runs show too little. */
+static unsigned long count_answers(void) {
+    unsigned long sum = 0;
+    for (uint32_t kind = SPLITTER_SHORT_WORK; kind <= SPLITTER_WRITTEN; kind++) {
+        int comes = kind <= SPLITTER_POOL_FULL || kind >= SPLITTER_SPAWNED;
+        if (comes && counts[kind] == 0) {
+            printf("never answered: %u (%s)\n", kind, splitter_name(kind));
+            exit(1);
+        }
+        sum += counts[kind];
+    }
+    return sum;
+}
+
+int main(int argc, char **argv) {
+    unsigned long runs = argc > 1 ? argument(argv[1]) : 500;
+    seed = argc > 2 ? (uint32_t)argument(argv[2]) | 1u : 1u;
+    for (unsigned long i = 0; i < runs; i++) {
+        stress_run();
+    }
+    printf("stress: %lu random runs, %lu answers, each as the plain machine gives it\n", runs, count_answers());
+    return 0;
+}

@@ -1,0 +1,214 @@
+/* The splitter engine: splitters over stolen work, proved. C interface of libsplitter.a (make lib). C99 or later, C++11 or later.
+ *
+ * The library keeps nothing between calls, allocates nothing and calls no system function: all it reads and writes is the memory
+ * that a call lends. A slice is a pointer and its length in elements (words of 32 bits, or bytes). The slices of one call must not
+ * overlap, and no pointer may be NULL, also of an empty slice. One call at a time may use a state and its pool: locking is the host's.
+ *
+ * Memory to lend, and its owner is always the host:
+ *   state     SPLITTER_STATE_WORDS words; what they hold between calls is the engine's. Further words are never changed.
+ *   pool      SPLITTER_NODE_WORDS words for each node, T(n) to SPLITTER_MAX_NODES nodes: splitter_tree_nodes(n) gives T(n).
+ *   work      a word for each node of the pool, for the check of state and pool; the words are zero afterwards.
+ *   answers   two words for each record of a tape.
+ *
+ * Order of calls: splitter_start, then any of splitter_step and splitter_tape, each with the state and the pool as the call before left
+ * them. Every call checks what it is handed: state and pool that are not sound are refused (SPLITTER_UNSOUND), not used. A foreign
+ * change that leaves them sound, such as another value in a leaf, cannot be seen.
+ *
+ * The four functions are the library. Below them are inline helpers: a call for each kind of step, records, texts.
+ */
+#ifndef SPLITTER_H
+#define SPLITTER_H
+
+#include <stddef.h>
+#include <stdint.h>
+
+#ifdef __cplusplus
+extern "C" {
+#endif
+
+#define SPLITTER_STATE_WORDS 909u /* 5 numbers, 8 deques of 65 words, 64 frame records of 6 words */
+#define SPLITTER_NODE_WORDS 4u
+#define SPLITTER_MAX_NODES 16384u
+#define SPLITTER_MAX_SPLITTERS 256u
+#define SPLITTER_MAX_WORKERS 8u
+#define SPLITTER_MAX_FRAMES 64u
+#define SPLITTER_RECORD_BYTES 8u
+#define SPLITTER_STACK_BYTES 24576u /* a call takes less stack than this, on x86-64; measured (host/c/stack.c) */
+
+/* Kinds of steps: a record's first byte, and splitter_step's kind. */
+enum {
+    SPLITTER_SPAWN = 1,
+    SPLITTER_RETURN = 2,
+    SPLITTER_STEAL = 3,
+    SPLITTER_SYNC = 4,
+    SPLITTER_READ = 5,
+    SPLITTER_WRITE = 6
+};
+
+/* Results of a call that was not refused, and the first answer word of an accepted step. */
+enum {
+    SPLITTER_OK = 0,
+    SPLITTER_SPAWNED = 101,  /* second word: the child's depth */
+    SPLITTER_RETURNED = 102, /* second word: SPLITTER_CONTINUED to SPLITTER_FINISHED */
+    SPLITTER_STOLEN = 103,   /* second word: the stolen frame's depth */
+    SPLITTER_SYNCED = 104,   /* second word: SPLITTER_PASSED or SPLITTER_SUSPENDED */
+    SPLITTER_VALUE = 105,    /* second word: the value read */
+    SPLITTER_WRITTEN = 106   /* second word: the free nodes left */
+};
+
+/* Outcomes of a return. */
+enum {
+    SPLITTER_CONTINUED = 0, /* the parent is now the bottom frame of the same deque */
+    SPLITTER_IDLE = 1,      /* the worker's deque is empty */
+    SPLITTER_RESUMED = 2,   /* the suspended parent goes on, on this worker, with its own view */
+    SPLITTER_FINISHED = 3   /* Main has returned */
+};
+
+/* Outcomes of a sync. */
+enum {
+    SPLITTER_PASSED = 0,   /* the frame has no live child and goes on */
+    SPLITTER_SUSPENDED = 1 /* the frame waits for its children; its worker is idle */
+};
+
+/* Refusals. Of a whole call: nothing has changed but the work slice's words (zero), and after a refused start the state (zeros). */
+enum {
+    SPLITTER_NO_VALUES = 1,  /* start: 0 or more than 256 initial values */
+    SPLITTER_NO_WORKERS = 2, /* start: 0 or more than 8 workers */
+    SPLITTER_NO_NODES = 3,   /* start: the pool has fewer than T(n) or more than 16,384 nodes */
+    SPLITTER_BAD_TAPE = 4,   /* tape: not a multiple of 8 bytes, or fewer than two answer words for each record */
+    SPLITTER_SHORT_WORK = 5, /* the work slice has fewer words than the state's nodes */
+    SPLITTER_UNSOUND = 6,    /* state and pool are not sound */
+    /* Of one step or record: state and pool are as they were. */
+    SPLITTER_BAD_RECORD = 7,    /* the kind is not 1 to 6, or an unused field is not zero */
+    SPLITTER_NO_WORKER = 8,     /* the worker does not exist */
+    SPLITTER_MAIN_RETURNED = 9, /* Main has returned */
+    SPLITTER_WORKER_IDLE = 10,  /* not a steal, and the worker is idle */
+    SPLITTER_THIEF_BUSY = 11,   /* a steal, and the thief is not idle */
+    SPLITTER_NO_VICTIM = 12,    /* a steal, and the victim does not exist or has fewer than two frames */
+    SPLITTER_FRAMES_FULL = 13,  /* a spawn, and 64 frames live */
+    SPLITTER_CHILD_LIVES = 14,  /* a return, and the frame has a live child */
+    SPLITTER_NO_SPLITTER = 15,  /* a read or write, and the splitter is not below n */
+    SPLITTER_POOL_FULL = 16,    /* a write, and fewer than H + 1 nodes are free */
+    /* Of the interface, before all others: the state slice has fewer than SPLITTER_STATE_WORDS words; nothing at all has changed. */
+    SPLITTER_SHORT_STATE = 99
+};
+
+/* Begins a run with n = values_len splitters. SPLITTER_OK, or a refusal: 99, 1, 2, 3. */
+uint32_t splitter_start(uint32_t *state, size_t state_len, uint32_t workers, const uint32_t *values, size_t values_len,
+                        uint32_t *pool, size_t pool_len);
+
+/* One step. field is the splitter of a read or write, the victim of a steal, else 0; value is a write's, else 0.
+ * The low half of the result is the first answer word (101 to 106, or a refusal: 99, 5, 6, then 7 to 16), the high half the second. */
+uint64_t splitter_step(uint32_t *state, size_t state_len, uint32_t *pool, size_t pool_len, uint32_t *work, size_t work_len,
+                       uint32_t kind, uint32_t worker, uint32_t field, uint32_t value);
+
+/* A tape of records, 8 bytes each: kind, worker, field (2 bytes), value (4 bytes), little-endian. SPLITTER_OK, with two answer words for
+ * each record, or a refusal: 99, 4, 5, 6. A refused record gives its refusal and 0, and the tape goes on. */
+uint32_t splitter_tape(uint32_t *state, size_t state_len, uint32_t *pool, size_t pool_len, uint32_t *work, size_t work_len,
+                       const uint8_t *tape, size_t tape_len, uint32_t *answers, size_t answers_len);
+
+/* T(n): the nodes that one full view of n splitters takes, the least that a pool can have. */
+uint64_t splitter_tree_nodes(uint32_t n);
+
+/* The two halves of splitter_step's result: the first answer word, and the second. */
+static inline uint32_t splitter_answer_kind(uint64_t answer) {
+    return (uint32_t)(answer & 0xffffffffu);
+}
+
+static inline uint32_t splitter_answer_number(uint64_t answer) {
+    return (uint32_t)(answer >> 32);
+}
+
+/* The result that has these halves, to compare with. */
+static inline uint64_t splitter_answer(uint32_t kind, uint32_t number) {
+    return (uint64_t)number << 32 | kind;
+}
+
+/* What a host lends to every step of a run: lengths are in words. */
+struct splitter_lent {
+    uint32_t *state;
+    size_t state_len;
+    uint32_t *pool;
+    size_t pool_len;
+    uint32_t *work;
+    size_t work_len;
+};
+
+/* splitter_step over lent memory, then one call for each kind of step. */
+static inline uint64_t splitter_take(const struct splitter_lent *lent, uint32_t kind, uint32_t worker, uint32_t field, uint32_t value) {
+    return splitter_step(lent->state, lent->state_len, lent->pool, lent->pool_len, lent->work, lent->work_len,
+                         kind, worker, field, value);
+}
+
+static inline uint64_t splitter_spawn(const struct splitter_lent *lent, uint32_t worker) {
+    return splitter_take(lent, SPLITTER_SPAWN, worker, 0, 0);
+}
+
+static inline uint64_t splitter_return(const struct splitter_lent *lent, uint32_t worker) {
+    return splitter_take(lent, SPLITTER_RETURN, worker, 0, 0);
+}
+
+static inline uint64_t splitter_steal(const struct splitter_lent *lent, uint32_t worker, uint32_t victim) {
+    return splitter_take(lent, SPLITTER_STEAL, worker, victim, 0);
+}
+
+static inline uint64_t splitter_sync(const struct splitter_lent *lent, uint32_t worker) {
+    return splitter_take(lent, SPLITTER_SYNC, worker, 0, 0);
+}
+
+static inline uint64_t splitter_read(const struct splitter_lent *lent, uint32_t worker, uint32_t splitter) {
+    return splitter_take(lent, SPLITTER_READ, worker, splitter, 0);
+}
+
+static inline uint64_t splitter_write(const struct splitter_lent *lent, uint32_t worker, uint32_t splitter, uint32_t value) {
+    return splitter_take(lent, SPLITTER_WRITE, worker, splitter, value);
+}
+
+/* Writes a record of SPLITTER_RECORD_BYTES bytes, on any machine, and gives the place after it. */
+static inline uint8_t *splitter_put_record(uint8_t *to, uint8_t kind, uint8_t worker, uint16_t field, uint32_t value) {
+    to[0] = kind;
+    to[1] = worker;
+    to[2] = (uint8_t)(field & 0xffu);
+    to[3] = (uint8_t)(field >> 8);
+    to[4] = (uint8_t)(value & 0xffu);
+    to[5] = (uint8_t)(value >> 8 & 0xffu);
+    to[6] = (uint8_t)(value >> 16 & 0xffu);
+    to[7] = (uint8_t)(value >> 24);
+    return to + SPLITTER_RECORD_BYTES;
+}
+
+/* A short text for a first answer word or the result of a call: an accepted step, or a refusal. */
+static inline const char *splitter_name(uint32_t number) {
+    switch (number) {
+    case SPLITTER_OK: return "ok";
+    case SPLITTER_SPAWNED: return "spawned";
+    case SPLITTER_RETURNED: return "returned";
+    case SPLITTER_STOLEN: return "stolen";
+    case SPLITTER_SYNCED: return "synced";
+    case SPLITTER_VALUE: return "value";
+    case SPLITTER_WRITTEN: return "written";
+    case SPLITTER_NO_VALUES: return "0 or more than 256 initial values";
+    case SPLITTER_NO_WORKERS: return "0 or more than 8 workers";
+    case SPLITTER_NO_NODES: return "too few or too many nodes in the pool";
+    case SPLITTER_BAD_TAPE: return "not whole records, or too few answer words";
+    case SPLITTER_SHORT_WORK: return "the work slice is too short";
+    case SPLITTER_UNSOUND: return "state and pool are not sound";
+    case SPLITTER_BAD_RECORD: return "no such kind, or an unused field is not zero";
+    case SPLITTER_NO_WORKER: return "no such worker";
+    case SPLITTER_MAIN_RETURNED: return "Main has returned";
+    case SPLITTER_WORKER_IDLE: return "the worker is idle";
+    case SPLITTER_THIEF_BUSY: return "the thief is not idle";
+    case SPLITTER_NO_VICTIM: return "the victim has no frame to steal";
+    case SPLITTER_FRAMES_FULL: return "64 frames live";
+    case SPLITTER_CHILD_LIVES: return "the frame has a live child";
+    case SPLITTER_NO_SPLITTER: return "no such splitter";
+    case SPLITTER_POOL_FULL: return "too few free nodes";
+    case SPLITTER_SHORT_STATE: return "the state slice is too short";
+    default: return "unknown number";
+    }
+}
+
+#ifdef __cplusplus
+}
+#endif
+#endif

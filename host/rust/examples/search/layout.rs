@@ -1,0 +1,295 @@
+//! The search for a block layout, as in `host/c/search.c`: a branch for each choice of a spare.
+
+use splitter::{tree_nodes, Engine, Refusal, Returned, Synced, NODE_WORDS, STATE_WORDS};
+
+pub const BLOCKS: u16 = 16;
+const FIRST_SPARE: u16 = 12;
+const BAD_BLOCKS: [u16; 2] = [3, 9];
+pub const MAX_WORKERS: usize = 3;
+
+/// A block's state, kept in its splitter; 0 is good. A spare in use holds `STANDS_FOR` plus the
+/// number of the bad block.
+const BAD: u32 = 1;
+const SPARE: u32 = 2;
+const STANDS_FOR: u32 = 100;
+
+pub const FACTORY_MARKS: [u32; BLOCKS as usize] = [0, 0, 0, BAD, 0, 0, 0, 0, 0, BAD, 0, 0, SPARE, SPARE, SPARE, SPARE];
+
+/// Memory to lend, for some number of nodes.
+pub struct Memory {
+    pub state: [u32; STATE_WORDS],
+    pub pool: Vec<u32>,
+    pub work: Vec<u32>,
+}
+
+impl Memory {
+    pub fn new(nodes: usize) -> Memory {
+        Memory { state: [0; STATE_WORDS], pool: vec![0; nodes * NODE_WORDS], work: vec![0; nodes] }
+    }
+
+    pub fn lend(&mut self) -> Engine<'_> {
+        Engine { state: &mut self.state, pool: &mut self.pool, work: &mut self.work }
+    }
+}
+
+/// What a branch does in its next turn.
+#[derive(Clone, Copy)]
+enum Stage {
+    Take,
+    Look,
+    Wait,
+    Score,
+    End,
+}
+
+/// What the host keeps of a frame: how far this branch of the search has come.
+#[derive(Clone, Copy)]
+struct Branch {
+    parent: Option<usize>,
+    stage: Stage,
+    /// So many bad blocks have a spare.
+    depth: usize,
+    /// Its own choice, for the last of them.
+    spare: u16,
+    /// The spare to look at next.
+    next: u16,
+    /// A spare that failed its test here and was marked bad.
+    failed: Option<u16>,
+}
+
+/// A search, and its result so far.
+pub struct Search<'a> {
+    engine: Engine<'a>,
+    branches: Vec<Branch>,
+    /// The branch that each worker runs.
+    runs: [Option<usize>; MAX_WORKERS],
+    told: bool,
+    pub turn: u32,
+    pub finished: bool,
+    pub least_free: u32,
+    pub waits: u32,
+    pub given_up: u32,
+    pub layouts: u32,
+    /// The best layout's branch and cost.
+    best: Option<(usize, u32)>,
+}
+
+/// Stands for the controller's own test.
+fn passes_erase_test(block: u16) -> bool {
+    block != 13
+}
+
+impl<'a> Search<'a> {
+    pub fn begin(mut engine: Engine<'a>, workers: u32, told: bool) -> Result<Search<'a>, Refusal> {
+        engine.start(workers, &FACTORY_MARKS)?;
+        let main = Branch { parent: None, stage: Stage::Look, depth: 0, spare: 0, next: FIRST_SPARE, failed: None };
+        let nodes = (engine.pool.len() / NODE_WORDS) as u32;
+        Ok(Search {
+            engine,
+            branches: vec![main],
+            runs: [Some(0), None, None],
+            told,
+            turn: 0,
+            finished: false,
+            least_free: nodes - tree_nodes(BLOCKS.into()) as u32,
+            waits: 0,
+            given_up: 0,
+            layouts: 0,
+            best: None,
+        })
+    }
+
+    /// The choices of a branch, as `3>12 9>14`.
+    fn name(&self, branch: usize) -> String {
+        let Branch { parent, depth, spare, .. } = self.branches[branch];
+        let Some(parent) = parent else {
+            return "Main".to_string();
+        };
+        let own = format!("{}>{spare}", BAD_BLOCKS[depth - 1]);
+        if depth == 1 {
+            own
+        } else {
+            format!("{} {own}", self.name(parent))
+        }
+    }
+
+    /// The best layout and its cost.
+    pub fn best(&self) -> String {
+        match self.best {
+            Some((branch, cost)) => format!("{}, cost {cost}", self.name(branch)),
+            None => "none".to_string(),
+        }
+    }
+
+    fn tell(&self, worker: u8, branch: usize, what: &str) {
+        if self.told {
+            println!("{:2}  worker {worker}, {}: {what}", self.turn, self.name(branch));
+        }
+    }
+
+    /// False where the pool has no room; then nothing has changed.
+    fn write(&mut self, worker: u8, block: u16, value: u32) -> Result<bool, Refusal> {
+        match self.engine.write(worker, block, value) {
+            Ok(free) => {
+                self.least_free = self.least_free.min(free);
+                Ok(true)
+            }
+            Err(Refusal::PoolFull) => Ok(false),
+            Err(other) => Err(other),
+        }
+    }
+
+    /// One turn of a worker; true if it got something done.
+    pub fn take_a_turn(&mut self, worker: u8) -> Result<bool, Refusal> {
+        let Some(branch) = self.runs[usize::from(worker)] else {
+            return self.steal(worker);
+        };
+        match self.branches[branch].stage {
+            Stage::Take => return self.take(worker, branch),
+            Stage::Look => self.look(worker, branch)?,
+            Stage::Wait => self.wait(worker, branch)?,
+            Stage::Score => self.score(worker, branch)?,
+            Stage::End => self.end(worker, branch)?,
+        }
+        Ok(true)
+    }
+
+    /// An idle worker steals where it can. The depth tells which frame it got: each frame in a
+    /// deque is a child of the one above.
+    fn steal(&mut self, thief: u8) -> Result<bool, Refusal> {
+        for victim in 0..MAX_WORKERS {
+            let depth = match self.engine.steal(thief, victim as u16) {
+                Ok(depth) => depth as usize,
+                Err(Refusal::NoVictim) => continue,
+                Err(other) => return Err(other),
+            };
+            let mut stolen = self.runs[victim];
+            while let Some(branch) = stolen.filter(|branch| self.branches[*branch].depth > depth) {
+                stolen = self.branches[branch].parent;
+            }
+            self.runs[usize::from(thief)] = stolen;
+            if let Some(branch) = stolen {
+                self.tell(thief, branch, &format!("stolen from worker {victim}"));
+            }
+            return Ok(true);
+        }
+        Ok(false)
+    }
+
+    /// A new branch marks its choice. Where the pool has no room it tries again in its next turn:
+    /// other branches end and free their nodes.
+    fn take(&mut self, worker: u8, branch: usize) -> Result<bool, Refusal> {
+        let Branch { depth, spare, .. } = self.branches[branch];
+        if !self.write(worker, spare, STANDS_FOR + u32::from(BAD_BLOCKS[depth - 1]))? {
+            self.waits += 1;
+            self.tell(worker, branch, "no room in the pool, waits");
+            return Ok(false);
+        }
+        let whole = depth == BAD_BLOCKS.len();
+        self.branches[branch].stage = if whole { Stage::Score } else { Stage::Look };
+        self.tell(worker, branch, &format!("takes {spare}"));
+        Ok(true)
+    }
+
+    fn look(&mut self, worker: u8, branch: usize) -> Result<(), Refusal> {
+        let spare = self.branches[branch].next;
+        self.branches[branch].next += 1;
+        if self.branches[branch].next == BLOCKS {
+            self.branches[branch].stage = Stage::Wait;
+        }
+        match self.engine.read(worker, spare)? {
+            SPARE if passes_erase_test(spare) => self.spawn(worker, branch, spare),
+            SPARE => self.mark_failed(worker, branch, spare),
+            BAD => {
+                self.tell(worker, branch, &format!("{spare} is bad"));
+                Ok(())
+            }
+            _ => {
+                self.tell(worker, branch, &format!("{spare} is taken"));
+                Ok(())
+            }
+        }
+    }
+
+    fn spawn(&mut self, worker: u8, parent: usize, spare: u16) -> Result<(), Refusal> {
+        let depth = self.engine.spawn(worker)? as usize;
+        let child = Branch { parent: Some(parent), stage: Stage::Take, depth, spare, next: FIRST_SPARE, failed: None };
+        self.runs[usize::from(worker)] = Some(self.branches.len());
+        self.branches.push(child);
+        self.tell(worker, parent, &format!("{spare} is a good spare: spawns a branch"));
+        Ok(())
+    }
+
+    /// A spare that fails its test is marked bad, in this branch's view. The mark saves later
+    /// branches the test; without room, no mark.
+    fn mark_failed(&mut self, worker: u8, branch: usize, spare: u16) -> Result<(), Refusal> {
+        let marked = self.write(worker, spare, BAD)?;
+        if marked {
+            self.branches[branch].failed = Some(spare);
+        }
+        let mark = if marked { "marks it bad" } else { "no room for a mark" };
+        self.tell(worker, branch, &format!("{spare} fails its erase test: {mark}"));
+        Ok(())
+    }
+
+    fn wait(&mut self, worker: u8, branch: usize) -> Result<(), Refusal> {
+        let outcome = self.engine.sync(worker)?;
+        self.branches[branch].stage = Stage::End;
+        match outcome {
+            Synced::Passed => self.tell(worker, branch, "all its branches have ended"),
+            Synced::Suspended => {
+                self.runs[usize::from(worker)] = None;
+                self.tell(worker, branch, "waits for its branches");
+            }
+        }
+        Ok(())
+    }
+
+    /// A whole layout, read from the branch's own view. The cost is the sum of the squared moves: no
+    /// block should be far from its spare.
+    fn score(&mut self, worker: u8, branch: usize) -> Result<(), Refusal> {
+        let mut cost = 0;
+        for spare in FIRST_SPARE..BLOCKS {
+            let is = self.engine.read(worker, spare)?;
+            if is >= STANDS_FOR {
+                let moved = u32::from(spare) - (is - STANDS_FOR);
+                cost += moved * moved;
+            }
+        }
+        self.layouts += 1;
+        if self.best.is_none_or(|(_, least)| cost < least) {
+            self.best = Some((branch, cost));
+        }
+        self.branches[branch].stage = Stage::End;
+        self.tell(worker, branch, &format!("a layout, cost {cost}"));
+        Ok(())
+    }
+
+    fn end(&mut self, worker: u8, branch: usize) -> Result<(), Refusal> {
+        if let Some(failed) = self.branches[branch].failed {
+            let is = self.engine.read(worker, failed)?;
+            assert_eq!(is, BAD, "a branch must read its own mark");
+            self.tell(worker, branch, &format!("{failed} still reads bad"));
+        }
+        let outcome = self.engine.ret(worker)?;
+        let parent = self.branches[branch].parent;
+        let (next, what) = match outcome {
+            Returned::Continued => (parent, "its parent goes on here"),
+            Returned::Idle => (None, "the worker is idle"),
+            Returned::Resumed => (parent, "its parent resumes here"),
+            Returned::Finished => (None, "the search is over"),
+        };
+        self.runs[usize::from(worker)] = next;
+        self.finished = outcome == Returned::Finished;
+        self.tell(worker, branch, &format!("ends; {what}"));
+        Ok(())
+    }
+
+    /// Every running branch waits for room, so none will end: one must, without its search.
+    pub fn give_up_a_branch(&mut self) {
+        if let Some(branch) = self.runs.into_iter().flatten().next() {
+            self.branches[branch].stage = Stage::End;
+            self.given_up += 1;
+        }
+    }
+}

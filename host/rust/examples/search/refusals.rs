@@ -1,0 +1,136 @@
+//! A tape, and each refusal once.
+
+use crate::layout::{Memory, BLOCKS, FACTORY_MARKS};
+use splitter::{answer, answers, tree_nodes, Engine, Refusal, Returned, Step};
+use std::error::Error;
+use std::fmt::Debug;
+
+type Outcome = Result<(), Box<dyn Error>>;
+
+/// Document 01's example.
+const EXAMPLE: [Step; 9] = [
+    Step::Spawn { worker: 0 },
+    Step::Steal { worker: 1, victim: 0 },
+    Step::Write { worker: 1, splitter: 4, value: 99 },
+    Step::Read { worker: 0, splitter: 4 },
+    Step::Sync { worker: 1 },
+    Step::Read { worker: 1, splitter: 4 },
+    Step::Return { worker: 0 },
+    Step::Read { worker: 0, splitter: 4 },
+    Step::Return { worker: 0 },
+];
+
+/// The example as a tape.
+pub fn tape() -> Outcome {
+    let mut words = [0; 2 * EXAMPLE.len()];
+    let mut memory = Memory::new(20);
+    let mut engine = memory.lend();
+    println!("\nTape: 2 workers, 5 splitters, 20 nodes");
+    engine.start(2, &[10, 20, 30, 40, 50])?;
+    engine.tape(&EXAMPLE.map(Step::to_bytes).concat(), &mut words)?;
+    for answer in answers(&words) {
+        match answer {
+            Ok(done) => println!("{} {}  {done}", done.words()[0], done.words()[1]),
+            Err(refusal) => println!("{} 0  {refusal}", refusal.number()),
+        }
+    }
+    Ok(())
+}
+
+/// Prints the refusal; another answer is an error.
+fn show<T: Debug>(answer: Result<T, Refusal>, wanted: Refusal, what: &str) -> Outcome {
+    match answer {
+        Err(refusal) if refusal == wanted => {
+            println!("{:2}  {what}: {refusal}", refusal.number());
+            Ok(())
+        }
+        other => Err(format!("surprise: {what}: {other:?}").into()),
+    }
+}
+
+fn refused_starts() -> Outcome {
+    let tree = tree_nodes(BLOCKS.into()) as usize;
+    let mut memory = Memory::new(tree);
+    let mut engine = memory.lend();
+    show(engine.start(2, &[]), Refusal::NoValues, "a start without values")?;
+    show(engine.start(9, &FACTORY_MARKS), Refusal::NoWorkers, "a start with 9 workers")?;
+    let mut memory = Memory::new(tree - 1);
+    show(memory.lend().start(2, &FACTORY_MARKS), Refusal::NoNodes, "a start with a node too few")
+}
+
+/// Calls refused whole. Each leaves state and pool as they were, so the run goes on.
+fn refused_calls(memory: &mut Memory) -> Outcome {
+    let bytes = Step::Spawn { worker: 0 }.to_bytes();
+    show(memory.lend().tape(&bytes[..7], &mut [0; 2]), Refusal::BadTape, "a tape of 7 bytes")?;
+    let Memory { state, pool, work } = memory;
+    let short = work.len() - 1;
+    let mut engine = Engine { state, pool, work: &mut work[..short] };
+    show(engine.read(0, 3), Refusal::ShortWork, "a work slice with a word too few")?;
+    let short = state.len() - 1;
+    let mut engine = Engine { state: &mut state[..short], pool, work };
+    show(engine.read(0, 3), Refusal::ShortState, "a state slice with a word too few")?;
+    let mut engine = memory.lend();
+    engine.pool[0] ^= 1;
+    show(engine.read(0, 3), Refusal::Unsound, "a bit of the pool has flipped")?;
+    engine.pool[0] ^= 1;
+    println!("    the bit flipped back, block 3 reads {}", engine.read(0, 3)?);
+    Ok(())
+}
+
+fn refused_steps(engine: &mut Engine) -> Outcome {
+    let mut words = [0; 2];
+    engine.tape(&[9, 0, 0, 0, 0, 0, 0, 0], &mut words)?;
+    show(answer(words), Refusal::BadRecord, "a record of kind 9")?;
+    show(engine.spawn(2), Refusal::NoWorker, "worker 2 of 2 spawns")?;
+    show(engine.sync(1), Refusal::WorkerIdle, "worker 1 syncs")?;
+    show(engine.read(0, BLOCKS), Refusal::NoSplitter, "worker 0 reads block 16")
+}
+
+fn refused_steals(engine: &mut Engine) -> Outcome {
+    show(engine.steal(0, 1), Refusal::ThiefBusy, "worker 0 steals")?;
+    show(engine.steal(1, 0), Refusal::NoVictim, "worker 1 steals from a deque of one")
+}
+
+/// Main moves to worker 1; its child stays on worker 0.
+fn refused_return(engine: &mut Engine) -> Outcome {
+    engine.spawn(0)?;
+    engine.steal(1, 0)?;
+    show(engine.ret(1), Refusal::ChildLives, "Main returns while its child runs elsewhere")
+}
+
+/// The pool has room for one path beside the first view: Main's. What the child wants to write
+/// must wait, or the child must end.
+fn full_pool(engine: &mut Engine) -> Outcome {
+    engine.write(1, 12, 103)?;
+    show(engine.write(0, 12, 109), Refusal::PoolFull, "Main has written, then its child writes")?;
+    engine.ret(0)?;
+    println!("    the child has ended, Main writes again: {} nodes free", engine.write(1, 13, 109)?);
+    Ok(())
+}
+
+fn full_frames(engine: &mut Engine) -> Outcome {
+    let mut spawned = engine.spawn(1);
+    while spawned.is_ok() {
+        spawned = engine.spawn(1);
+    }
+    show(spawned, Refusal::FramesFull, "64 frames, each the child of the one before, and one more")?;
+    engine.ret(1)?;
+    println!("    one has ended, the next spawn has depth {}", engine.spawn(1)?);
+    while engine.ret(1)? != Returned::Finished {}
+    show(engine.read(1, 3), Refusal::MainReturned, "a read after Main's return")
+}
+
+/// Each refusal once, and what a host does about some.
+pub fn refusals() -> Outcome {
+    println!("\nRefusals");
+    refused_starts()?;
+    let mut memory = Memory::new(tree_nodes(BLOCKS.into()) as usize + 5);
+    memory.lend().start(2, &FACTORY_MARKS)?;
+    refused_calls(&mut memory)?;
+    let engine = &mut memory.lend();
+    refused_steps(engine)?;
+    refused_steals(engine)?;
+    refused_return(engine)?;
+    full_pool(engine)?;
+    full_frames(engine)
+}

@@ -1,0 +1,181 @@
+use core::fmt;
+
+/// What an accepted step did.
+#[derive(Clone, Copy, Debug, PartialEq, Eq, Hash)]
+pub enum Done {
+    /// The child's depth.
+    Spawned(u32),
+    Returned(Returned),
+    /// The stolen frame's depth.
+    Stolen(u32),
+    Synced(Synced),
+    /// The value read.
+    Value(u32),
+    /// The free nodes left.
+    Written(u32),
+}
+
+/// The outcome of a return.
+#[derive(Clone, Copy, Debug, PartialEq, Eq, Hash)]
+pub enum Returned {
+    /// The parent is now the bottom frame of the same deque.
+    Continued,
+    /// The worker's deque is empty.
+    Idle,
+    /// The suspended parent goes on, on this worker, with its own view.
+    Resumed,
+    /// Main has returned.
+    Finished,
+}
+
+/// The outcome of a sync.
+#[derive(Clone, Copy, Debug, PartialEq, Eq, Hash)]
+pub enum Synced {
+    /// The frame has no live child and goes on.
+    Passed,
+    /// The frame waits for its children; its worker is idle.
+    Suspended,
+}
+
+/// Why a call or a step was refused. Its display is the text that splitter.h has for the number.
+#[derive(Clone, Copy, Debug, PartialEq, Eq, Hash)]
+pub enum Refusal {
+    /// At a start, 0 or more than 256 initial values.
+    NoValues,
+    /// At a start, 0 or more than 8 workers.
+    NoWorkers,
+    /// At a start, a pool of fewer than T(n) or more than 16,384 nodes.
+    NoNodes,
+    /// A tape that is not a multiple of 8 bytes, or fewer than two answer words for each record.
+    BadTape,
+    /// Fewer words in the work slice than nodes in the state.
+    ShortWork,
+    /// State and pool are not sound: somebody else wrote to them, or there was no start.
+    Unsound,
+    /// A record whose kind is not 1 to 6, or with an unused field that is not zero. No
+    /// [`Step`](crate::Step) makes one.
+    BadRecord,
+    /// The worker does not exist.
+    NoWorker,
+    /// Main has returned.
+    MainReturned,
+    /// The worker of a step that is no steal is idle.
+    WorkerIdle,
+    /// The thief is not idle.
+    ThiefBusy,
+    /// The victim does not exist or has fewer than two frames.
+    NoVictim,
+    /// A spawn while 64 frames live.
+    FramesFull,
+    /// A return while the frame has a live child.
+    ChildLives,
+    /// The splitter is not below n.
+    NoSplitter,
+    /// A write while fewer than H + 1 nodes are free.
+    PoolFull,
+    /// Fewer than 909 words in the state slice.
+    ShortState,
+    /// An answer that this binding does not know, with its first word: the archive is of another version.
+    Unknown(u32),
+}
+
+/// The answer to one step or record.
+pub type Answer = Result<Done, Refusal>;
+
+/// The known refusals, with their numbers and texts.
+const REFUSALS: [(Refusal, u32, &str); 17] = [
+    (Refusal::NoValues, 1, "0 or more than 256 initial values"),
+    (Refusal::NoWorkers, 2, "0 or more than 8 workers"),
+    (Refusal::NoNodes, 3, "too few or too many nodes in the pool"),
+    (Refusal::BadTape, 4, "not whole records, or too few answer words"),
+    (Refusal::ShortWork, 5, "the work slice is too short"),
+    (Refusal::Unsound, 6, "state and pool are not sound"),
+    (Refusal::BadRecord, 7, "no such kind, or an unused field is not zero"),
+    (Refusal::NoWorker, 8, "no such worker"),
+    (Refusal::MainReturned, 9, "Main has returned"),
+    (Refusal::WorkerIdle, 10, "the worker is idle"),
+    (Refusal::ThiefBusy, 11, "the thief is not idle"),
+    (Refusal::NoVictim, 12, "the victim has no frame to steal"),
+    (Refusal::FramesFull, 13, "64 frames live"),
+    (Refusal::ChildLives, 14, "the frame has a live child"),
+    (Refusal::NoSplitter, 15, "no such splitter"),
+    (Refusal::PoolFull, 16, "too few free nodes"),
+    (Refusal::ShortState, 99, "the state slice is too short"),
+];
+
+impl Refusal {
+    /// The refusal of this number.
+    pub fn from_number(number: u32) -> Refusal {
+        let known = REFUSALS.iter().find(|row| row.1 == number);
+        known.map_or(Refusal::Unknown(number), |row| row.0)
+    }
+
+    /// The number that the library gives.
+    pub fn number(self) -> u32 {
+        match self {
+            Refusal::Unknown(number) => number,
+            known => REFUSALS.iter().find(|row| row.0 == known).map_or(0, |row| row.1),
+        }
+    }
+}
+
+impl fmt::Display for Refusal {
+    fn fmt(&self, to: &mut fmt::Formatter<'_>) -> fmt::Result {
+        match REFUSALS.iter().find(|row| row.0 == *self) {
+            Some(row) => to.write_str(row.2),
+            None => write!(to, "unknown number {}", self.number()),
+        }
+    }
+}
+
+impl core::error::Error for Refusal {}
+
+impl Done {
+    /// The two answer words.
+    pub fn words(self) -> [u32; 2] {
+        match self {
+            Done::Spawned(depth) => [101, depth],
+            Done::Returned(outcome) => [102, outcome as u32],
+            Done::Stolen(depth) => [103, depth],
+            Done::Synced(outcome) => [104, outcome as u32],
+            Done::Value(value) => [105, value],
+            Done::Written(free) => [106, free],
+        }
+    }
+}
+
+impl fmt::Display for Done {
+    fn fmt(&self, to: &mut fmt::Formatter<'_>) -> fmt::Result {
+        to.write_str(match self {
+            Done::Spawned(_) => "spawned",
+            Done::Returned(_) => "returned",
+            Done::Stolen(_) => "stolen",
+            Done::Synced(_) => "synced",
+            Done::Value(_) => "value",
+            Done::Written(_) => "written",
+        })
+    }
+}
+
+/// The answer that two answer words mean.
+pub fn answer(words: [u32; 2]) -> Answer {
+    Ok(match words {
+        [101, depth] => Done::Spawned(depth),
+        [102, 0] => Done::Returned(Returned::Continued),
+        [102, 1] => Done::Returned(Returned::Idle),
+        [102, 2] => Done::Returned(Returned::Resumed),
+        [102, 3] => Done::Returned(Returned::Finished),
+        [103, depth] => Done::Stolen(depth),
+        [104, 0] => Done::Synced(Synced::Passed),
+        [104, 1] => Done::Synced(Synced::Suspended),
+        [105, value] => Done::Value(value),
+        [106, free] => Done::Written(free),
+        [refusal, 0] => return Err(Refusal::from_number(refusal)),
+        [unknown, _] => return Err(Refusal::Unknown(unknown)),
+    })
+}
+
+/// The answers of a tape, from its answer words.
+pub fn answers(words: &[u32]) -> impl Iterator<Item = Answer> + '_ {
+    words.chunks_exact(2).map(|pair| answer([pair[0], pair[1]]))
+}

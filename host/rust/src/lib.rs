@@ -1,0 +1,143 @@
+//! Safe binding of libsplitter.a: splitters over stolen work. `host/include/splitter.h` describes
+//! the library.
+//!
+//! The host lends all memory: a state of [`STATE_WORDS`] words, a pool of [`NODE_WORDS`] words for
+//! each node, and a work slice of a word for each node. The library checks every call, so whatever
+//! the lent words hold, a call is safe; one that it cannot use is refused.
+//!
+//! ```
+//! use splitter::{Engine, Returned, Synced, NODE_WORDS, STATE_WORDS};
+//!
+//! let (mut state, mut pool, mut work) = ([0; STATE_WORDS], [0; 20 * NODE_WORDS], [0; 20]);
+//! let mut engine = Engine { state: &mut state, pool: &mut pool, work: &mut work };
+//! engine.start(2, &[10, 20, 30, 40, 50])?;
+//! engine.spawn(0)?;
+//! engine.steal(1, 0)?; // worker 1 takes the parent
+//! engine.write(1, 4, 99)?;
+//! assert_eq!(engine.read(0, 4)?, 50); // the child does not see it
+//! assert_eq!(engine.sync(1)?, Synced::Suspended);
+//! assert_eq!(engine.ret(0)?, Returned::Resumed); // the parent goes on, on worker 0
+//! assert_eq!(engine.read(0, 4)?, 99); // and reads its own value
+//! # Ok::<(), splitter::Refusal>(())
+//! ```
+#![no_std]
+#![deny(unsafe_code)]
+
+mod answer;
+mod raw;
+mod step;
+
+pub use answer::{answer, answers, Answer, Done, Refusal, Returned, Synced};
+pub use step::Step;
+
+/// The words of a state.
+pub const STATE_WORDS: usize = 909;
+/// The words of a node.
+pub const NODE_WORDS: usize = 4;
+/// The most nodes of a pool.
+pub const MAX_NODES: usize = 16_384;
+/// The most splitters.
+pub const MAX_SPLITTERS: usize = 256;
+/// The most workers.
+pub const MAX_WORKERS: usize = 8;
+/// The most live frames.
+pub const MAX_FRAMES: usize = 64;
+
+/// T(n): the nodes that one full view of n splitters takes, the least that a pool can have.
+pub fn tree_nodes(n: u32) -> u64 {
+    raw::tree_nodes(n)
+}
+
+/// A run, over lent memory. Between calls the words of state and pool are the engine's: what
+/// another writes there is refused with [`Refusal::Unsound`], unless it is sound as well. The
+/// memory outlives the engine: another one over the same words goes on with the run.
+pub struct Engine<'a> {
+    /// [`STATE_WORDS`] words; further ones are never changed.
+    pub state: &'a mut [u32],
+    /// [`NODE_WORDS`] words for each node.
+    pub pool: &'a mut [u32],
+    /// A word for each node; zero after each call.
+    pub work: &'a mut [u32],
+}
+
+impl Engine<'_> {
+    /// Begins a run with a splitter for each value.
+    pub fn start(&mut self, workers: u32, values: &[u32]) -> Result<(), Refusal> {
+        call(raw::start(self.state, workers, values, self.pool))
+    }
+
+    /// One step.
+    pub fn step(&mut self, step: Step) -> Answer {
+        let (kind, worker, field, value) = step.fields();
+        let fields = [kind.into(), worker.into(), field.into(), value];
+        let both = raw::step(self.state, self.pool, self.work, fields);
+        answer([both as u32, (both >> 32) as u32])
+    }
+
+    /// The worker's bottom frame spawns a child; gives its depth.
+    pub fn spawn(&mut self, worker: u8) -> Result<u32, Refusal> {
+        match self.step(Step::Spawn { worker })? {
+            Done::Spawned(depth) => Ok(depth),
+            other => Err(astray(other)),
+        }
+    }
+
+    /// The bottom frame ends.
+    pub fn ret(&mut self, worker: u8) -> Result<Returned, Refusal> {
+        match self.step(Step::Return { worker })? {
+            Done::Returned(outcome) => Ok(outcome),
+            other => Err(astray(other)),
+        }
+    }
+
+    /// The idle worker takes the victim's top frame; gives its depth.
+    pub fn steal(&mut self, worker: u8, victim: u16) -> Result<u32, Refusal> {
+        match self.step(Step::Steal { worker, victim })? {
+            Done::Stolen(depth) => Ok(depth),
+            other => Err(astray(other)),
+        }
+    }
+
+    /// The bottom frame waits for its children.
+    pub fn sync(&mut self, worker: u8) -> Result<Synced, Refusal> {
+        match self.step(Step::Sync { worker })? {
+            Done::Synced(outcome) => Ok(outcome),
+            other => Err(astray(other)),
+        }
+    }
+
+    /// The value of a splitter in the bottom frame's view.
+    pub fn read(&mut self, worker: u8, splitter: u16) -> Result<u32, Refusal> {
+        match self.step(Step::Read { worker, splitter })? {
+            Done::Value(value) => Ok(value),
+            other => Err(astray(other)),
+        }
+    }
+
+    /// A new value for a splitter in the bottom frame's view; gives the free nodes left.
+    pub fn write(&mut self, worker: u8, splitter: u16, value: u32) -> Result<u32, Refusal> {
+        match self.step(Step::Write { worker, splitter, value })? {
+            Done::Written(free) => Ok(free),
+            other => Err(astray(other)),
+        }
+    }
+
+    /// Runs a tape of records ([`Step::to_bytes`]), with two answer words for each ([`answers`]). A
+    /// refused record does not stop the tape.
+    pub fn tape(&mut self, tape: &[u8], answers: &mut [u32]) -> Result<(), Refusal> {
+        call(raw::tape(self.state, self.pool, self.work, tape, answers))
+    }
+}
+
+/// The result of a whole call.
+fn call(number: u32) -> Result<(), Refusal> {
+    match number {
+        0 => Ok(()),
+        number => Err(Refusal::from_number(number)),
+    }
+}
+
+/// An answer to another step than was asked: the library gives none.
+fn astray(done: Done) -> Refusal {
+    Refusal::Unknown(done.words()[0])
+}

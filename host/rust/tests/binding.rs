@@ -1,0 +1,128 @@
+//! The binding's numbers, and document 01's example through it.
+
+use splitter::{answer, answers, tree_nodes, Done, Engine, Refusal, Returned, Step, Synced};
+use splitter::{MAX_FRAMES, MAX_NODES, MAX_SPLITTERS, MAX_WORKERS, NODE_WORDS, STATE_WORDS};
+
+#[test]
+fn refusals_keep_their_numbers() {
+    for number in 0..200 {
+        let refusal = Refusal::from_number(number);
+        let known = (1..=16).contains(&number) || number == 99;
+        assert_eq!(refusal.number(), number);
+        assert_eq!(refusal == Refusal::Unknown(number), !known);
+        assert_eq!(refusal.to_string() == format!("unknown number {number}"), !known);
+    }
+}
+
+#[test]
+fn answers_keep_their_words() {
+    let mut accepted = 0;
+    for first in 0..200 {
+        for second in 0..6 {
+            match answer([first, second]) {
+                Ok(done) => {
+                    assert_eq!(done.words(), [first, second]);
+                    accepted += 1;
+                }
+                Err(refusal) => assert_eq!(refusal.number(), first),
+            }
+        }
+    }
+    assert_eq!(accepted, 4 * 6 + 4 + 2);
+}
+
+const HEADER: &str = include_str!("../../include/splitter.h");
+
+/// `NoValues` to `NO_VALUES`.
+fn name_in_c(name: &str) -> String {
+    let word = |c: char| if c.is_uppercase() { format!("_{c}") } else { c.to_uppercase().to_string() };
+    name.chars().map(word).collect::<String>().trim_start_matches('_').to_string()
+}
+
+#[test]
+fn the_header_has_the_same_refusals() {
+    for number in (1..=16).chain([99]) {
+        let refusal = Refusal::from_number(number);
+        let name = format!("SPLITTER_{}", name_in_c(&format!("{refusal:?}")));
+        let given = HEADER.split_once(&format!(" {name} = ")).expect(&name).1;
+        let end = given.find(|c: char| !c.is_ascii_digit()).expect(&name);
+        assert_eq!(given[..end], number.to_string(), "{name}");
+        assert!(HEADER.contains(&format!("case {name}: return \"{refusal}\";")), "{name}");
+    }
+}
+
+#[test]
+fn the_header_has_the_same_sizes() {
+    for (name, size) in [
+        ("STATE_WORDS", STATE_WORDS),
+        ("NODE_WORDS", NODE_WORDS),
+        ("MAX_NODES", MAX_NODES),
+        ("MAX_SPLITTERS", MAX_SPLITTERS),
+        ("MAX_WORKERS", MAX_WORKERS),
+        ("MAX_FRAMES", MAX_FRAMES),
+        ("RECORD_BYTES", Step::RECORD_BYTES),
+    ] {
+        assert!(HEADER.contains(&format!("#define SPLITTER_{name} {size}u")), "{name}");
+    }
+}
+
+#[test]
+fn a_record_is_little_endian() {
+    let step = Step::Write { worker: 7, splitter: 0x0102, value: 0x0304_0506 };
+    assert_eq!(step.to_bytes(), [6, 7, 2, 1, 6, 5, 4, 3]);
+}
+
+#[test]
+fn sizes_of_trees() {
+    assert_eq!([1, 5, 256].map(tree_nodes), [1, 11, 511]);
+}
+
+/// Document 01's example: its steps, and the answers that its lines show.
+const EXAMPLE: [(Step, Result<Done, Refusal>); 9] = [
+    (Step::Spawn { worker: 0 }, Ok(Done::Spawned(1))),
+    (Step::Steal { worker: 1, victim: 0 }, Ok(Done::Stolen(0))),
+    (Step::Write { worker: 1, splitter: 4, value: 99 }, Ok(Done::Written(5))),
+    (Step::Read { worker: 0, splitter: 4 }, Ok(Done::Value(50))),
+    (Step::Sync { worker: 1 }, Ok(Done::Synced(Synced::Suspended))),
+    (Step::Read { worker: 1, splitter: 4 }, Err(Refusal::WorkerIdle)),
+    (Step::Return { worker: 0 }, Ok(Done::Returned(Returned::Resumed))),
+    (Step::Read { worker: 0, splitter: 4 }, Ok(Done::Value(99))),
+    (Step::Return { worker: 0 }, Ok(Done::Returned(Returned::Finished))),
+];
+
+/// Runs a test on a run with document 01's workers, values and nodes.
+fn with_example(test: impl FnOnce(&mut Engine)) {
+    let (mut state, mut pool, mut work) = ([0; STATE_WORDS], [0; 20 * NODE_WORDS], [0; 20]);
+    let mut engine = Engine { state: &mut state, pool: &mut pool, work: &mut work };
+    engine.start(2, &[10, 20, 30, 40, 50]).expect("document 01's start");
+    test(&mut engine);
+}
+
+#[test]
+fn the_example_as_a_tape() {
+    with_example(|engine| {
+        let tape = EXAMPLE.map(|(step, _)| step.to_bytes()).concat();
+        let mut words = [0; 2 * EXAMPLE.len()];
+        engine.tape(&tape, &mut words).expect("a tape of whole records");
+        assert!(answers(&words).eq(EXAMPLE.map(|(_, answer)| answer)));
+    });
+}
+
+#[test]
+fn the_example_step_by_step() {
+    with_example(|engine| {
+        for (step, answer) in EXAMPLE {
+            assert_eq!(engine.step(step), answer);
+        }
+    });
+}
+
+#[test]
+fn memory_without_a_start_is_refused() {
+    let (mut state, mut pool, mut work) = ([0; STATE_WORDS], [0; 20 * NODE_WORDS], [0; 20]);
+    let mut engine = Engine { state: &mut state, pool: &mut pool, work: &mut work };
+    assert_eq!(engine.spawn(0), Err(Refusal::Unsound));
+    assert_eq!(engine.tape(&[], &mut []), Err(Refusal::Unsound));
+    engine.state = &mut [];
+    assert_eq!(engine.spawn(0), Err(Refusal::ShortState));
+}
