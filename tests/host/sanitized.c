@@ -1,0 +1,88 @@
+/* Makes the calls of a file again that `compare --record FILE` wrote (src/record.rs has its form), from C, and compares results and
+ * slices with what they were. Each slice is a malloc'ed block of just its size. Exits with 1 at a difference. */
+#include "splitter.h"
+#include <stdio.h>
+#include <stdlib.h>
+#include <string.h>
+
+enum { STATE, POOL, WORK, ANSWERS, SLICES };
+
+static void stop(const char *why, unsigned long call)
+{
+    fprintf(stderr, "call %lu: %s\n", call, why);
+    exit(1);
+}
+
+/* size bytes from the file, in a block of their own. */
+static void *block(FILE *file, size_t size)
+{
+    void *memory = malloc(size);
+    if (!memory || fread(memory, 1, size, file) != size)
+        stop("the file is cut short", 0);
+    return memory;
+}
+
+static uint32_t word(FILE *file)
+{
+    uint32_t *read = block(file, sizeof *read), value = *read;
+    free(read);
+    return value;
+}
+
+/* The tape's bytes, from as many words. */
+static uint8_t *narrow(const uint32_t *words, size_t length)
+{
+    uint8_t *bytes = malloc(length);
+    for (size_t i = 0; bytes && i < length; i++)
+        bytes[i] = (uint8_t)words[i];
+    return bytes;
+}
+
+/* One call, its entry already read. */
+static void call(FILE *file, uint32_t entry, unsigned long number)
+{
+    uint32_t *argument = block(file, 4 * sizeof *argument), *result = block(file, 2 * sizeof *result);
+    size_t inputs = word(file), length[SLICES];
+    uint32_t *input = block(file, inputs * 4), *slice[SLICES], *after[SLICES];
+    for (int i = 0; i < SLICES; i++) {
+        length[i] = word(file);
+        slice[i] = block(file, length[i] * 4);
+        after[i] = block(file, length[i] * 4);
+    }
+    uint8_t *bytes = narrow(input, inputs);
+    uint64_t got = 0;
+    if (entry == 1)
+        got = splitter_start(slice[STATE], length[STATE], argument[0], input, inputs, slice[POOL], length[POOL]);
+    else if (entry == 2)
+        got = splitter_step(slice[STATE], length[STATE], slice[POOL], length[POOL], slice[WORK], length[WORK],
+                            argument[0], argument[1], argument[2], argument[3]);
+    else
+        got = splitter_tape(slice[STATE], length[STATE], slice[POOL], length[POOL], slice[WORK], length[WORK],
+                            bytes, inputs, slice[ANSWERS], length[ANSWERS]);
+    if ((uint32_t)got != result[0] || (uint32_t)(got >> 32) != result[1])
+        stop("another result", number);
+    for (int i = 0; i < SLICES; i++) {
+        if (memcmp(slice[i], after[i], length[i] * 4))
+            stop("another word in a slice", number);
+        free(slice[i]);
+        free(after[i]);
+    }
+    free(bytes);
+    free(input);
+    free(argument);
+    free(result);
+}
+
+int main(int count, char **arguments)
+{
+    FILE *file = count == 2 ? fopen(arguments[1], "rb") : NULL;
+    if (!file)
+        stop("usage: sanitized FILE", 0);
+    unsigned long number = 0;
+    uint32_t entry;
+    for (; fread(&entry, sizeof entry, 1, file) == 1; number++)
+        call(file, entry, number);
+    fclose(file);
+    printf("%lu calls made again from C\n", number);
+    return 0;
+}

@@ -1,0 +1,176 @@
+//! The library beside plain.rs, call by call and word for word: seeded runs, then corrupted states.
+
+use host_tests::corrupt::KINDS;
+use host_tests::record::Recorder;
+use host_tests::sentences::SENTENCES;
+use host_tests::session::{Failure, Session};
+use host_tests::soundness::{self, Counts, PER_SEED};
+use host_tests::{library, runs};
+use std::process::ExitCode;
+use std::time::Instant;
+
+const USAGE: &str = "usage: compare [--runs N] [--corrupt N] [--seed S] [--quick] [--record FILE]
+--quick: few runs, and each slice a heap block of its own, for memcheck
+--record: writes all calls and what they left to FILE, for sanitized.c";
+
+/// Words on each side of a lent slice.
+const GUARD: usize = 7;
+/// From so many on, every event, kind and sentence must have been met.
+const ENOUGH_RUNS: u64 = 1_000;
+const ENOUGH_PAIRS: usize = 50_000;
+
+struct Options {
+    runs: u64,
+    corrupt: usize,
+    seed: u64,
+    guard: usize,
+    record: Option<String>,
+}
+
+fn options() -> Option<Options> {
+    let mut options = Options {
+        runs: 5_000,
+        corrupt: 150_000,
+        seed: 1,
+        guard: GUARD,
+        record: None,
+    };
+    let mut arguments = std::env::args().skip(1);
+    while let Some(argument) = arguments.next() {
+        match argument.as_str() {
+            "--quick" => (options.runs, options.corrupt, options.guard) = (150, 3_000, 0),
+            "--runs" => options.runs = arguments.next()?.parse().ok()?,
+            "--corrupt" => options.corrupt = arguments.next()?.parse().ok()?,
+            "--seed" => options.seed = arguments.next()?.parse().ok()?,
+            "--record" => options.record = Some(arguments.next()?),
+            _ => return None,
+        }
+    }
+    Some(options)
+}
+
+fn main() -> ExitCode {
+    let Some(options) = options() else {
+        eprintln!("{USAGE}");
+        return ExitCode::from(2);
+    };
+    let began = Instant::now();
+    let outcome = compare(&options);
+    let seconds = began.elapsed().as_secs_f64();
+    match outcome {
+        Ok(()) => {
+            println!("passed in {seconds:.1} s");
+            ExitCode::SUCCESS
+        }
+        Err(failure) => {
+            println!("{failure}\nFAILED in {seconds:.1} s");
+            ExitCode::FAILURE
+        }
+    }
+}
+
+fn compare(options: &Options) -> Result<(), Failure> {
+    let say = |error: std::io::Error| error.to_string();
+    let recorder = options.record.as_deref().map(Recorder::create);
+    let mut session = Session::new(options.guard, recorder.transpose().map_err(say)?);
+    compare_sizes()?;
+    compare_runs(options, &mut session)?;
+    compare_corrupted(options, &mut session)?;
+    match session.recorder {
+        Some(recorder) => recorder.finish().map_err(say),
+        None => Ok(()),
+    }
+}
+
+/// T(n) for every n that a start takes, and for some beyond.
+fn compare_sizes() -> Result<(), Failure> {
+    let sum = |n: u32| -> u64 {
+        let levels = 0..=u64::from(n).next_power_of_two().trailing_zeros();
+        levels.map(|level| u64::from(n).div_ceil(1 << level)).sum()
+    };
+    let mut sizes = (0..=1_000).chain([65_535, 65_536, 1 << 31, u32::MAX]);
+    let wrong = sizes.find(|&n| library::tree_nodes(n) != sum(n));
+    wrong.map_or(Ok(()), |n| Err(format!("T({n}) differs")))
+}
+
+fn compare_runs(options: &Options, session: &mut Session) -> Result<(), Failure> {
+    for run in 0..options.runs {
+        let seed = options.seed.wrapping_add(run);
+        runs::run(seed, session)
+            .map_err(|failure| format!("{failure}\n(--runs 1 --corrupt 0 --seed {seed})"))?;
+    }
+    println!(
+        "{} runs, {} calls, {} records on tapes",
+        options.runs, session.calls, session.records
+    );
+    println!("{}", session.tally.line());
+    let missing = session.tally.missing();
+    if options.runs >= ENOUGH_RUNS && !missing.is_empty() {
+        return Err(format!("never met: {missing:?}"));
+    }
+    Ok(())
+}
+
+fn compare_corrupted(options: &Options, session: &mut Session) -> Result<(), Failure> {
+    let mut counts = Counts::default();
+    let mut left = options.corrupt;
+    let mut seed = options.seed;
+    while left > 0 {
+        soundness::group(seed, left, session, &mut counts).map_err(|failure| {
+            format!("{failure}\n(--runs 0 --corrupt {PER_SEED} --seed {seed})")
+        })?;
+        left -= left.min(PER_SEED);
+        seed = seed.wrapping_add(1);
+    }
+    if options.corrupt > 0 {
+        report(&counts);
+    }
+    if options.corrupt >= ENOUGH_PAIRS {
+        return all_met(&counts);
+    }
+    Ok(())
+}
+
+fn report(counts: &Counts) {
+    let sum = |part: fn(&soundness::Judged) -> u64| counts.kinds.iter().map(part).sum::<u64>();
+    println!(
+        "corrupted pairs: {} sound, {} unsound, {} with more nodes than any work slice",
+        sum(|judged| judged.sound),
+        sum(|judged| judged.unsound),
+        sum(|judged| judged.short_work)
+    );
+    let entries: Vec<String> = KINDS
+        .iter()
+        .zip(&counts.kinds)
+        .map(|(kind, judged)| format!("{:20}{:6}{:6}", kind.name, judged.sound, judged.unsound))
+        .collect();
+    println!("kind, sound, unsound:");
+    for line in entries.chunks(4) {
+        println!("  {}", line.join("   "));
+    }
+    println!("how often a sentence was the only one broken:");
+    for (sentence, times) in SENTENCES.iter().zip(counts.alone) {
+        println!("  {times:6}  {}", sentence.text);
+    }
+    let fewest = counts.turns.iter().min().unwrap_or(&0);
+    println!("each state word was the one changed at least {fewest} times");
+}
+
+fn all_met(counts: &Counts) -> Result<(), Failure> {
+    let kind =
+        (KINDS.iter().zip(&counts.kinds)).find(|(_, judged)| judged.sound + judged.unsound == 0);
+    if let Some((kind, _)) = kind {
+        return Err(format!("never judged: {}", kind.name));
+    }
+    let sentence = SENTENCES
+        .iter()
+        .zip(counts.alone)
+        .find(|(_, times)| *times == 0);
+    if let Some((sentence, _)) = sentence {
+        return Err(format!("never broken alone: {}", sentence.text));
+    }
+    if counts.turns.contains(&0) {
+        return Err("a state word never had its turn".to_string());
+    }
+    Ok(())
+}

@@ -1,0 +1,256 @@
+//! Changes of a sound state and its pool: most break soundness, some keep it, and for some it depends.
+
+mod frames;
+mod numbers;
+mod trees;
+mod words;
+
+use crate::plain::{self, Node, State, HOLDERS, LEFT, MAX_FRAMES, NONE, RIGHT};
+use crate::random::Random;
+use Expected::{Either, Sound, Unsound};
+
+#[derive(Clone)]
+pub struct Pair {
+    pub state: State,
+    pub pool: Vec<u32>,
+    /// The state word whose turn it is to be changed.
+    pub turn: usize,
+}
+
+/// What a change must lead to, told without asking any of the three that decide.
+#[derive(Clone, Copy, PartialEq)]
+pub enum Expected {
+    Sound,
+    Unsound,
+    Either,
+}
+
+/// Makes one change; None if the pair offers no place for it, and then nothing must be judged.
+type Change = fn(&mut Pair, &Random) -> Option<()>;
+
+pub struct Kind {
+    pub name: &'static str,
+    pub expected: Expected,
+    /// How often the kind is chosen, compared with the others.
+    pub share: usize,
+    pub change: Change,
+}
+
+const fn kind(name: &'static str, expected: Expected, share: usize, change: Change) -> Kind {
+    Kind {
+        name,
+        expected,
+        share,
+        change,
+    }
+}
+
+pub const KINDS: [Kind; 56] = [
+    kind("state word", Either, 120, words::state_word),
+    kind("pool word", Either, 40, words::pool_word),
+    kind("two words", Either, 10, words::two_words),
+    kind("garbage", Either, 10, words::garbage),
+    kind("small garbage", Either, 10, words::small_garbage),
+    kind("garbage frames", Either, 6, words::garbage_frames),
+    kind("garbage pool", Either, 6, words::garbage_pool),
+    kind("pool cut off", Unsound, 4, words::pool_cut_off),
+    kind("pool lengthened", Sound, 4, words::pool_lengthened),
+    kind("links swapped", Either, 12, trees::links_swapped),
+    kind("free chain cycle", Unsound, 6, trees::free_chain_cycle),
+    kind("tree cycle", Unsound, 6, trees::tree_cycle),
+    kind("wrong holders", Unsound, 6, trees::wrong_holders),
+    kind("holders moved", Unsound, 6, trees::holders_moved),
+    kind("wrong level", Unsound, 8, trees::wrong_level),
+    kind("wrong size", Unsound, 8, trees::wrong_size),
+    kind("node shared", Sound, 12, trees::node_shared),
+    kind("inner value", Unsound, 5, trees::inner_value),
+    kind("leaf value", Sound, 4, trees::leaf_value),
+    kind("leaf with a link", Unsound, 5, trees::leaf_with_link),
+    kind("link missing", Unsound, 5, trees::link_missing),
+    kind("link too many", Unsound, 5, trees::link_too_many),
+    kind("free node not zero", Unsound, 6, trees::free_node_not_zero),
+    kind("free node lost", Unsound, 5, trees::free_node_lost),
+    kind("used node chained", Unsound, 5, trees::used_node_chained),
+    kind("node leaked", Unsound, 5, trees::node_leaked),
+    kind("tree leaked", Unsound, 5, trees::tree_leaked),
+    kind("root of another", Sound, 5, trees::root_of_another),
+    kind("root too low", Unsound, 5, trees::root_too_low),
+    kind("released early", Unsound, 5, trees::released_early),
+    kind("chain reordered", Sound, 5, trees::chain_reordered),
+    kind("nodes renumbered", Sound, 6, trees::nodes_renumbered),
+    kind("past the end", Unsound, 6, frames::past_the_end),
+    kind("absent worker", Unsound, 6, frames::absent_worker),
+    kind("deques swapped", Either, 6, frames::deques_swapped),
+    kind("deque too long", Unsound, 4, frames::deque_too_long),
+    kind("workers swapped", Sound, 4, frames::workers_swapped),
+    kind("free place relinked", Unsound, 6, frames::place_relinked),
+    kind("free place not zero", Unsound, 6, frames::place_not_zero),
+    kind("places renumbered", Sound, 6, frames::places_renumbered),
+    kind("in two places", Unsound, 5, frames::in_two_places),
+    kind("dead frame queued", Unsound, 5, frames::dead_frame_queued),
+    kind("put to sleep", Either, 6, frames::put_to_sleep),
+    kind("woken", Either, 6, frames::woken),
+    kind("deques joined", Either, 8, frames::deques_joined),
+    kind("top left alone", Sound, 5, frames::top_left_alone),
+    kind("cut below the top", Unsound, 5, frames::cut_below_the_top),
+    kind("deque out of order", Unsound, 5, frames::deque_out_of_order),
+    kind("another parent", Either, 8, frames::another_parent),
+    kind("depth changed", Unsound, 6, frames::depth_changed),
+    kind("outstanding moved", Unsound, 5, frames::outstanding_moved),
+    kind("second Main", Unsound, 5, frames::second_main),
+    kind("child by hand", Either, 8, frames::child_by_hand),
+    kind("flag over 1", Unsound, 5, frames::flag_over_1),
+    kind("numbers moved", Either, 10, numbers::moved),
+    kind("16,384 nodes", Either, 1, numbers::brink),
+];
+
+/// A kind by its share.
+pub fn choose(random: &Random) -> usize {
+    let mut left = random.below(KINDS.iter().map(|kind| kind.share).sum());
+    for (number, kind) in KINDS.iter().enumerate() {
+        if left < kind.share {
+            return number;
+        }
+        left -= kind.share;
+    }
+    0
+}
+
+/// Some change that keeps a pair sound, or none at all.
+pub fn keep_sound(pair: &mut Pair, random: &Random) {
+    let keeping: Vec<Change> = KINDS
+        .iter()
+        .filter(|kind| kind.expected == Sound)
+        .map(|kind| kind.change)
+        .collect();
+    random.pick(&keeping)(pair, random);
+}
+
+/// A node in use, and the tree that stands there: its level and its number of leaves.
+#[derive(Clone, Copy, PartialEq)]
+struct Standing {
+    node: u32,
+    level: u32,
+    leaves: u32,
+}
+
+/// What the changes need of a sound pair.
+impl Pair {
+    fn node(&self, node: u32) -> Node {
+        let at = 4 * node as usize;
+        [0, 1, 2, 3].map(|word| self.pool[at + word])
+    }
+
+    fn word(&mut self, node: u32, word: usize) -> &mut u32 {
+        &mut self.pool[4 * node as usize + word]
+    }
+
+    fn set(&mut self, node: u32, words: Node) {
+        let at = 4 * node as usize;
+        self.pool[at..at + 4].copy_from_slice(&words);
+    }
+
+    fn live(&self) -> Vec<usize> {
+        (0..MAX_FRAMES)
+            .filter(|&place| self.state.frames[place].live != 0)
+            .collect()
+    }
+
+    /// Each node in use, once.
+    fn standings(&self) -> Vec<Standing> {
+        let mut seen = vec![false; self.state.nodes as usize];
+        let mut standings = Vec::new();
+        for place in self.live() {
+            let root = Standing {
+                node: self.state.frames[place].root,
+                level: plain::height(self.state.splitters),
+                leaves: self.state.splitters,
+            };
+            self.walk(root, &mut seen, &mut standings);
+        }
+        standings
+    }
+
+    fn walk(&self, at: Standing, seen: &mut [bool], standings: &mut Vec<Standing>) {
+        if std::mem::replace(&mut seen[at.node as usize], true) {
+            return;
+        }
+        standings.push(at);
+        for side in [LEFT, RIGHT] {
+            if let Some(below) = self.below(at, side) {
+                self.walk(below, seen, standings);
+            }
+        }
+    }
+
+    /// What stands at a node's left or right.
+    fn below(&self, at: Standing, side: usize) -> Option<Standing> {
+        let half = 1 << at.level.checked_sub(1)?;
+        let leaves = match side {
+            LEFT => at.leaves.min(half),
+            _ => at.leaves.checked_sub(half).filter(|&leaves| leaves > 0)?,
+        };
+        Some(Standing {
+            node: self.node(at.node)[side],
+            level: at.level - 1,
+            leaves,
+        })
+    }
+
+    fn inner(&self) -> Vec<Standing> {
+        let mut standings = self.standings();
+        standings.retain(|at| at.level > 0);
+        standings
+    }
+
+    /// The free chain, from its first node.
+    fn chain(&self) -> Vec<u32> {
+        let mut chain = Vec::new();
+        let mut next = self.state.free;
+        while next != NONE {
+            chain.push(next);
+            next = self.node(next)[LEFT];
+        }
+        chain
+    }
+
+    /// Makes these nodes free and the free chain, in this order.
+    fn rechain(&mut self, chain: &[u32]) {
+        let mut next = NONE;
+        for &node in chain.iter().rev() {
+            self.set(node, [0, next, 0, 0]);
+            next = node;
+        }
+        self.state.free = next;
+    }
+
+    fn retain(&mut self, node: u32) {
+        *self.word(node, HOLDERS) += 1;
+    }
+
+    fn release(&mut self, node: u32) {
+        let [holders, left, right, _] = self.node(node);
+        *self.word(node, HOLDERS) = holders - 1;
+        if holders > 1 {
+            return;
+        }
+        self.set(node, [0, self.state.free, 0, 0]);
+        self.state.free = node;
+        for link in [left, right] {
+            if link != NONE {
+                self.release(link);
+            }
+        }
+    }
+
+    /// Links to another node, with all reference counts and the free chain put right.
+    fn relink(&mut self, from: u32, side: usize, to: u32) {
+        let old = std::mem::replace(self.word(from, side), to);
+        if to != NONE {
+            self.retain(to);
+        }
+        if old != NONE {
+            self.release(old);
+        }
+    }
+}

@@ -1,0 +1,320 @@
+//! Changes of frames and deques.
+
+use super::Pair;
+use crate::plain::{Deque, Frame, MAX_FRAMES, MAX_WORKERS, NONE};
+use crate::random::Random;
+
+fn workers(pair: &Pair, test: impl Fn(&Deque) -> bool) -> Vec<usize> {
+    (0..pair.state.workers as usize)
+        .filter(|&worker| test(&pair.state.deques[worker]))
+        .collect()
+}
+
+fn idle(pair: &Pair, random: &Random) -> Option<usize> {
+    random.some(&workers(pair, |deque| deque.length == 0))
+}
+
+fn busy(pair: &Pair, random: &Random) -> Option<usize> {
+    random.some(&workers(pair, |deque| deque.length > 0))
+}
+
+fn free_places(pair: &Pair) -> Vec<usize> {
+    (0..MAX_FRAMES)
+        .filter(|&place| pair.state.frames[place].live == 0)
+        .collect()
+}
+
+fn deque_of(frames: &[u32]) -> Deque {
+    let mut deque = Deque::EMPTY;
+    frames.iter().for_each(|&frame| deque.push(frame));
+    deque
+}
+
+fn queued(deque: &Deque) -> Vec<u32> {
+    deque.places[..deque.length as usize].to_vec()
+}
+
+pub fn past_the_end(pair: &mut Pair, random: &Random) -> Option<()> {
+    let deque = &mut pair.state.deques[random.below(MAX_WORKERS)];
+    let past = &mut deque.places[deque.length as usize..];
+    let place = (!past.is_empty()).then(|| random.below(past.len()))?;
+    past[place] = random.pick(&[1, NONE, 1 + random.word_below(63)]);
+    Some(())
+}
+
+/// A worker that has frames is no longer one of the workers.
+pub fn absent_worker(pair: &mut Pair, random: &Random) -> Option<()> {
+    let worker = busy(pair, random)?;
+    if worker > 0 && random.one_in(2) {
+        pair.state.workers = worker as u32;
+        return Some(());
+    }
+    let absent: Vec<usize> = (pair.state.workers as usize..MAX_WORKERS).collect();
+    pair.state.deques.swap(worker, random.some(&absent)?);
+    Some(())
+}
+
+/// A length that no deque can have. A full deque is the place for it, if there is one.
+pub fn deque_too_long(pair: &mut Pair, random: &Random) -> Option<()> {
+    let full = workers(pair, |deque| deque.length as usize == MAX_FRAMES);
+    let worker = random
+        .some(&full)
+        .unwrap_or_else(|| random.below(MAX_WORKERS));
+    pair.state.deques[worker].length = random.pick(&[65, 66, 1 << 31, NONE, random.word() | 65]);
+    Some(())
+}
+
+pub fn deques_swapped(pair: &mut Pair, random: &Random) -> Option<()> {
+    let (a, b) = (random.below(MAX_WORKERS), random.below(MAX_WORKERS));
+    pair.state.deques.swap(a, b);
+    Some(())
+}
+
+pub fn workers_swapped(pair: &mut Pair, random: &Random) -> Option<()> {
+    let workers = pair.state.workers as usize;
+    let (a, b) = (random.below(workers), random.below(workers));
+    pair.state.deques.swap(a, b);
+    Some(())
+}
+
+/// Another link in the chain of free places.
+pub fn place_relinked(pair: &mut Pair, random: &Random) -> Option<()> {
+    let next = random.pick(&[NONE, 64, random.word_below(64), random.word()]);
+    let link = match random.some(&free_places(pair)) {
+        Some(place) if !random.one_in(8) => &mut pair.state.frames[place].parent,
+        _ => &mut pair.state.vacant,
+    };
+    let old = std::mem::replace(link, next);
+    (old != next).then_some(())
+}
+
+pub fn place_not_zero(pair: &mut Pair, random: &Random) -> Option<()> {
+    let place = random.some(&free_places(pair))?;
+    let word = random.pick(&[1, NONE, random.word() | 1]);
+    let frame = &mut pair.state.frames[place];
+    match random.below(4) {
+        0 => frame.depth = word,
+        1 => frame.outstanding = word,
+        2 => frame.suspended = word,
+        _ => frame.root = word,
+    }
+    Some(())
+}
+
+/// Moves frame places about, with all links to them put right.
+pub fn places_renumbered(pair: &mut Pair, random: &Random) -> Option<()> {
+    let mut places: Vec<u32> = (0..MAX_FRAMES as u32).collect();
+    random.shuffle(&mut places);
+    let place = |link: u32| match link {
+        NONE => NONE,
+        old => places[old as usize],
+    };
+    let old = pair.state.frames;
+    for (number, mut frame) in (0..).zip(old) {
+        frame.parent = place(frame.parent);
+        pair.state.frames[place(number) as usize] = frame;
+    }
+    pair.state.vacant = place(pair.state.vacant);
+    for deque in &mut pair.state.deques {
+        let length = deque.length as usize;
+        deque.places[..length]
+            .iter_mut()
+            .for_each(|frame| *frame = place(*frame));
+    }
+    Some(())
+}
+
+/// A frame is also in the deque of a worker that was idle, or twice in its own.
+pub fn in_two_places(pair: &mut Pair, random: &Random) -> Option<()> {
+    let from = busy(pair, random)?;
+    let frame = random.some(&queued(&pair.state.deques[from]))?;
+    let to = idle(pair, random).unwrap_or(from);
+    if pair.state.deques[to].length as usize == MAX_FRAMES {
+        return None;
+    }
+    pair.state.deques[to].push(frame);
+    Some(())
+}
+
+pub fn dead_frame_queued(pair: &mut Pair, random: &Random) -> Option<()> {
+    let free = random.some(&free_places(pair))? as u32;
+    let frame = random.pick(&[free, free, 64, NONE, random.word() | 64]);
+    let worker = idle(pair, random)?;
+    pair.state.deques[worker].push(frame);
+    Some(())
+}
+
+/// A worker's only frame leaves its deque, suspended or not. This is sound for a suspended frame with a child.
+pub fn put_to_sleep(pair: &mut Pair, random: &Random) -> Option<()> {
+    let worker = random.some(&workers(pair, |deque| deque.length == 1))?;
+    let frame = pair.state.deques[worker].take_top();
+    pair.state.frames[frame as usize].suspended = u32::from(!random.one_in(4));
+    Some(())
+}
+
+/// A suspended frame goes on, on an idle worker. This is sound if it is no longer called suspended.
+pub fn woken(pair: &mut Pair, random: &Random) -> Option<()> {
+    let mut frames = pair.live();
+    frames.retain(|&place| pair.state.frames[place].suspended != 0);
+    let frame = random.some(&frames)?;
+    let worker = idle(pair, random)?;
+    pair.state.frames[frame].suspended = u32::from(random.one_in(4));
+    pair.state.deques[worker].push(frame as u32);
+    Some(())
+}
+
+/// One deque is put below another. This is sound if its top is a child of the other's bottom and both may lie so.
+pub fn deques_joined(pair: &mut Pair, random: &Random) -> Option<()> {
+    let upper = busy(pair, random)?;
+    let bottom = pair.state.deques[upper].bottom()?;
+    let parent =
+        |worker: usize| pair.state.frames[pair.state.deques[worker].places[0] as usize].parent;
+    let mut lowers = workers(pair, |deque| deque.length > 0);
+    lowers.retain(|&worker| worker != upper);
+    let of_the_bottom: Vec<usize> = lowers
+        .iter()
+        .copied()
+        .filter(|&worker| parent(worker) == bottom)
+        .collect();
+    let lower = match random.some(&of_the_bottom) {
+        Some(worker) if !random.one_in(3) => worker,
+        _ => random.some(&lowers)?,
+    };
+    let mut frames = queued(&pair.state.deques[upper]);
+    frames.extend(queued(&pair.state.deques[lower]));
+    pair.state.deques[upper] = deque_of(&frames);
+    pair.state.deques[lower] = Deque::EMPTY;
+    Some(())
+}
+
+/// All but a deque's top go to an idle worker.
+pub fn top_left_alone(pair: &mut Pair, random: &Random) -> Option<()> {
+    cut(pair, random, 1)
+}
+
+/// The same, but two or more frames stay, and so the last of them has a child elsewhere.
+pub fn cut_below_the_top(pair: &mut Pair, random: &Random) -> Option<()> {
+    cut(pair, random, 2)
+}
+
+/// At least so many frames stay, just one if it is the top that stays.
+fn cut(pair: &mut Pair, random: &Random, least: usize) -> Option<()> {
+    let longer = |deque: &Deque| deque.length as usize > least;
+    let from = random.some(&workers(pair, longer))?;
+    let to = idle(pair, random)?;
+    let frames = queued(&pair.state.deques[from]);
+    let stay = match least {
+        1 => 1,
+        _ => least + random.below(frames.len() - least),
+    };
+    let (upper, lower) = frames.split_at(stay);
+    pair.state.deques[from] = deque_of(upper);
+    pair.state.deques[to] = deque_of(lower);
+    Some(())
+}
+
+pub fn deque_out_of_order(pair: &mut Pair, random: &Random) -> Option<()> {
+    let worker = random.some(&workers(pair, |deque| deque.length >= 2))?;
+    let deque = &mut pair.state.deques[worker];
+    let length = deque.length as usize;
+    let (a, b) = (random.below(length), random.below(length));
+    deque.places.swap(a, b);
+    (a != b).then_some(())
+}
+
+/// A live frame gets another parent, with the outstanding counts put right. This is sound if depths and deques allow it.
+pub fn another_parent(pair: &mut Pair, random: &Random) -> Option<()> {
+    let live = pair.live();
+    let mut children = live.clone();
+    children.retain(|&place| pair.state.frames[place].parent != NONE);
+    let child = random.some(&children)?;
+    let old = pair.state.frames[child].parent as usize;
+    let depth = pair.state.frames[old].depth;
+    let mut level = live.clone();
+    level.retain(|&place| pair.state.frames[place].depth == depth && place != old);
+    let new = match random.some(&level) {
+        Some(place) if !random.one_in(3) => place,
+        _ => random.some(&live)?,
+    };
+    pair.state.frames[old].outstanding -= 1;
+    pair.state.frames[new].outstanding += 1;
+    pair.state.frames[child].parent = new as u32;
+    Some(())
+}
+
+pub fn depth_changed(pair: &mut Pair, random: &Random) -> Option<()> {
+    let live = pair.live();
+    let one = random.some(&live)?;
+    if random.one_in(4) {
+        for place in live {
+            pair.state.frames[place].depth += 1;
+        }
+        return Some(());
+    }
+    let depth = &mut pair.state.frames[one].depth;
+    *depth = random.pick(&[depth.wrapping_add(1), depth.wrapping_sub(1), NONE]);
+    Some(())
+}
+
+pub fn outstanding_moved(pair: &mut Pair, random: &Random) -> Option<()> {
+    let live = pair.live();
+    let (more, fewer) = (random.some(&live)?, random.some(&live)?);
+    let (a, b) = (
+        &pair.state.frames[more].outstanding,
+        &pair.state.frames[fewer].outstanding,
+    );
+    let (a, b) = (a.wrapping_add(1), b.wrapping_sub(1));
+    pair.state.frames[more].outstanding = a;
+    pair.state.frames[fewer].outstanding = b;
+    Some(())
+}
+
+/// A frame without a child gets depth 0 and no parent.
+pub fn second_main(pair: &mut Pair, random: &Random) -> Option<()> {
+    let mut frames = pair.live();
+    frames.retain(|&place| {
+        let frame = &pair.state.frames[place];
+        frame.parent != NONE && frame.outstanding == 0
+    });
+    let place = random.some(&frames)?;
+    let parent = pair.state.frames[place].parent as usize;
+    pair.state.frames[parent].outstanding -= 1;
+    pair.state.frames[place].parent = NONE;
+    pair.state.frames[place].depth = 0;
+    Some(())
+}
+
+/// A new frame, child of any live one, alone on an idle worker. This is sound if the parent may have a child elsewhere.
+pub fn child_by_hand(pair: &mut Pair, random: &Random) -> Option<()> {
+    let parent = random.some(&pair.live())?;
+    let worker = idle(pair, random)?;
+    let place = pair.state.vacant;
+    let next = pair.state.frames.get(place as usize)?.parent;
+    let above = &mut pair.state.frames[parent];
+    above.outstanding += 1;
+    let child = Frame {
+        live: 1,
+        parent: parent as u32,
+        depth: above.depth + 1,
+        outstanding: 0,
+        suspended: 0,
+        root: above.root,
+    };
+    pair.retain(child.root);
+    pair.state.frames[place as usize] = child;
+    pair.state.vacant = next;
+    pair.state.deques[worker].push(place);
+    Some(())
+}
+
+pub fn flag_over_1(pair: &mut Pair, random: &Random) -> Option<()> {
+    let place = random.some(&pair.live())?;
+    let word = random.pick(&[2, 3, 256, NONE, 1 << 31]);
+    let frame = &mut pair.state.frames[place];
+    if random.one_in(2) {
+        frame.live = word;
+    } else {
+        frame.suspended = word;
+    }
+    Some(())
+}

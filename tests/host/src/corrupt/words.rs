@@ -1,0 +1,125 @@
+//! Words changed without regard to what they mean.
+
+use super::Pair;
+use crate::plain::{self, NONE, STATE_WORDS};
+use crate::random::Random;
+
+/// A word that is not the old one, near it or far.
+fn another(old: u32, random: &Random) -> u32 {
+    let word = match random.below(10) {
+        0 => 0,
+        1 => 1,
+        2 => NONE,
+        3 => NONE - 1,
+        4 => random.word(),
+        5 => random.word_below(70),
+        6 => old ^ 1 << random.below(32),
+        7 => old.wrapping_add(random.word_below(4)),
+        8 => old.wrapping_sub(random.word_below(4)),
+        _ => old.wrapping_add(1),
+    };
+    if word == old {
+        old.wrapping_sub(1)
+    } else {
+        word
+    }
+}
+
+/// The state word whose turn it is.
+pub fn state_word(pair: &mut Pair, random: &Random) -> Option<()> {
+    change_state(pair, pair.turn, random);
+    Some(())
+}
+
+fn change_state(pair: &mut Pair, position: usize, random: &Random) {
+    let mut words = plain::to_words(&pair.state);
+    words[position] = another(words[position], random);
+    pair.state = plain::from_words(&words);
+}
+
+pub fn pool_word(pair: &mut Pair, random: &Random) -> Option<()> {
+    let position = random.below(pair.pool.len());
+    pair.pool[position] = another(pair.pool[position], random);
+    Some(())
+}
+
+pub fn two_words(pair: &mut Pair, random: &Random) -> Option<()> {
+    for _ in 0..2 {
+        if random.one_in(2) {
+            change_state(pair, random.below(STATE_WORDS), random);
+        } else {
+            pool_word(pair, random)?;
+        }
+    }
+    Some(())
+}
+
+/// All words random, but often with numbers that lead the check on.
+pub fn garbage(pair: &mut Pair, random: &Random) -> Option<()> {
+    fill(pair, random, |random| random.word());
+    Some(())
+}
+
+pub fn small_garbage(pair: &mut Pair, random: &Random) -> Option<()> {
+    let limit = random.pick(&[2, 3, 10, 64]);
+    fill(pair, random, |random| match random.below(12) {
+        0 => NONE,
+        _ => random.word_below(limit),
+    });
+    Some(())
+}
+
+fn fill(pair: &mut Pair, random: &Random, word: impl Fn(&Random) -> u32) {
+    let old = pair.state.clone();
+    let words = [0; STATE_WORDS].map(|_| word(random));
+    pair.state = plain::from_words(&words);
+    pair.pool.fill_with(|| word(random));
+    if random.one_in(2) {
+        pair.state.workers = old.workers;
+        pair.state.splitters = old.splitters;
+        pair.state.nodes = old.nodes;
+    }
+}
+
+/// Some records replaced by random ones, the pool as it was.
+pub fn garbage_frames(pair: &mut Pair, random: &Random) -> Option<()> {
+    for frame in &mut pair.state.frames {
+        if random.one_in(4) {
+            frame.live = random.word_below(3);
+            frame.parent = random.pick(&[NONE, random.word_below(64)]);
+            frame.depth = random.word_below(4);
+            frame.outstanding = random.word_below(3);
+            frame.suspended = random.word_below(2);
+            frame.root = random.word_below(pair.state.nodes + 1);
+        }
+    }
+    Some(())
+}
+
+/// The state as it was, the pool full of links that may lead anywhere.
+pub fn garbage_pool(pair: &mut Pair, random: &Random) -> Option<()> {
+    let nodes = pair.state.nodes;
+    for node in pair.pool.chunks_mut(4) {
+        node.fill_with(|| random.word_below(nodes + 1));
+        node[0] = random.word_below(3);
+        if let Some(value) = node.get_mut(3) {
+            *value = 0;
+        }
+    }
+    Some(())
+}
+
+/// The lent pool has fewer nodes than are recorded.
+pub fn pool_cut_off(pair: &mut Pair, random: &Random) -> Option<()> {
+    let whole = 4 * pair.state.nodes as usize;
+    let left = random.pick(&[0, whole - 1, whole - 4, random.below(whole)]);
+    pair.pool.truncate(left);
+    Some(())
+}
+
+/// Words after the recorded nodes are nobody's.
+pub fn pool_lengthened(pair: &mut Pair, random: &Random) -> Option<()> {
+    let more = 1 + random.below(9);
+    pair.pool.extend(random.words(more));
+    Some(())
+}

@@ -1,0 +1,18 @@
+//! libsplitter.a beside document 01's engine in plain Rust: see README.md.
+
+pub mod call;
+pub mod corrupt;
+pub mod lent;
+pub mod library;
+pub mod plain;
+pub mod random;
+pub mod record;
+pub mod runs;
+pub mod sentences;
+pub mod session;
+pub mod soundness;
+pub mod steps;
+pub mod tally;
+
+#[cfg(test)]
+mod tests;

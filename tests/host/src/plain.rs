@@ -1,0 +1,759 @@
+//! Document 01's engine in plain, fast, safe Rust: path copying, reference counts, free lists, recursive release. Written from the
+//! document alone. It is what the library is compared with, and the peer it is timed against.
+
+use std::array;
+
+pub const NONE: u32 = u32::MAX;
+pub const MAX_WORKERS: usize = 8;
+pub const MAX_FRAMES: usize = 64;
+pub const MAX_SPLITTERS: usize = 256;
+pub const MAX_NODES: usize = 16_384;
+
+const NUMBERS: usize = 5;
+const DEQUE_WORDS: usize = 1 + MAX_FRAMES;
+const FRAME_WORDS: usize = 6;
+/// R-1's order: the five numbers, the deques, the frame records.
+pub const STATE_WORDS: usize = NUMBERS + MAX_WORKERS * DEQUE_WORDS + MAX_FRAMES * FRAME_WORDS;
+
+/// Holders (the reference count), left, right, value. A free node is 0, the next free node, 0, 0.
+pub type Node = [u32; 4];
+pub const HOLDERS: usize = 0;
+pub const LEFT: usize = 1;
+pub const RIGHT: usize = 2;
+pub const VALUE: usize = 3;
+
+pub const RECORD_BYTES: usize = 8;
+pub const SPAWN: u32 = 1;
+pub const RETURN: u32 = 2;
+pub const STEAL: u32 = 3;
+pub const SYNC: u32 = 4;
+pub const READ: u32 = 5;
+pub const WRITE: u32 = 6;
+
+/// Document 01's refusals, with their numbers.
+#[derive(Clone, Copy, Debug, PartialEq, Eq)]
+#[repr(u32)]
+pub enum Refusal {
+    NoValues = 1,
+    NoWorkers,
+    NoNodes,
+    BadTape,
+    ShortWork,
+    Unsound,
+    BadRecord,
+    NoWorker,
+    MainReturned,
+    WorkerIdle,
+    ThiefBusy,
+    NoVictim,
+    FramesFull,
+    ChildLives,
+    NoSplitter,
+    PoolFull,
+}
+
+/// A frame place. `parent` of a free place is the next free place, or none.
+#[derive(Clone, Copy, Debug, Default, PartialEq, Eq)]
+pub struct Frame {
+    pub live: u32,
+    pub parent: u32,
+    pub depth: u32,
+    pub outstanding: u32,
+    pub suspended: u32,
+    pub root: u32,
+}
+
+impl Frame {
+    fn vacant(next: u32) -> Frame {
+        Frame {
+            parent: next,
+            ..Frame::default()
+        }
+    }
+}
+
+/// A worker's frames from the top; the places past them are zero.
+#[derive(Clone, Copy, Debug, PartialEq, Eq)]
+pub struct Deque {
+    pub length: u32,
+    pub places: [u32; MAX_FRAMES],
+}
+
+impl Deque {
+    pub const EMPTY: Deque = Deque {
+        length: 0,
+        places: [0; MAX_FRAMES],
+    };
+
+    pub fn bottom(&self) -> Option<u32> {
+        let last = self.length.checked_sub(1)?;
+        Some(self.places[last as usize])
+    }
+
+    pub fn push(&mut self, frame: u32) {
+        self.places[self.length as usize] = frame;
+        self.length += 1;
+    }
+
+    pub fn pop(&mut self) {
+        self.length -= 1;
+        self.places[self.length as usize] = 0;
+    }
+
+    pub fn take_top(&mut self) -> u32 {
+        let top = self.places[0];
+        self.places.copy_within(1..self.length as usize, 0);
+        self.pop();
+        top
+    }
+}
+
+/// The engine's state. `free` is the first free node, `vacant` the first free frame place.
+#[derive(Clone, Debug, PartialEq, Eq)]
+pub struct State {
+    pub workers: u32,
+    pub splitters: u32,
+    pub nodes: u32,
+    pub free: u32,
+    pub vacant: u32,
+    pub deques: [Deque; MAX_WORKERS],
+    pub frames: [Frame; MAX_FRAMES],
+}
+
+impl State {
+    /// The state of zeros that a refused start hands out.
+    pub fn zero() -> State {
+        State {
+            workers: 0,
+            splitters: 0,
+            nodes: 0,
+            free: 0,
+            vacant: 0,
+            deques: [Deque::EMPTY; MAX_WORKERS],
+            frames: [Frame::default(); MAX_FRAMES],
+        }
+    }
+
+    pub fn main_lives(&self) -> bool {
+        self.frames.iter().any(|frame| frame.live != 0)
+    }
+}
+
+pub fn to_words(state: &State) -> [u32; STATE_WORDS] {
+    let mut words = [0; STATE_WORDS];
+    let (numbers, rest) = words.split_at_mut(NUMBERS);
+    let (deques, frames) = rest.split_at_mut(MAX_WORKERS * DEQUE_WORDS);
+    numbers.copy_from_slice(&[
+        state.workers,
+        state.splitters,
+        state.nodes,
+        state.free,
+        state.vacant,
+    ]);
+    for (words, deque) in deques.chunks_exact_mut(DEQUE_WORDS).zip(&state.deques) {
+        words[0] = deque.length;
+        words[1..].copy_from_slice(&deque.places);
+    }
+    for (words, f) in frames.chunks_exact_mut(FRAME_WORDS).zip(&state.frames) {
+        words.copy_from_slice(&[
+            f.live,
+            f.parent,
+            f.depth,
+            f.outstanding,
+            f.suspended,
+            f.root,
+        ]);
+    }
+    words
+}
+
+pub fn from_words(words: &[u32; STATE_WORDS]) -> State {
+    let (numbers, rest) = words.split_at(NUMBERS);
+    let (deques, frames) = rest.split_at(MAX_WORKERS * DEQUE_WORDS);
+    State {
+        workers: numbers[0],
+        splitters: numbers[1],
+        nodes: numbers[2],
+        free: numbers[3],
+        vacant: numbers[4],
+        deques: array::from_fn(|worker| {
+            let words = &deques[worker * DEQUE_WORDS..][..DEQUE_WORDS];
+            Deque {
+                length: words[0],
+                places: array::from_fn(|place| words[1 + place]),
+            }
+        }),
+        frames: array::from_fn(|place| {
+            let words = &frames[place * FRAME_WORDS..][..FRAME_WORDS];
+            Frame {
+                live: words[0],
+                parent: words[1],
+                depth: words[2],
+                outstanding: words[3],
+                suspended: words[4],
+                root: words[5],
+            }
+        }),
+    }
+}
+
+/// H: the least number with 2^H at least n.
+pub fn height(splitters: u32) -> u32 {
+    splitters.next_power_of_two().trailing_zeros()
+}
+
+/// T(n): the nodes of one full tree.
+pub fn tree_nodes(splitters: u32) -> u32 {
+    (0..=height(splitters))
+        .map(|level| splitters.div_ceil(1 << level))
+        .sum()
+}
+
+/// Begins a run: the state and 0, or a state of zeros and the refusal.
+pub fn start(workers: u32, values: &[u32], pool: &mut [u32]) -> (State, u32) {
+    let (nodes, _) = pool.as_chunks_mut::<4>();
+    if let Some(refusal) = refuse_start(workers, values.len(), nodes.len()) {
+        return (State::zero(), refusal as u32);
+    }
+    let tree = plant(values, nodes);
+    let last = nodes.len() - 1;
+    for (node, cell) in nodes.iter_mut().enumerate().skip(tree) {
+        let next = if node < last { node as u32 + 1 } else { NONE };
+        *cell = [0, next, 0, 0];
+    }
+    let mut state = State {
+        workers,
+        splitters: values.len() as u32,
+        nodes: nodes.len() as u32,
+        free: if tree <= last { tree as u32 } else { NONE },
+        vacant: 1,
+        frames: array::from_fn(|place| Frame::vacant(place as u32 + 1)),
+        ..State::zero()
+    };
+    state.frames[MAX_FRAMES - 1].parent = NONE;
+    state.frames[0] = Frame {
+        live: 1,
+        parent: NONE,
+        ..Frame::default()
+    };
+    state.deques[0].push(0);
+    (state, 0)
+}
+
+fn refuse_start(workers: u32, values: usize, nodes: usize) -> Option<Refusal> {
+    if values == 0 || values > MAX_SPLITTERS {
+        Some(Refusal::NoValues)
+    } else if workers == 0 || workers as usize > MAX_WORKERS {
+        Some(Refusal::NoWorkers)
+    } else if nodes < tree_nodes(values as u32) as usize || nodes > MAX_NODES {
+        Some(Refusal::NoNodes)
+    } else {
+        None
+    }
+}
+
+/// Writes the first tree, level by level from the root; the number of its nodes.
+fn plant(values: &[u32], nodes: &mut [Node]) -> usize {
+    let width = |level: u32| values.len().div_ceil(1 << level);
+    let mut first = 0;
+    for level in (1..=height(values.len() as u32)).rev() {
+        let below = first + width(level);
+        for (group, node) in nodes[first..below].iter_mut().enumerate() {
+            let left = (below + 2 * group) as u32;
+            let has_right = 2 * group + 1 < width(level - 1);
+            *node = [1, left, if has_right { left + 1 } else { NONE }, 0];
+        }
+        first = below;
+    }
+    for (node, &value) in nodes[first..].iter_mut().zip(values) {
+        *node = [1, NONE, NONE, value];
+    }
+    first + values.len()
+}
+
+/// A step entered from outside: its two answer words, or a refusal and 0.
+pub fn step(
+    state: &mut State,
+    pool: &mut [u32],
+    work: &mut [u32],
+    kind: u32,
+    worker: u32,
+    field: u32,
+    value: u32,
+) -> (u32, u32) {
+    match admit(state, pool, work) {
+        Ok(free_nodes) => {
+            Engine::new(state, free_nodes, pool).answer(Step::decode(kind, worker, field, value))
+        }
+        Err(refusal) => (refusal as u32, 0),
+    }
+}
+
+/// A tape: 0 with two answer words for each record, or a refusal.
+pub fn tape(
+    state: &mut State,
+    pool: &mut [u32],
+    work: &mut [u32],
+    bytes: &[u8],
+    answers: &mut [u32],
+) -> u32 {
+    let ragged = !bytes.len().is_multiple_of(RECORD_BYTES);
+    if ragged || answers.len() / 2 < bytes.len() / RECORD_BYTES {
+        return Refusal::BadTape as u32;
+    }
+    match admit(state, pool, work) {
+        Ok(free_nodes) => {
+            run_tape(state, free_nodes, pool, bytes, answers);
+            0
+        }
+        Err(refusal) => refusal as u32,
+    }
+}
+
+/// Runs the whole records of `bytes` on a sound state with that many free nodes; the free nodes left.
+pub fn run_tape(
+    state: &mut State,
+    free_nodes: u32,
+    pool: &mut [u32],
+    bytes: &[u8],
+    answers: &mut [u32],
+) -> u32 {
+    let mut engine = Engine::new(state, free_nodes, pool);
+    let (records, _) = bytes.as_chunks::<RECORD_BYTES>();
+    let (answers, _) = answers.as_chunks_mut::<2>();
+    for (&[kind, worker, f0, f1, v0, v1, v2, v3], answer) in records.iter().zip(answers) {
+        let field = u16::from_le_bytes([f0, f1]);
+        let value = u32::from_le_bytes([v0, v1, v2, v3]);
+        let step = Step::decode(kind.into(), worker.into(), field.into(), value);
+        *answer = engine.answer(step).into();
+    }
+    engine.free_nodes
+}
+
+/// Refusals 5 and 6; else the number of free nodes.
+fn admit(state: &State, pool: &[u32], work: &mut [u32]) -> Result<u32, Refusal> {
+    if work.len() < state.nodes as usize {
+        return Err(Refusal::ShortWork);
+    }
+    sound(state, pool, work).ok_or(Refusal::Unsound)
+}
+
+#[derive(Clone, Copy)]
+enum Step {
+    Spawn(u32),
+    Return(u32),
+    Steal(u32, u32),
+    Sync(u32),
+    Read(u32, u32),
+    Write(u32, u32, u32),
+}
+
+impl Step {
+    /// None if the kind is not 1 to 6 or an unused field is not zero.
+    fn decode(kind: u32, worker: u32, field: u32, value: u32) -> Option<Step> {
+        match (kind, field, value) {
+            (SPAWN, 0, 0) => Some(Step::Spawn(worker)),
+            (RETURN, 0, 0) => Some(Step::Return(worker)),
+            (STEAL, victim, 0) => Some(Step::Steal(worker, victim)),
+            (SYNC, 0, 0) => Some(Step::Sync(worker)),
+            (READ, splitter, 0) => Some(Step::Read(worker, splitter)),
+            (WRITE, splitter, value) => Some(Step::Write(worker, splitter, value)),
+            _ => None,
+        }
+    }
+}
+
+/// A sound state and its nodes, with what need not be found again at each step.
+struct Engine<'a> {
+    state: &'a mut State,
+    nodes: &'a mut [Node],
+    free_nodes: u32,
+    height: u32,
+    main_lives: bool,
+}
+
+impl<'a> Engine<'a> {
+    fn new(state: &'a mut State, free_nodes: u32, pool: &'a mut [u32]) -> Engine<'a> {
+        let (nodes, _) = pool.as_chunks_mut::<4>();
+        Engine {
+            nodes: &mut nodes[..state.nodes as usize],
+            height: height(state.splitters),
+            main_lives: state.main_lives(),
+            free_nodes,
+            state,
+        }
+    }
+
+    fn answer(&mut self, step: Option<Step>) -> (u32, u32) {
+        let taken = step
+            .ok_or(Refusal::BadRecord)
+            .and_then(|step| self.take(step));
+        taken.unwrap_or_else(|refusal| (refusal as u32, 0))
+    }
+
+    fn take(&mut self, step: Step) -> Result<(u32, u32), Refusal> {
+        Ok(match step {
+            Step::Spawn(worker) => (101, self.spawn(worker)?),
+            Step::Return(worker) => (102, self.end(worker)?),
+            Step::Steal(worker, victim) => (103, self.steal(worker, victim)?),
+            Step::Sync(worker) => (104, self.sync(worker)?),
+            Step::Read(worker, splitter) => (105, self.read(worker, splitter)?),
+            Step::Write(worker, splitter, value) => (106, self.write(worker, splitter, value)?),
+        })
+    }
+
+    /// The bottom frame of a worker. A worker that is not idle shows that Main lives.
+    fn bottom(&self, worker: u32) -> Result<usize, Refusal> {
+        if worker >= self.state.workers {
+            return Err(Refusal::NoWorker);
+        }
+        match self.state.deques[worker as usize].bottom() {
+            Some(frame) => Ok(frame as usize),
+            None if self.main_lives => Err(Refusal::WorkerIdle),
+            None => Err(Refusal::MainReturned),
+        }
+    }
+
+    /// The child's depth.
+    fn spawn(&mut self, worker: u32) -> Result<u32, Refusal> {
+        let bottom = self.bottom(worker)?;
+        let place = self.state.vacant;
+        if place == NONE {
+            return Err(Refusal::FramesFull);
+        }
+        let parent = &mut self.state.frames[bottom];
+        parent.outstanding += 1;
+        let child = Frame {
+            live: 1,
+            parent: bottom as u32,
+            depth: parent.depth + 1,
+            outstanding: 0,
+            suspended: 0,
+            root: parent.root,
+        };
+        self.retain(child.root);
+        self.state.vacant = self.state.frames[place as usize].parent;
+        self.state.frames[place as usize] = child;
+        self.state.deques[worker as usize].push(place);
+        Ok(child.depth)
+    }
+
+    /// A return's outcome.
+    fn end(&mut self, worker: u32) -> Result<u32, Refusal> {
+        let bottom = self.bottom(worker)?;
+        let frame = self.state.frames[bottom];
+        if frame.outstanding > 0 {
+            return Err(Refusal::ChildLives);
+        }
+        self.state.frames[bottom] = Frame::vacant(self.state.vacant);
+        self.state.vacant = bottom as u32;
+        self.release(frame.root);
+        let deque = &mut self.state.deques[worker as usize];
+        deque.pop();
+        if frame.parent == NONE {
+            self.main_lives = false;
+            return Ok(3);
+        }
+        let parent = &mut self.state.frames[frame.parent as usize];
+        parent.outstanding -= 1;
+        if deque.length > 0 {
+            return Ok(0);
+        }
+        if parent.suspended == 0 || parent.outstanding > 0 {
+            return Ok(1);
+        }
+        parent.suspended = 0;
+        deque.push(frame.parent);
+        Ok(2)
+    }
+
+    /// The stolen frame's depth.
+    fn steal(&mut self, thief: u32, victim: u32) -> Result<u32, Refusal> {
+        match self.bottom(thief) {
+            Ok(_) => return Err(Refusal::ThiefBusy),
+            Err(Refusal::WorkerIdle) => {}
+            Err(refusal) => return Err(refusal),
+        }
+        if victim >= self.state.workers || self.state.deques[victim as usize].length < 2 {
+            return Err(Refusal::NoVictim);
+        }
+        let stolen = self.state.deques[victim as usize].take_top();
+        self.state.deques[thief as usize].push(stolen);
+        Ok(self.state.frames[stolen as usize].depth)
+    }
+
+    /// A sync's outcome. A bottom frame with a live child is alone in its deque.
+    fn sync(&mut self, worker: u32) -> Result<u32, Refusal> {
+        let bottom = self.bottom(worker)?;
+        let frame = &mut self.state.frames[bottom];
+        if frame.outstanding == 0 {
+            return Ok(0);
+        }
+        frame.suspended = 1;
+        self.state.deques[worker as usize].pop();
+        Ok(1)
+    }
+
+    fn read(&mut self, worker: u32, splitter: u32) -> Result<u32, Refusal> {
+        let bottom = self.bottom(worker)?;
+        if splitter >= self.state.splitters {
+            return Err(Refusal::NoSplitter);
+        }
+        let mut node = self.state.frames[bottom].root;
+        for level in (0..self.height).rev() {
+            let side = LEFT + (splitter >> level & 1) as usize;
+            node = self.nodes[node as usize][side];
+        }
+        Ok(self.nodes[node as usize][VALUE])
+    }
+
+    /// The free nodes left.
+    fn write(&mut self, worker: u32, splitter: u32, value: u32) -> Result<u32, Refusal> {
+        let bottom = self.bottom(worker)?;
+        if splitter >= self.state.splitters {
+            return Err(Refusal::NoSplitter);
+        }
+        if self.free_nodes <= self.height {
+            return Err(Refusal::PoolFull);
+        }
+        let old = self.state.frames[bottom].root;
+        self.state.frames[bottom].root = self.copy_path(old, splitter, value);
+        self.release(old);
+        Ok(self.free_nodes)
+    }
+
+    /// A new path from the root to the splitter, beside the old siblings; its root.
+    fn copy_path(&mut self, root: u32, splitter: u32, value: u32) -> u32 {
+        let new_root = self.allocate();
+        let (mut old, mut new) = (root, new_root);
+        for level in (0..self.height).rev() {
+            let [_, left, right, _] = self.nodes[old as usize];
+            let child = self.allocate();
+            if splitter >> level & 1 == 0 {
+                self.nodes[new as usize] = [1, child, right, 0];
+                if right != NONE {
+                    self.retain(right);
+                }
+                old = left;
+            } else {
+                self.nodes[new as usize] = [1, left, child, 0];
+                self.retain(left);
+                old = right;
+            }
+            new = child;
+        }
+        self.nodes[new as usize] = [1, NONE, NONE, value];
+        new_root
+    }
+
+    fn allocate(&mut self) -> u32 {
+        let node = self.state.free;
+        self.state.free = self.nodes[node as usize][LEFT];
+        self.free_nodes -= 1;
+        node
+    }
+
+    fn retain(&mut self, node: u32) {
+        self.nodes[node as usize][HOLDERS] += 1;
+    }
+
+    /// At zero holders the node is freed, then its left link is released, then its right.
+    fn release(&mut self, node: u32) {
+        let cell = &mut self.nodes[node as usize];
+        cell[HOLDERS] -= 1;
+        if cell[HOLDERS] > 0 {
+            return;
+        }
+        let [_, left, right, _] = *cell;
+        *cell = [0, self.state.free, 0, 0];
+        self.state.free = node;
+        self.free_nodes += 1;
+        if left != NONE {
+            self.release(left);
+        }
+        if right != NONE {
+            self.release(right);
+        }
+    }
+}
+
+/// Soundness, in time linear in the nodes: the number of free nodes if state and pool are sound. `work` has at least a word for each
+/// recorded node; these words are zero afterwards.
+pub fn sound(state: &State, pool: &[u32], work: &mut [u32]) -> Option<u32> {
+    let marks = &mut work[..state.nodes as usize];
+    marks.fill(0);
+    let free_nodes = judge(state, pool, marks);
+    marks.fill(0);
+    free_nodes
+}
+
+fn judge(state: &State, pool: &[u32], marks: &mut [u32]) -> Option<u32> {
+    let (nodes, _) = pool.as_chunks::<4>();
+    if !numbers_sound(state, nodes.len()) || !frames_sound(state) {
+        return None;
+    }
+    let nodes = &nodes[..marks.len()];
+    let reached = walk_trees(state, nodes, marks)?;
+    let free_nodes = state.nodes - reached;
+    let counts_right = marks
+        .iter()
+        .zip(nodes)
+        .all(|(mark, node)| mark & LINKS == node[HOLDERS]);
+    let sound = counts_right && free_chain_sound(state.free, free_nodes, nodes);
+    sound.then_some(free_nodes)
+}
+
+fn numbers_sound(state: &State, held: usize) -> bool {
+    let n = state.splitters;
+    (1..=MAX_WORKERS as u32).contains(&state.workers)
+        && (1..=MAX_SPLITTERS as u32).contains(&n)
+        && (tree_nodes(n)..=MAX_NODES as u32).contains(&state.nodes)
+        && state.nodes as usize <= held
+}
+
+fn frames_sound(state: &State) -> bool {
+    let mut queued = 0;
+    let deques_right = (0..).zip(&state.deques).all(|(worker, deque)| {
+        (worker < state.workers || deque.length == 0) && deque_sound(state, deque, &mut queued)
+    });
+    deques_right && live_frames_sound(state, queued) && vacant_chain_sound(state)
+}
+
+/// `queued` has a bit for each frame met in a deque so far.
+fn deque_sound(state: &State, deque: &Deque, queued: &mut u64) -> bool {
+    let Some((frames, past)) = deque.places.split_at_checked(deque.length as usize) else {
+        return false;
+    };
+    if past.iter().any(|&place| place != 0) {
+        return false;
+    }
+    let mut above = None;
+    for (place, &number) in frames.iter().enumerate() {
+        let Some(frame) = state.frames.get(number as usize) else {
+            return false;
+        };
+        if frame.live != 1 || frame.suspended != 0 || *queued >> number & 1 == 1 {
+            return false;
+        }
+        *queued |= 1 << number;
+        if let Some(parent) = above {
+            let below = (place + 1 < frames.len()) as u32;
+            if frame.parent != parent || frame.outstanding != below {
+                return false;
+            }
+        }
+        above = Some(number);
+    }
+    true
+}
+
+fn live_frames_sound(state: &State, queued: u64) -> bool {
+    let mut children = [0; MAX_FRAMES];
+    let (mut live, mut mains) = (0, 0);
+    for (number, frame) in state.frames.iter().enumerate() {
+        match (frame.live, frame.suspended, queued >> number & 1) {
+            (0, _, _) => continue,
+            (1, 0, 1) => {}
+            (1, 1, 0) if frame.outstanding > 0 => {}
+            _ => return false,
+        }
+        live += 1;
+        if frame.depth == 0 {
+            mains += 1;
+            if frame.parent != NONE {
+                return false;
+            }
+            continue;
+        }
+        match state.frames.get(frame.parent as usize) {
+            Some(parent) if parent.live == 1 && parent.depth == frame.depth - 1 => {}
+            _ => return false,
+        }
+        children[frame.parent as usize] += 1;
+    }
+    let counts_right = children
+        .iter()
+        .zip(&state.frames)
+        .all(|(&count, frame)| frame.live == 0 || frame.outstanding == count);
+    mains == live.min(1) && counts_right
+}
+
+/// A chain that ends after as many steps as there are free places, through free places only, holds each of them once.
+fn vacant_chain_sound(state: &State) -> bool {
+    let vacant = state.frames.iter().filter(|frame| frame.live == 0).count();
+    let mut next = state.vacant;
+    for _ in 0..vacant {
+        match state.frames.get(next as usize) {
+            Some(frame) if *frame == Frame::vacant(frame.parent) => next = frame.parent,
+            _ => return false,
+        }
+    }
+    next == NONE
+}
+
+/// A mark counts the links to a node in its low half; its high half tells where the node stands. No count reaches 65,536.
+const LINKS: u32 = 0xFFFF;
+
+/// Walks the trees of all live frames, each node once: the number of nodes reached.
+fn walk_trees(state: &State, nodes: &[Node], marks: &mut [u32]) -> Option<u32> {
+    let mut walk = Walk {
+        nodes,
+        marks,
+        reached: 0,
+    };
+    let level = height(state.splitters);
+    state
+        .frames
+        .iter()
+        .filter(|frame| frame.live != 0)
+        .all(|frame| walk.visit(frame.root, level, state.splitters))
+        .then_some(walk.reached)
+}
+
+struct Walk<'a> {
+    nodes: &'a [Node],
+    marks: &'a mut [u32],
+    reached: u32,
+}
+
+impl Walk<'_> {
+    /// A tree of this level with so many leaves stands at `node`. No tree has two levels or two numbers of leaves, so a node met
+    /// again must be met as before, and need not be walked again.
+    fn visit(&mut self, node: u32, level: u32, leaves: u32) -> bool {
+        let Some(mark) = self.marks.get_mut(node as usize) else {
+            return false;
+        };
+        let standing = level << 24 | (leaves - 1) << 16;
+        if *mark != 0 {
+            *mark += 1;
+            return *mark & !LINKS == standing;
+        }
+        *mark = standing | 1;
+        self.reached += 1;
+        let [_, left, right, value] = self.nodes[node as usize];
+        if level == 0 {
+            return left == NONE && right == NONE;
+        }
+        let half = 1 << (level - 1);
+        value == 0
+            && self.visit(left, level - 1, leaves.min(half))
+            && if leaves > half {
+                self.visit(right, level - 1, leaves - half)
+            } else {
+                right == NONE
+            }
+    }
+}
+
+/// A chain that ends after as many steps as there are free nodes, through free nodes only, holds each of them once. The reference counts
+/// are known to be right, so a node without holders was not reached.
+fn free_chain_sound(first: u32, free_nodes: u32, nodes: &[Node]) -> bool {
+    let mut next = first;
+    for _ in 0..free_nodes {
+        match nodes.get(next as usize) {
+            Some(&[0, link, 0, 0]) => next = link,
+            _ => return false,
+        }
+    }
+    next == NONE
+}

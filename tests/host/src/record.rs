@@ -1,0 +1,59 @@
+//! Calls and their outcomes written to a file, for sanitized.c to make them again. All is little-endian words: the entry (1 start,
+//! 2 step, 3 tape), four words (a start's workers or a step's entry), the two words of the result, what was lent for reading only, then
+//! state, pool, work and answers. Each of these has its length first; the last four are followed by what the call left there. Calls with
+//! large pools are left out, for the file's size.
+
+use crate::call::{Call, Entry, Outcome};
+use std::fs::File;
+use std::io::{BufWriter, Result, Write};
+
+const LARGE_POOL: usize = 8_192;
+
+pub struct Recorder(BufWriter<File>);
+
+impl Recorder {
+    pub fn create(path: &str) -> Result<Recorder> {
+        Ok(Recorder(BufWriter::new(File::create(path)?)))
+    }
+
+    pub fn write(&mut self, call: &Call, after: &Outcome) -> Result<()> {
+        if call.pool.len() > LARGE_POOL {
+            return Ok(());
+        }
+        let (entry, arguments) = match call.entry {
+            Entry::Start { workers, .. } => (1, [workers, 0, 0, 0]),
+            Entry::Step(step) => (2, step),
+            Entry::Tape { .. } => (3, [0; 4]),
+        };
+        self.words(&[entry])?;
+        self.words(&arguments)?;
+        self.words(&after.result)?;
+        self.slice(&call.input())?;
+        let slices = [
+            (call.state.as_slice(), &after.state),
+            (&call.pool, &after.pool),
+            (&call.work, &after.work),
+            (call.answers(), &after.answers),
+        ];
+        for (before, after) in slices {
+            self.slice(before)?;
+            self.words(after)?;
+        }
+        Ok(())
+    }
+
+    fn slice(&mut self, words: &[u32]) -> Result<()> {
+        self.words(&[words.len() as u32])?;
+        self.words(words)
+    }
+
+    fn words(&mut self, words: &[u32]) -> Result<()> {
+        words
+            .iter()
+            .try_for_each(|word| self.0.write_all(&word.to_le_bytes()))
+    }
+
+    pub fn finish(mut self) -> Result<()> {
+        self.0.flush()
+    }
+}

@@ -1,0 +1,451 @@
+//! Document 01's "Soundness", sentence by sentence, over the words of a state and a pool: for clarity, not for speed. It shares nothing
+//! with plain.rs. Every sentence can be asked of every state, so that one can tell which ones are broken.
+
+use std::collections::{HashMap, HashSet};
+
+const NONE: u32 = 4_294_967_295;
+const WORKERS: usize = 8;
+const FRAMES: usize = 64;
+
+/// R-1's layout: 5 numbers, 8 deques of 65 words, 64 frame records of 6 words.
+const DEQUES_AT: usize = 5;
+const DEQUE_WORDS: usize = 65;
+const FRAMES_AT: usize = DEQUES_AT + WORKERS * DEQUE_WORDS;
+const FRAME_WORDS: usize = 6;
+
+/// A sentence and what it asks.
+pub struct Sentence {
+    pub text: &'static str,
+    holds: fn(&Pair) -> bool,
+}
+
+pub const SENTENCES: [Sentence; 18] = [
+    Sentence {
+        text: "workers are 1 to 8",
+        holds: workers_are_1_to_8,
+    },
+    Sentence {
+        text: "n is 1 to 256",
+        holds: n_is_1_to_256,
+    },
+    Sentence {
+        text: "node count is T(n) to 16,384 and at most what the pool holds",
+        holds: node_count_fits,
+    },
+    Sentence {
+        text: "live and suspended are 0 or 1",
+        holds: flags_are_0_or_1,
+    },
+    Sentence {
+        text: "a deque has 64 places",
+        holds: deques_have_64_places,
+    },
+    Sentence {
+        text: "no frame and empty deques, or one of depth 0, parent none",
+        holds: one_main_or_nothing,
+    },
+    Sentence {
+        text: "every other live frame has a live parent one shallower",
+        holds: others_have_a_live_parent,
+    },
+    Sentence {
+        text: "outstanding counts are right",
+        holds: outstanding_counts_are_right,
+    },
+    Sentence {
+        text: "a live frame is in one place, or suspended with a child",
+        holds: frames_are_queued_or_suspended,
+    },
+    Sentence {
+        text: "deques hold live frames only",
+        holds: deques_hold_live_frames,
+    },
+    Sentence {
+        text: "a worker that does not exist has an empty deque",
+        holds: absent_workers_are_empty,
+    },
+    Sentence {
+        text: "places past a deque's frames are zero",
+        holds: places_past_the_end_are_zero,
+    },
+    Sentence {
+        text: "each frame in a deque is a child of the one above",
+        holds: each_is_a_child_of_the_one_above,
+    },
+    Sentence {
+        text: "a frame that is not a top has only the child below",
+        holds: not_a_top_has_only_the_child_below,
+    },
+    Sentence {
+        text: "walking from each live frame gives a tree of the shape",
+        holds: walks_give_trees,
+    },
+    Sentence {
+        text: "nodes reached have right holders",
+        holds: holders_are_right,
+    },
+    Sentence {
+        text: "all other nodes are free and once on the free chain",
+        holds: other_nodes_are_free,
+    },
+    Sentence {
+        text: "free frame places are zero and once on their chain",
+        holds: free_places_are_chained,
+    },
+];
+
+/// The numbers of the sentences that are broken, as indexes of SENTENCES. Sound means none.
+pub fn broken(state: &[u32], pool: &[u32]) -> Vec<usize> {
+    let pair = Pair::new(state, pool);
+    (0..SENTENCES.len())
+        .filter(|&sentence| !(SENTENCES[sentence].holds)(&pair))
+        .collect()
+}
+
+struct Frame {
+    live: u32,
+    parent: u32,
+    depth: u32,
+    outstanding: u32,
+    suspended: u32,
+    root: u32,
+}
+
+struct Node {
+    holders: u32,
+    left: u32,
+    right: u32,
+    value: u32,
+}
+
+/// A state and a pool, read into records, and what walking from the live frames gives.
+struct Pair {
+    workers: u32,
+    splitters: u32,
+    recorded_nodes: u32,
+    first_free_node: u32,
+    first_free_place: u32,
+    /// Each deque's recorded length.
+    lengths: Vec<u32>,
+    /// Each deque's frames, from the top.
+    queued: Vec<Vec<u32>>,
+    /// Each deque's places past its frames.
+    past: Vec<Vec<u32>>,
+    frames: Vec<Frame>,
+    /// The lent pool's whole nodes.
+    nodes: Vec<Node>,
+    shaped: bool,
+    reached: HashSet<u32>,
+}
+
+impl Pair {
+    fn new(state: &[u32], pool: &[u32]) -> Pair {
+        let deques: Vec<&[u32]> = state[DEQUES_AT..FRAMES_AT].chunks(DEQUE_WORDS).collect();
+        let end = |deque: &&[u32]| (deque[0] as usize).min(FRAMES) + 1;
+        let mut pair = Pair {
+            workers: state[0],
+            splitters: state[1],
+            recorded_nodes: state[2],
+            first_free_node: state[3],
+            first_free_place: state[4],
+            lengths: deques.iter().map(|deque| deque[0]).collect(),
+            queued: deques.iter().map(|d| d[1..end(d)].to_vec()).collect(),
+            past: deques.iter().map(|d| d[end(d)..].to_vec()).collect(),
+            frames: read_frames(&state[FRAMES_AT..]),
+            nodes: read_nodes(pool),
+            shaped: true,
+            reached: HashSet::new(),
+        };
+        if pair.numbers_are_right() {
+            pair.walk_from_live_frames();
+        }
+        pair
+    }
+
+    /// Asked before the trees are: without right numbers no shape is known.
+    fn numbers_are_right(&self) -> bool {
+        n_is_1_to_256(self) && node_count_fits(self)
+    }
+
+    fn live_frames(&self) -> impl Iterator<Item = (u32, &Frame)> {
+        (0..).zip(&self.frames).filter(|(_, frame)| frame.live != 0)
+    }
+
+    fn is_live(&self, number: u32) -> bool {
+        self.frame(number).is_some_and(|frame| frame.live != 0)
+    }
+
+    fn frame(&self, number: u32) -> Option<&Frame> {
+        self.frames.get(number as usize)
+    }
+
+    fn children(&self, parent: u32) -> Vec<u32> {
+        self.live_frames()
+            .filter(|(_, frame)| frame.parent == parent)
+            .map(|(number, _)| number)
+            .collect()
+    }
+
+    /// A node among the recorded ones.
+    fn node(&self, number: u32) -> Option<&Node> {
+        (number < self.recorded_nodes).then(|| &self.nodes[number as usize])
+    }
+
+    fn walk_from_live_frames(&mut self) {
+        let mut reached = HashSet::new();
+        let mut shaped = true;
+        for (_, frame) in self.live_frames() {
+            shaped &= walk(self, frame.root, height(self.splitters), 0, &mut reached);
+        }
+        self.shaped = shaped;
+        self.reached = reached;
+    }
+}
+
+fn read_frames(words: &[u32]) -> Vec<Frame> {
+    let records = words.chunks_exact(FRAME_WORDS).take(FRAMES);
+    let read = |record: &[u32]| Frame {
+        live: record[0],
+        parent: record[1],
+        depth: record[2],
+        outstanding: record[3],
+        suspended: record[4],
+        root: record[5],
+    };
+    records.map(read).collect()
+}
+
+fn read_nodes(words: &[u32]) -> Vec<Node> {
+    let read = |node: &[u32]| Node {
+        holders: node[0],
+        left: node[1],
+        right: node[2],
+        value: node[3],
+    };
+    words.chunks_exact(4).map(read).collect()
+}
+
+/// "H is the least number with 2^H at least n."
+fn height(n: u32) -> u32 {
+    (0..).find(|&h| 1u64 << h >= u64::from(n)).unwrap_or(0)
+}
+
+/// "Level l has n / 2^l nodes, rounded up."
+fn width(n: u32, level: u32) -> u32 {
+    (n + (1 << level) - 1) >> level
+}
+
+/// "T(n) is the sum over levels."
+fn tree_nodes(n: u32) -> u32 {
+    (0..=height(n)).map(|level| width(n, level)).sum()
+}
+
+/// Walks to every position of the tree that is under this one; whether the shape is right. A position is a level and a group, and its
+/// left and right positions are the groups 2g and 2g + 1 one level below, where these exist.
+fn walk(pair: &Pair, number: u32, level: u32, group: u32, reached: &mut HashSet<u32>) -> bool {
+    let Some(node) = pair.node(number) else {
+        return false;
+    };
+    reached.insert(number);
+    if level == 0 {
+        return node.left == NONE && node.right == NONE;
+    }
+    let left = walk(pair, node.left, level - 1, 2 * group, reached);
+    let right = if 2 * group + 1 < width(pair.splitters, level - 1) {
+        walk(pair, node.right, level - 1, 2 * group + 1, reached)
+    } else {
+        node.right == NONE
+    };
+    node.value == 0 && left && right
+}
+
+/// "Workers are 1 to 8"
+fn workers_are_1_to_8(pair: &Pair) -> bool {
+    1 <= pair.workers && pair.workers <= 8
+}
+
+/// "n is 1 to 256."
+fn n_is_1_to_256(pair: &Pair) -> bool {
+    1 <= pair.splitters && pair.splitters <= 256
+}
+
+/// "The recorded node count is T(n) to 16,384 and at most what the lent pool holds." Nothing is asked if n has no tree.
+fn node_count_fits(pair: &Pair) -> bool {
+    let least = if n_is_1_to_256(pair) {
+        tree_nodes(pair.splitters)
+    } else {
+        0
+    };
+    least <= pair.recorded_nodes
+        && pair.recorded_nodes <= 16_384
+        && pair.recorded_nodes as usize <= pair.nodes.len()
+}
+
+/// "live and suspended are 0 or 1, and another word there is unsound" (document 02, R-1)
+fn flags_are_0_or_1(pair: &Pair) -> bool {
+    pair.frames
+        .iter()
+        .all(|frame| frame.live <= 1 && frame.suspended <= 1)
+}
+
+/// "for each of 8 workers its deque length and 64 places for its frames" (document 02, R-1)
+fn deques_have_64_places(pair: &Pair) -> bool {
+    pair.lengths.iter().all(|&length| length <= 64)
+}
+
+/// "Either no frame lives and all deques are empty, or just one live frame has depth 0, with parent none."
+fn one_main_or_nothing(pair: &Pair) -> bool {
+    if pair.live_frames().count() == 0 {
+        return pair.lengths.iter().all(|&length| length == 0);
+    }
+    let mains: Vec<&Frame> = pair
+        .live_frames()
+        .map(|(_, frame)| frame)
+        .filter(|frame| frame.depth == 0)
+        .collect();
+    mains.len() == 1 && mains[0].parent == NONE
+}
+
+/// "Every other live frame has a live parent one shallower."
+fn others_have_a_live_parent(pair: &Pair) -> bool {
+    pair.live_frames()
+        .filter(|(_, frame)| frame.depth != 0)
+        .all(|(_, frame)| {
+            pair.is_live(frame.parent)
+                && pair
+                    .frame(frame.parent)
+                    .is_some_and(|parent| parent.depth == frame.depth - 1)
+        })
+}
+
+/// "Outstanding counts are right." The count is the number of the frame's live children.
+fn outstanding_counts_are_right(pair: &Pair) -> bool {
+    pair.live_frames()
+        .all(|(number, frame)| frame.outstanding as usize == pair.children(number).len())
+}
+
+/// "Each live frame is either in just one place of one deque and not suspended, or in none and suspended with a live child."
+fn frames_are_queued_or_suspended(pair: &Pair) -> bool {
+    pair.live_frames().all(|(number, frame)| {
+        let places = pair
+            .queued
+            .iter()
+            .flatten()
+            .filter(|&&queued| queued == number)
+            .count();
+        let suspended = frame.suspended != 0;
+        (places == 1 && !suspended)
+            || (places == 0 && suspended && !pair.children(number).is_empty())
+    })
+}
+
+/// "Deques hold live frames only"
+fn deques_hold_live_frames(pair: &Pair) -> bool {
+    pair.queued
+        .iter()
+        .flatten()
+        .all(|&queued| pair.is_live(queued))
+}
+
+/// "a worker that does not exist has an empty one"
+fn absent_workers_are_empty(pair: &Pair) -> bool {
+    (0..)
+        .zip(&pair.lengths)
+        .all(|(worker, &length)| worker < pair.workers || length == 0)
+}
+
+/// "deque places past a deque's frames are zero."
+fn places_past_the_end_are_zero(pair: &Pair) -> bool {
+    pair.past.iter().flatten().all(|&place| place == 0)
+}
+
+/// "Each frame in a deque is a child of the one above it."
+fn each_is_a_child_of_the_one_above(pair: &Pair) -> bool {
+    pair.queued.iter().all(|deque| {
+        deque.windows(2).all(|two| {
+            let (above, below) = (two[0], two[1]);
+            pair.frame(below).is_some_and(|frame| frame.parent == above)
+        })
+    })
+}
+
+/// "A frame that is not a top has only the child below it, if any."
+fn not_a_top_has_only_the_child_below(pair: &Pair) -> bool {
+    pair.queued.iter().all(|deque| {
+        (1..deque.len()).all(|place| {
+            let below = deque.get(place + 1);
+            pair.children(deque[place])
+                .iter()
+                .all(|child| Some(child) == below)
+        })
+    })
+}
+
+/// "Walking from each live frame gives a tree of the shape above, in which a node may stand in several places"
+fn walks_give_trees(pair: &Pair) -> bool {
+    !pair.numbers_are_right() || pair.shaped
+}
+
+/// "nodes reached have right holders": holders counts links from nodes in use and from live frames.
+fn holders_are_right(pair: &Pair) -> bool {
+    if !pair.numbers_are_right() {
+        return true;
+    }
+    let mut links: HashMap<u32, u32> = HashMap::new();
+    for (_, frame) in pair.live_frames() {
+        *links.entry(frame.root).or_default() += 1;
+    }
+    for &number in &pair.reached {
+        if let Some(node) = pair.node(number) {
+            *links.entry(node.left).or_default() += 1;
+            *links.entry(node.right).or_default() += 1;
+        }
+    }
+    pair.reached.iter().all(|number| {
+        pair.node(*number)
+            .is_some_and(|node| links.get(number) == Some(&node.holders))
+    })
+}
+
+/// "all others are free and lie once on the free chain." A free node holds 0, the next free node or none, 0, 0.
+fn other_nodes_are_free(pair: &Pair) -> bool {
+    if !pair.numbers_are_right() {
+        return true;
+    }
+    let others: HashSet<u32> = (0..pair.recorded_nodes)
+        .filter(|number| !pair.reached.contains(number))
+        .collect();
+    let is_free = |node: &Node| node.holders == 0 && node.right == 0 && node.value == 0;
+    let all_free = others
+        .iter()
+        .all(|&number| pair.node(number).is_some_and(is_free));
+    let next = |number| pair.node(number).map(|node| node.left);
+    all_free && chained_once(pair.first_free_node, next) == Some(others)
+}
+
+/// "Free frame places lie once on theirs, all but the link to the next being zero."
+fn free_places_are_chained(pair: &Pair) -> bool {
+    let free: HashSet<u32> = (0..).take(FRAMES).filter(|&p| !pair.is_live(p)).collect();
+    let is_zero = |frame: &Frame| {
+        frame.depth == 0 && frame.outstanding == 0 && frame.suspended == 0 && frame.root == 0
+    };
+    let all_zero = free
+        .iter()
+        .all(|&place| pair.frame(place).is_some_and(is_zero));
+    let next = |place| pair.frame(place).map(|frame| frame.parent);
+    all_zero && chained_once(pair.first_free_place, next) == Some(free)
+}
+
+/// What lies on a chain, if it ends with none and nothing lies on it twice.
+fn chained_once(first: u32, next: impl Fn(u32) -> Option<u32>) -> Option<HashSet<u32>> {
+    let mut met = HashSet::new();
+    let mut link = first;
+    while link != NONE {
+        let following = next(link)?;
+        if !met.insert(link) {
+            return None;
+        }
+        link = following;
+    }
+    Some(met)
+}

@@ -1,0 +1,63 @@
+//! A comparison under way: makes each call on both sides and stops at the first difference.
+
+use crate::call::{Call, Entry, Outcome};
+use crate::plain::RECORD_BYTES;
+use crate::record::Recorder;
+use crate::tally::Tally;
+
+/// Why a comparison stopped.
+pub type Failure = String;
+
+pub struct Session {
+    /// Guard words on each side of a lent slice.
+    pub guard: usize,
+    pub recorder: Option<Recorder>,
+    pub tally: Tally,
+    pub calls: u64,
+    pub records: u64,
+}
+
+impl Session {
+    pub fn new(guard: usize, recorder: Option<Recorder>) -> Session {
+        Session {
+            guard,
+            recorder,
+            tally: Tally::default(),
+            calls: 0,
+            records: 0,
+        }
+    }
+
+    /// The call through the library and through plain.rs: what both leave, or how they differ.
+    pub fn both(&mut self, call: &Call) -> Result<Outcome, Failure> {
+        let plain = call.by_plain();
+        let library = call
+            .by_library(self.guard)
+            .ok_or_else(|| format!("{call}: a word outside a slice has changed"))?;
+        if let Some(difference) = library.difference(&plain) {
+            return Err(format!("{call}: {difference}"));
+        }
+        if let Some(recorder) = &mut self.recorder {
+            recorder
+                .write(call, &plain)
+                .map_err(|error| error.to_string())?;
+        }
+        self.count(call, &plain);
+        Ok(plain)
+    }
+
+    fn count(&mut self, call: &Call, after: &Outcome) {
+        self.calls += 1;
+        self.tally.count(after.result);
+        if let Entry::Tape { bytes, .. } = &call.entry {
+            if after.result[0] == 0 {
+                let records = bytes.len() / RECORD_BYTES;
+                self.records += records as u64;
+                let (answers, _) = after.answers.as_chunks::<2>();
+                for &answer in &answers[..records] {
+                    self.tally.count(answer);
+                }
+            }
+        }
+    }
+}

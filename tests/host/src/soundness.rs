@@ -1,0 +1,208 @@
+//! Corrupted states: the sentences, plain.rs and the library must agree on each, and go on alike from the sound ones.
+
+use crate::call::{Call, Entry, Outcome};
+use crate::corrupt::{self, Expected, Pair, KINDS};
+use crate::plain::{self, Refusal, State, SPAWN, STATE_WORDS};
+use crate::random::Random;
+use crate::sentences::{self, SENTENCES};
+use crate::session::{Failure, Session};
+use crate::steps::{self, Driver};
+
+/// Pairs made from one base: as many as are judged under one seed.
+pub const PER_SEED: usize = 40;
+
+/// Pairs of one kind of change, by how they were judged. The last are those whose recorded nodes are more than any work slice has.
+#[derive(Clone, Copy, Default)]
+pub struct Judged {
+    pub sound: u64,
+    pub unsound: u64,
+    pub short_work: u64,
+}
+
+pub struct Counts {
+    pub kinds: [Judged; KINDS.len()],
+    /// How often each sentence was the only one broken.
+    pub alone: [u64; SENTENCES.len()],
+    /// How often each state word was the one changed.
+    pub turns: [u64; STATE_WORDS],
+}
+
+impl Default for Counts {
+    fn default() -> Counts {
+        Counts {
+            kinds: [Judged::default(); KINDS.len()],
+            alone: [0; SENTENCES.len()],
+            turns: [0; STATE_WORDS],
+        }
+    }
+}
+
+/// Up to PER_SEED corrupted pairs from one base.
+pub fn group(
+    seed: u64,
+    pairs: usize,
+    session: &mut Session,
+    counts: &mut Counts,
+) -> Result<(), Failure> {
+    let random = Random::new(!seed);
+    let base = base(&random);
+    let mut judged = 0;
+    while judged < pairs.min(PER_SEED) {
+        let mut pair = base.clone();
+        pair.turn = (seed as usize % STATE_WORDS * PER_SEED + judged) % STATE_WORDS;
+        while random.one_in(2) {
+            corrupt::keep_sound(&mut pair, &random);
+        }
+        let kind = corrupt::choose(&random);
+        if (KINDS[kind].change)(&mut pair, &random).is_some() {
+            counts.turns[pair.turn] += u64::from(kind == 0);
+            judge(&pair, kind, &random, session, counts)
+                .map_err(|failure| format!("{}, {failure}", KINDS[kind].name))?;
+            judged += 1;
+        }
+    }
+    Ok(())
+}
+
+/// A sound pair, as a run of plain.rs leaves it.
+fn base(random: &Random) -> Pair {
+    let splitters = match random.below(120) {
+        0 => random.pick(&[100, 255, 256]),
+        1..12 => 1 + random.below(40),
+        _ => 1 + random.below(9),
+    };
+    let tree = plain::tree_nodes(splitters as u32);
+    let nodes = tree + random.word_below(5 * tree);
+    let workers = 1 + random.word_below(8);
+    let mut pool = vec![0; 4 * nodes as usize];
+    let (mut state, _) = plain::start(workers, &random.words(splitters), &mut pool);
+    let mut free_nodes = nodes - tree;
+    let mut driver = Driver::new(200, 100);
+    let mut take = |state: &mut State, step| {
+        let record = steps::record(step);
+        free_nodes = plain::run_tape(state, free_nodes, &mut pool, &record, &mut [0; 2]);
+    };
+    for _ in 0..random.below(150) {
+        let step = driver.next(&state, random);
+        take(&mut state, step);
+    }
+    match random.below(24) {
+        0 | 1 => (0..64).for_each(|_| {
+            let step = steps::homeward(&state);
+            take(&mut state, step);
+        }),
+        2 => (0..64).for_each(|_| take(&mut state, [SPAWN, 0, 0, 0])),
+        _ => {}
+    }
+    Pair {
+        state,
+        pool,
+        turn: 0,
+    }
+}
+
+fn judge(
+    pair: &Pair,
+    kind: usize,
+    random: &Random,
+    session: &mut Session,
+    counts: &mut Counts,
+) -> Result<(), Failure> {
+    let call = asking(pair, random);
+    let after = session.both(&call)?;
+    expect_unchanged(&call, &after)?;
+    let counted = &mut counts.kinds[kind];
+    if pair.state.nodes as usize > call.work.len() {
+        counted.short_work += 1;
+        return expect(
+            after.result[0] == Refusal::ShortWork as u32,
+            "not refused 5",
+        );
+    }
+    let broken = sentences::broken(&call.state, &call.pool);
+    if let [alone] = broken[..] {
+        counts.alone[alone] += 1;
+    }
+    match broken.first() {
+        None => counted.sound += 1,
+        Some(_) => counted.unsound += 1,
+    }
+    expect_agreement(&broken, KINDS[kind].expected, after.result[0])?;
+    if broken.is_empty() {
+        go_on(call, pair, random, session)?;
+    }
+    Ok(())
+}
+
+/// An empty tape asks for nothing but the check.
+fn asking(pair: &Pair, random: &Random) -> Call {
+    let mut state = plain::to_words(&pair.state).to_vec();
+    let more = random.below(3);
+    state.extend(random.words(more));
+    let held = pair.pool.len() / 4;
+    let recorded = pair.state.nodes as usize;
+    let work = if recorded > 20_000 {
+        held
+    } else {
+        recorded.max(held)
+    };
+    let (work, answers) = (work + random.below(4), random.below(3));
+    Call {
+        state,
+        pool: pair.pool.clone(),
+        work: random.words(work),
+        entry: Entry::Tape {
+            bytes: Vec::new(),
+            answers: random.words(answers),
+        },
+    }
+}
+
+fn expect(right: bool, otherwise: &str) -> Result<(), Failure> {
+    right.then_some(()).ok_or_else(|| otherwise.to_string())
+}
+
+/// Only the work slice has changed, as document 01 says: "its first words, one per recorded node, are zero and the others are unchanged".
+fn expect_unchanged(call: &Call, after: &Outcome) -> Result<(), Failure> {
+    expect(after.state == call.state, "the state has changed")?;
+    expect(after.pool == call.pool, "the pool has changed")?;
+    expect(after.answers == call.answers(), "the answers have changed")?;
+    let mut work = call.work.clone();
+    if let Some(first) = work.get_mut(..call.state[2] as usize) {
+        first.fill(0);
+    }
+    expect(after.work == work, "the work slice is not as it should be")
+}
+
+fn expect_agreement(broken: &[usize], expected: Expected, result: u32) -> Result<(), Failure> {
+    let sound = broken.is_empty();
+    let by_change = match expected {
+        Expected::Sound => sound,
+        Expected::Unsound => !sound,
+        Expected::Either => true,
+    };
+    let sentence = broken.first().map_or("sound".to_string(), |&first| {
+        format!("not: {}", SENTENCES[first].text)
+    });
+    expect(
+        by_change,
+        &format!("not judged as the change was meant ({sentence})"),
+    )?;
+    let right = if sound { 0 } else { Refusal::Unsound as u32 };
+    expect(
+        result == right,
+        &format!("refused {result} instead of {right} ({sentence})"),
+    )
+}
+
+/// One likely step from a sound pair; what it leaves must be sound.
+fn go_on(call: Call, pair: &Pair, random: &Random, session: &mut Session) -> Result<(), Failure> {
+    let kind = SPAWN + random.word_below(6);
+    let step = Call {
+        entry: Entry::Step(steps::plausible(&pair.state, kind, random)),
+        ..call
+    };
+    let after = session.both(&step)?;
+    let broken = sentences::broken(&after.state, &after.pool);
+    expect(broken.is_empty(), "a step left an unsound state")
+}

@@ -1,0 +1,267 @@
+//! Document 01's example and edges through plain.rs and the library, and the sentences on states corrupted by hand.
+
+use crate::call::{Call, Entry, Outcome};
+use crate::plain::{self, NONE, READ, RETURN, SPAWN, STEAL, SYNC, WRITE};
+use crate::sentences::{self, SENTENCES};
+use crate::steps;
+
+/// A start and one tape, by both, with the same outcome: the tape's call and what it left.
+fn run(workers: u32, values: &[u32], nodes: usize, entries: &[[u32; 4]]) -> (Call, Outcome) {
+    let start = Call {
+        state: vec![7; plain::STATE_WORDS],
+        pool: vec![7; 4 * nodes],
+        work: Vec::new(),
+        entry: Entry::Start {
+            workers,
+            values: values.to_vec(),
+        },
+    };
+    let begun = both(&start);
+    if begun.result[0] != 0 {
+        return (start, begun);
+    }
+    let tape = Call {
+        state: begun.state,
+        pool: begun.pool,
+        work: vec![7; nodes + 1],
+        entry: Entry::Tape {
+            bytes: entries.iter().copied().flat_map(steps::record).collect(),
+            answers: vec![7; 2 * entries.len() + 1],
+        },
+    };
+    let ended = both(&tape);
+    (tape, ended)
+}
+
+fn both(call: &Call) -> Outcome {
+    let outcome = call.by_plain();
+    assert!(call.by_library(3).as_ref() == Some(&outcome));
+    outcome
+}
+
+/// The tape's answers, in pairs.
+fn answers(workers: u32, values: &[u32], nodes: usize, entries: &[[u32; 4]]) -> Vec<[u32; 2]> {
+    let (_, after) = run(workers, values, nodes, entries);
+    assert_eq!(after.result, [0, 0]);
+    after.answers.as_chunks().0.to_vec()
+}
+
+fn start_refusal(workers: u32, splitters: usize, nodes: usize) -> u32 {
+    let (_, after) = run(workers, &vec![0; splitters], nodes, &[]);
+    assert!(after.result[0] == 0 || after.state.iter().all(|&word| word == 0));
+    after.result[0]
+}
+
+const FIVE: [u32; 5] = [10, 20, 30, 40, 50];
+
+#[test]
+fn the_example() {
+    let entries = [
+        [SPAWN, 0, 0, 0],
+        [STEAL, 1, 0, 0],
+        [WRITE, 1, 4, 99],
+        [READ, 0, 4, 0],
+        [SYNC, 1, 0, 0],
+        [READ, 1, 4, 0],
+        [RETURN, 0, 0, 0],
+        [READ, 0, 4, 0],
+        [RETURN, 0, 0, 0],
+    ];
+    let expected = [
+        [101, 1],
+        [103, 0],
+        [106, 5],
+        [105, 50],
+        [104, 1],
+        [10, 0],
+        [102, 2],
+        [105, 99],
+        [102, 3],
+    ];
+    assert_eq!(answers(2, &FIVE, 20, &entries), expected);
+}
+
+#[test]
+fn small_pools() {
+    let write = [[WRITE, 0, 0, 1]];
+    assert_eq!(answers(1, &[5], 1, &write), [[16, 0]]);
+    assert_eq!(answers(1, &[5], 2, &write), [[106, 1]]);
+    assert_eq!(start_refusal(1, 5, 10), 3);
+    assert_eq!(answers(1, &FIVE, 14, &write), [[16, 0]]);
+    assert_eq!(answers(1, &FIVE, 15, &write), [[106, 4]]);
+}
+
+#[test]
+fn refused_starts() {
+    assert_eq!(start_refusal(1, 0, 20), 1);
+    assert_eq!(start_refusal(1, 257, 1_000), 1);
+    assert_eq!(start_refusal(0, 5, 20), 2);
+    assert_eq!(start_refusal(9, 5, 20), 2);
+    assert_eq!(start_refusal(8, 256, 16_384), 0);
+    assert_eq!(start_refusal(8, 256, 16_385), 3);
+}
+
+#[test]
+fn empty_tape() {
+    let (call, after) = run(2, &FIVE, 20, &[]);
+    assert_eq!(after.result, [0, 0]);
+    assert!(after.state == call.state && after.pool == call.pool);
+    assert_eq!(after.answers, [7]);
+    assert!(after.work[..20].iter().all(|&word| word == 0));
+    assert_eq!(after.work[20], 7);
+}
+
+#[test]
+fn steal_from_a_deque_of_one() {
+    assert_eq!(answers(2, &FIVE, 20, &[[STEAL, 1, 0, 0]]), [[12, 0]]);
+}
+
+#[test]
+fn return_by_main_while_its_child_runs_elsewhere() {
+    let entries = [[SPAWN, 0, 0, 0], [STEAL, 1, 0, 0], [RETURN, 1, 0, 0]];
+    assert_eq!(answers(2, &FIVE, 20, &entries)[2], [14, 0]);
+}
+
+#[test]
+fn nested_spawns() {
+    let mut entries = vec![[SPAWN, 0, 0, 0]; 64];
+    entries.extend([[RETURN, 0, 0, 0], [SPAWN, 0, 0, 0]]);
+    let answers = answers(1, &FIVE, 20, &entries);
+    assert_eq!(answers[62..], [[101, 63], [13, 0], [102, 0], [101, 63]]);
+}
+
+/// An equal value still takes a new path, and the old one is freed.
+#[test]
+fn equal_value() {
+    let (call, after) = run(1, &FIVE, 15, &[[WRITE, 0, 0, 10]]);
+    assert_eq!(after.answers[..2], [106, 4]);
+    assert!(after.pool != call.pool);
+    assert!(sentences::broken(&after.state, &after.pool).is_empty());
+}
+
+#[test]
+fn tree_sizes() {
+    let sizes = [1, 2, 3, 5, 8, 255, 256].map(plain::tree_nodes);
+    assert_eq!(sizes, [1, 3, 6, 11, 15, 510, 511]);
+    let heights = [1, 2, 3, 5, 8, 255, 256].map(plain::height);
+    assert_eq!(heights, [0, 1, 2, 3, 3, 8, 8]);
+}
+
+#[test]
+fn words_and_records() {
+    let (call, _) = run(2, &FIVE, 20, &[]);
+    let words = call.state.first_chunk().expect("a whole state");
+    assert_eq!(plain::to_words(&plain::from_words(words)), *words);
+}
+
+/// The sentences broken after a change of a fresh start: 2 workers, 5 splitters, 20 nodes. Level by level its tree is 0; 1, 2; 3, 4, 5;
+/// 6 to 10, and 11 to 19 are free. plain.rs must agree.
+fn broken(change: fn(&mut [u32], &mut [u32])) -> Vec<&'static str> {
+    let (mut call, _) = run(2, &FIVE, 20, &[]);
+    change(&mut call.state, &mut call.pool);
+    let broken = sentences::broken(&call.state, &call.pool);
+    let words = call.state.first_chunk().expect("a whole state");
+    let sound = plain::sound(&plain::from_words(words), &call.pool, &mut [7; 40]).is_some();
+    assert_eq!(sound, broken.is_empty());
+    let text = |&sentence: &usize| SENTENCES[sentence].text;
+    broken.iter().map(text).collect()
+}
+
+/// Word 0 of a worker's deque, of a frame record, of a node.
+const DEQUE_1: usize = 5 + 65;
+const FRAME_0: usize = 525;
+const FRAME_1: usize = 531;
+const NODE_3: usize = 12;
+const NODE_7: usize = 28;
+
+#[test]
+fn corrupted_numbers() {
+    assert!(broken(|_, _| {}).is_empty());
+    assert_eq!(broken(|state, _| state[0] = 9), ["workers are 1 to 8"]);
+    assert_eq!(broken(|state, _| state[1] = 257), ["n is 1 to 256"]);
+    let nodes = "node count is T(n) to 16,384 and at most what the pool holds";
+    assert_eq!(broken(|state, _| state[2] = 21), [nodes]);
+    assert_eq!(broken(|state, _| state[2] = 10), [nodes]);
+}
+
+#[test]
+fn corrupted_frames() {
+    let alone = |text, change| assert_eq!(broken(change), [text]);
+    alone("live and suspended are 0 or 1", |state, _| {
+        state[FRAME_0] = 2
+    });
+    alone("outstanding counts are right", |state, _| {
+        state[FRAME_0 + 3] = 1
+    });
+    let placed = "a live frame is in one place, or suspended with a child";
+    alone(placed, |state, _| state[FRAME_0 + 4] = 1);
+    alone("deques hold live frames only", |state, _| {
+        state[DEQUE_1..DEQUE_1 + 2].copy_from_slice(&[1, 5]);
+    });
+    alone("places past a deque's frames are zero", |state, _| {
+        state[DEQUE_1 + 64] = 1;
+    });
+    let places = "free frame places are zero and once on their chain";
+    alone(places, |state, _| state[FRAME_1 + 2] = 1);
+    alone(places, |state, _| state[FRAME_1 + 1] = 1);
+    let main = "no frame and empty deques, or one of depth 0, parent none";
+    alone(main, |state, _| state[FRAME_0 + 1] = 5);
+}
+
+#[test]
+fn corrupted_trees() {
+    let alone = |text, change| assert_eq!(broken(change), [text]);
+    let shape = "walking from each live frame gives a tree of the shape";
+    alone(shape, |_, pool| pool[3] = 1);
+    alone("nodes reached have right holders", |_, pool| pool[0] = 2);
+    let free = "all other nodes are free and once on the free chain";
+    alone(free, |_, pool| pool[4 * 19 + 3] = 1);
+    alone(free, |_, pool| pool[4 * 19 + 1] = 11);
+    alone(free, |state, _| state[3] = 12);
+    assert!(broken(|_, pool| pool[NODE_3 + 2] = 0).contains(&shape));
+}
+
+/// Nodes 6 and 7 are the leaves under node 3. One of them may stand in both places, and the other is free then.
+#[test]
+fn leaf_in_two_places() {
+    let share = |state: &mut [u32], pool: &mut [u32]| {
+        pool[NODE_3 + 2] = 6;
+        pool[4 * 6] = 2;
+        pool[NODE_7..NODE_7 + 4].copy_from_slice(&[0, 11, 0, 0]);
+        state[3] = 7;
+    };
+    assert!(broken(share).is_empty());
+}
+
+/// Node 5 has one leaf, node 4 has two: it may not stand in the place of node 4, though both are of level 1.
+#[test]
+fn node_of_another_size() {
+    let share = |state: &mut [u32], pool: &mut [u32]| {
+        pool[4 + 2] = 5;
+        pool[4 * 5] = 2;
+        let freed = [(4, 8), (8, 9), (9, 11)];
+        for (node, next) in freed {
+            pool[4 * node..4 * node + 4].copy_from_slice(&[0, next, 0, 0]);
+        }
+        state[3] = 4;
+    };
+    let shape = "walking from each live frame gives a tree of the shape";
+    assert_eq!(broken(share), [shape]);
+}
+
+/// Links out of range and cycles end the check, and nothing panics.
+#[test]
+fn links_to_nowhere() {
+    assert!(!broken(|_, pool| pool[1] = 0).is_empty());
+    assert!(!broken(|_, pool| pool[1] = 20).is_empty());
+    assert!(!broken(|_, pool| pool[1] = NONE).is_empty());
+    assert!(!broken(|state, _| state[FRAME_0 + 5] = NONE).is_empty());
+    assert!(!broken(|state, _| state[6] = NONE).is_empty());
+    assert!(!broken(|state, _| state[5] = NONE).is_empty());
+    assert!(!broken(|state, pool| {
+        state.fill(NONE);
+        state[0..3].copy_from_slice(&[2, 5, 20]);
+        pool.fill(NONE);
+    })
+    .is_empty());
+}
