@@ -1,40 +1,18 @@
 -- The ways out of the exported functions, over plain variables.
-use mathlib.Core.Path.{_≡_, refl, sym, ap, _∙_}
-use mathlib.Core.Bool.{cond, true, false}
+use mathlib.Core.Path.{_≡_, ap, _∙_}
 use mathlib.Core.List.{List}
-use Prim.Native.Nat.{ℕ, _≤_, _<_}
-use lib.ListN.{length}
+use Prim.Native.Nat.{ℕ, _≤_, _<_, min}
+use lib.ListN.{length, getD}
 use borrow.Author.Tests.{lt-ltb, le-ltb}
-use Rattle.soundness.specs.declared.Checked.{Checked}
-use Rattle.soundness.specs.Soundness.{checked, cleared}
-use Rattle.model.specs.declared.Step.{Step}
-use Rattle.model.specs.declared.Decoded.{Decoded}
-use Rattle.model.specs.declared.Decoded.the-variants.{Valid, Invalid}
-use Rattle.model.specs.Record.{recordOf}
+use Rattle.model.specs.Record.{recordOf, decodeAt}
 use Rattle.semantics.specs.declared.State.{State}
-use Rattle.semantics.specs.declared.Refusal.{Refusal}
-use Rattle.semantics.specs.declared.Answer.{Answer}
-use Rattle.semantics.specs.declared.Answer.the-variants.{Refused}
 use Rattle.semantics.specs.declared.Call.{Call}
 use Rattle.semantics.specs.Answers.{answerWords}
-use Rattle.semantics.specs.Entries.{numbersOf, startOn, enter, play}
-use Rattle.engine.specs.Promises.{IsStart, IsStep, IsTape}
-use Rattle.splitter.specs.Interface.{stateIn, withState, callNumber, bothWords, recordRefusal, enterRecord, IsRecordStep, hostStart, hostStep, hostTape, IsHostStart, IsHostStep, IsHostTape}
-use Rattle.splitter.specs.Theory.RecordSteps.{valid-record, refusedWith, invalid-record}
-
--- ---- a step by the fields of a record
-
-module _ (s : State) (ws ks : List ℕ) (d : Decoded) where
-  pub record-taken : (st : Step) (s′ : State) (ws′ ks′ : List ℕ) (a : Answer) → d ≡ Valid st → IsStep s ws ks st s′ ws′ ks′ a → IsRecordStep s ws ks d s′ ws′ ks′ a
-  record-taken st s′ ws′ ks′ a e p =
-      let o : enter s ws ks st ≡ enterRecord s ws ks d = sym (valid-record s ws ks st) ∙ ap (λ q. enterRecord s ws ks q) (sym e) in
-      record { result = p .result ∙ ap (λ q. q .answer) o; state = p .state ∙ ap (λ q. q .state) o; pool = p .pool ∙ ap (λ q. q .pool) o; work = p .work ∙ ap (λ q. q .work) o }
-
-  pub record-refused : (ks′ : List ℕ) (k : Checked) (r : Refusal) → d ≡ Invalid
-      → (ks′ ≡ cleared (s .nodes) ks) × (k ≡ checked (numbersOf s) (s .deques) (s .frames) ws ks) → r ≡ recordRefusal k → IsRecordStep s ws ks d s ws ks′ (Refused r)
-  record-refused ks′ k r e ek er =
-      let o : refusedWith s ws ks ks′ (Refused r) ≡ enterRecord s ws ks d = rw (ek .0, er, ek .1, e) (invalid-record s ws ks) in
-      record { result = ap (λ q. q .answer) o; state = ap (λ q. q .state) o; pool = ap (λ q. q .pool) o; work = ap (λ q. q .work) o }
+use Rattle.semantics.specs.Entries.{play}
+use Rattle.engine.specs.Promises.{IsStart, IsTape}
+use Rattle.splitter.specs.Interface.{stateIn, withState, callNumber, bothWords, enterRecord, hostStart, hostStep, hostTape, IsHostStart, IsHostStep, IsHostTape}
+use Rattle.splitter.specs.Theory.OneRecord.{callWords, one-record}
+use Rattle.splitter.specs.Theory.Narrow.{same-cut}
 
 -- ---- the exported functions
 
@@ -60,17 +38,20 @@ module _ (image : List ℕ) where
         record { result = rw t (e ∙ ap callNumber (p .result)); state = rw t (stored ∙ ap (λ q. withState q image) (p .state)); pool = rw t (p .pool) }
 
     module _ (s : State) (loaded : s ≡ stateIn image) (ks ks′ : List ℕ) (r : ℕ) where
-      pub step-done : (kind worker field value : ℕ) (d : Decoded) (a : Answer) → d ≡ recordOf kind worker field value
-          → IsRecordStep s ws ks d s′ ws′ ks′ a → r ≡ bothWords (answerWords a) → IsHostStep image ws ks kind worker field value image′ ws′ ks′ r
+      pub step-done : (kind worker field value : ℕ) (bytes rs rs′ : List ℕ) (a : Call) → length bytes ≡ 8 → length rs ≡ 2
+          → decodeAt bytes 0 ≡ recordOf (min kind 255) (min worker 255) (min field 65535) value → IsTape s ws ks bytes rs s′ ws′ ks′ rs′ a
+          → r ≡ callWords a (getD rs′ 0 0) (getD rs′ 1 0) → IsHostStep image ws ks kind worker field value image′ ws′ ks′ r
       unfolding hostStep
-      step-done kind worker field value d a ed p e =
+      step-done kind worker field value bytes rs rs′ a long two ed p e =
           let t = le-ltb (length image) 909 room in
-          let o : enterRecord s ws ks d ≡ enterRecord (stateIn image) ws ks (recordOf kind worker field value) = rw (loaded, ed) in
+          let q = one-record s ws ks bytes rs long two in
+          let o : enterRecord s ws ks (decodeAt bytes 0) ≡ enterRecord (stateIn image) ws ks (recordOf kind worker field value) = rw (ed, loaded) (same-cut (stateIn image) ws ks kind worker field value) in
+          let w : callWords a (getD rs′ 0 0) (getD rs′ 1 0) ≡ callWords (play s ws ks bytes rs .call) (getD (play s ws ks bytes rs .answers) 0 0) (getD (play s ws ks bytes rs .answers) 1 0) = rw (p .result, p .answers) in
           record {
-            result = rw t (e ∙ ap (λ q. bothWords (answerWords q)) (p .result ∙ ap (λ q. q .answer) o));
-            state = rw t (stored ∙ ap (λ q. withState q image) (p .state ∙ ap (λ q. q .state) o));
-            pool = rw t (p .pool ∙ ap (λ q. q .pool) o);
-            work = rw t (p .work ∙ ap (λ q. q .work) o);
+            result = rw t (e ∙ w ∙ q .words ∙ ap (λ z. bothWords (answerWords (z .answer))) o);
+            state = rw t (stored ∙ ap (λ z. withState z image) (p .state ∙ q .state ∙ ap (λ z. z .state) o));
+            pool = rw t (p .pool ∙ q .pool ∙ ap (λ z. z .pool) o);
+            work = rw t (p .work ∙ q .work ∙ ap (λ z. z .work) o);
           }
 
       pub tape-done : (bytes rs rs′ : List ℕ) (a : Call) → IsTape s ws ks bytes rs s′ ws′ ks′ rs′ a → r ≡ callNumber a → IsHostTape image ws ks bytes rs image′ ws′ ks′ rs′ r

@@ -80,13 +80,6 @@ recordChecked (Sound k) s ws work d = entered (recordOn (coreOf s ws k) d) (clea
 unfoldable pub enterRecord : State → List ℕ → List ℕ → Decoded → Entered
 enterRecord s ws work d = recordChecked (checked (numbersOf s) (s .deques) (s .frames) ws work) s ws work d
 
--- what such a step leaves and answers
-pub record IsRecordStep (s : State) (ws ks : List ℕ) (d : Decoded) (s′ : State) (ws′ ks′ : List ℕ) (a : Answer) : Type 0 where
-  pub result : a ≡ enterRecord s ws ks d .answer
-  pub state : s′ ≡ enterRecord s ws ks d .state
-  pub pool : ws′ ≡ enterRecord s ws ks d .pool
-  pub work : ks′ ≡ enterRecord s ws ks d .work
-
 -- ---- what the exported functions leave in the lent slices, and return; a state slice that is too short is refused first, and
 -- nothing changes
 

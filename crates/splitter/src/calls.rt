@@ -1,25 +1,16 @@
 // The exported functions. A state slice that is too short is refused first, by a number of its own, and nothing changes.
 ghost use mathlib.Core.Path.{_≡_};
+ghost use Prim.Native.Nat.{_%_, _^_, min};
 ghost use Rattle.sizes.specs.Sizes.{treeNodes};
-ghost use Rattle.semantics.specs.Answers.{answerWords};
-ghost use Rattle.splitter.specs.Interface.{callNumber, bothWords, recordRefusal, IsRecordStep, IsHostStart, IsHostStep, IsHostTape};
+ghost use Rattle.model.specs.Record.{recordOf, decodeAt};
+ghost use Rattle.splitter.specs.Interface.{callNumber, IsHostStart, IsHostStep, IsHostTape};
+ghost use Rattle.splitter.specs.Theory.OneRecord.{bytesOf, callWords};
 use crate::image::load;
 use crate::image::store;
-use engine::Stepped;
-use engine::check_state;
-use engine::done_number;
-use engine::first_word;
 use engine::refusal_number;
 use engine::start;
-use engine::step;
 use engine::tape;
-use model::Decoded;
-use model::record::step_of;
-use semantics::Answer;
 use semantics::Call;
-use semantics::Refusal;
-use semantics::State;
-use soundness::Checked;
 
 // The words of a state slice.
 const STATE_WORDS: usize = 909;
@@ -37,20 +28,14 @@ fn call_number(call: Call) -> u32
     }
 }
 
-fn second_word(answer: Answer) -> u32
-    ensures { λ r. ⌜ r ≡ answerWords answer .1 ⌝ }
+// The number of the call's refusal, or both answer words, the first in the low half.
+fn both_words(call: Call, first: u32, second: u32) -> u64
+    ensures { λ r. ⌜ r ≡ callWords call first second ⌝ }
 {
-    let Answer::Accepted(done) = answer else {
-        return 0;
-    };
-    done_number(done)
-}
-
-// Both answer words, the first in the low half.
-fn both_words(answer: Answer) -> u64
-    ensures { λ r. ⌜ r ≡ bothWords (answerWords answer) ⌝ }
-{
-    first_word(answer) as u64 + 4294967296 * (second_word(answer) as u64)
+    match call {
+        Call::Taken => first as u64 + 4294967296 * (second as u64),
+        Call::Denied(refusal) => refusal_number(refusal) as u64,
+    }
 }
 
 #[no_mangle]
@@ -72,29 +57,46 @@ pub extern "C" fn splitter_start(
     call_number(call)
 }
 
-// Refusal 5, 6 or, of a sound state, 7.
-fn refuse_record(checked: Checked) -> Refusal
-    ensures { λ r. ⌜ r ≡ recordRefusal checked ⌝ }
+// The lesser of the two.
+fn least(a: u32, b: u32) -> u32
+    ensures { λ r. ⌜ r ≡ min a b ⌝ }
 {
-    match checked {
-        Checked::NoRoom => Refusal::Work,
-        Checked::Unsound => Refusal::Unsound,
-        Checked::Sound(_) => Refusal::Record,
-    }
+    if a < b { a } else { b }
 }
 
-// A record's step, after the check; what is no step is refused.
-fn enter(state: State, pool: &mut [u32], work: &mut [u32], decoded: Decoded) -> Stepped
-    ensures { λ r. ⌜ IsRecordStep state (now (pool .entry)) (now (work .entry)) decoded (r .state) (now (pool .exit)) (now (work .exit)) (r .answer) ⌝ }
+// The low 8 bits.
+fn low_byte(x: u32) -> u8
+    ensures { λ r. ⌜ r ≡ x % 2 ^ 8 ⌝ }
 {
-    let Decoded::Valid(valid) = decoded else {
-        let checked = check_state(state, pool, work);
-        return Stepped {
-            state,
-            answer: Answer::Refused(refuse_record(checked)),
-        };
-    };
-    step(state, pool, work, valid)
+    (x & 255) as u8
+}
+
+// The bytes of a record, the lowest first.
+fn bytes_of(kind: u32, worker: u32, field: u32, value: u32) -> [u8; 8]
+    ensures { λ r. ⌜ r ≡ bytesOf kind worker field value ⌝ }
+{
+    [
+        low_byte(kind),
+        low_byte(worker),
+        low_byte(field),
+        low_byte(field >> 8),
+        low_byte(value),
+        low_byte(value >> 8),
+        low_byte(value >> 16),
+        low_byte(value >> 24),
+    ]
+}
+
+// A record for these numbers. One that its field cannot hold becomes the field's largest: it is refused alike.
+fn record_of(kind: u32, worker: u32, field: u32, value: u32) -> [u8; 8]
+    ensures { λ r. ⌜ decodeAt r 0 ≡ recordOf (min kind 255) (min worker 255) (min field 65535) value ⌝ }
+{
+    bytes_of(
+        least(kind, 255),
+        least(worker, 255),
+        least(field, 65535),
+        value,
+    )
 }
 
 #[no_mangle]
@@ -113,11 +115,13 @@ pub extern "C" fn splitter_step(
     if state.len() < STATE_WORDS {
         return SHORT_STATE as u64;
     }
-    let stepped = enter(load(state), pool, work, step_of(kind, worker, field, value));
-    let next = stepped.state;
-    let answer = stepped.answer;
+    let bytes = record_of(kind, worker, field, value);
+    let mut answers = [0u32; 2];
+    let taped = tape(load(state), pool, work, &bytes, &mut answers);
+    let next = taped.state;
+    let call = taped.call;
     store(state, next);
-    both_words(answer)
+    both_words(call, answers[0], answers[1])
 }
 
 #[no_mangle]

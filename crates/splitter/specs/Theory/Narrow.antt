@@ -1,0 +1,161 @@
+-- The fields of a step, cut to what a record can hold: no answer changes. A kind above 6 is no kind, and in a sound state there are
+-- at most 8 workers and 256 splitters.
+use mathlib.Core.Path.{_≡_, refl, sym, ap, _∙_}
+use mathlib.Core.Logic.{inl, inr}
+use mathlib.Core.Bool.{Bool, true, false, not, _&&_}
+use mathlib.Core.List.{List, [], _∷_}
+use Prim.Native.Nat.{ℕ, _≤_, _<_, min}
+use native.Mathlib.Omega.{arith}
+use native.Mathlib.Decide.{decLt, ℕ-discrete}
+use lib.Dec.{eqb, ltb, leb}
+use lib.ListN.{length}
+use borrow.Author.Tests.{le-ltb, eq-eqb, ne-eqb}
+use Rattle.words.specs.Tests.{decided}
+use Rattle.soundness.specs.declared.Numbers.{Numbers}
+use Rattle.soundness.specs.declared.Checked.{Checked}
+use Rattle.soundness.specs.declared.Checked.the-variants.{NoRoom, Sound}
+use Rattle.soundness.specs.Soundness.{sound, checked, cleared}
+use Rattle.model.specs.declared.Step.{Step}
+use Rattle.model.specs.declared.Step.the-variants.{Spawn, Return, Steal, Sync, Read, Write}
+use Rattle.model.specs.declared.Decoded.{Decoded}
+use Rattle.model.specs.declared.Decoded.the-variants.{Valid, Invalid}
+use Rattle.model.specs.Steps.{firstTrue}
+use Rattle.model.specs.Record.{validIf, recordOf}
+use Rattle.semantics.specs.declared.State.{State}
+use Rattle.semantics.specs.declared.Refusal.the-variants.{NoWorker, MainReturned, ThiefBusy, NoVictim, NoSplitter}
+use Rattle.semantics.specs.Core.{Core, Did, noWorker, allIdle, idle, judged, actingTests, stepOn}
+use Rattle.semantics.specs.Entries.{numbersOf, coreOf, entered, recordOn}
+use Rattle.semantics.specs.Theory.Refusals.{refusedBy}
+use Rattle.semantics.specs.Theory.Sentences.{sound-facts}
+use Rattle.splitter.specs.Interface.{recordChecked, enterRecord}
+
+-- ---- numbers
+
+-- cut to m, a number is told from one below m as before
+told : (x m i : ℕ) → i < m → eqb (min x m) i ≡ eqb x i
+told x m i h = elim (ℕ-discrete x i) [
+  | yes e ↦ eq-eqb (min x m) i (omega arith) ∙ sym (eq-eqb x i e)
+  | no e ↦ ne-eqb (min x m) i (λ z. e (omega arith)) ∙ sym (ne-eqb x i e)
+]
+
+-- ---- the steps of a core
+
+abbrev workerOf : Step → ℕ
+workerOf (Spawn w) = w
+workerOf (Return w) = w
+workerOf (Steal w v) = w
+workerOf (Sync w) = w
+workerOf (Read w x) = w
+workerOf (Write w x v) = w
+
+-- the choices of recordOf
+abbrev kinds : ℕ → ℕ → ℕ → ℕ → List (Bool × Decoded)
+kinds kind w x v =
+    (eqb kind 1, validIf (eqb x 0 && eqb v 0) (Spawn w))
+    ∷ (eqb kind 2, validIf (eqb x 0 && eqb v 0) (Return w))
+    ∷ (eqb kind 3, validIf (eqb v 0) (Steal w x))
+    ∷ (eqb kind 4, validIf (eqb x 0 && eqb v 0) (Sync w))
+    ∷ (eqb kind 5, validIf (eqb v 0) (Read w x))
+    ∷ (eqb kind 6, Valid (Write w x v))
+    ∷ []
+
+module _ (c : Core) where
+  no-worker : (st : Step) → ltb (workerOf st) (c .head .workers) ≡ false → stepOn c st ≡ refusedBy c NoWorker
+  unfolding stepOn
+  no-worker (Spawn w) e = rw e
+  no-worker (Return w) e = rw e
+  no-worker (Steal w v) e = rw e
+  no-worker (Sync w) e = rw e
+  no-worker (Read w x) e = rw e
+  no-worker (Write w x v) e = rw e
+
+  no-victim : (w v : ℕ) → ltb v (c .head .workers) ≡ false
+      → stepOn c (Steal w v) ≡ judged ((noWorker c w, NoWorker) ∷ (allIdle c, MainReturned) ∷ (not (idle c w), ThiefBusy) ∷ []) c (refusedBy c NoVictim)
+  unfolding stepOn
+  no-victim w v e = rw e
+
+  no-read : (w x : ℕ) → ltb x (c .head .splitters) ≡ false → stepOn c (Read w x) ≡ judged (actingTests c w) c (refusedBy c NoSplitter)
+  unfolding stepOn
+  no-read w x e = rw e
+
+  no-write : (w x v : ℕ) → ltb x (c .head .splitters) ≡ false → stepOn c (Write w x v) ≡ judged (actingTests c w) c (refusedBy c NoSplitter)
+  unfolding stepOn
+  no-write w x v e = rw e
+
+  -- a number cut to m: past its bound n the step is refused, whatever the number
+  cut : (f : ℕ → Step) (d : Did) (x m n : ℕ) → n ≤ m → ((y : ℕ) → ltb y n ≡ false → stepOn c (f y) ≡ d) → stepOn c (f (min x m)) ≡ stepOn c (f x)
+  cut f d x m n few past = elim (decLt x n) [
+    | yes h ↦ ap (λ (y : ℕ). stepOn c (f y)) (omega arith)
+    | no h ↦ past (min x m) (le-ltb (min x m) n (omega arith)) ∙ sym (past x (le-ltb x n (omega arith)))
+  ]
+
+  -- ---- a record's step
+
+  -- in order, the tests are equal, and what the records do
+  data Alike : List (Bool × Decoded) → List (Bool × Decoded) → Type 0 where
+    end : Alike [] []
+    also : {t u : Bool × Decoded} {ts us : List (Bool × Decoded)} → t .0 ≡ u .0 → recordOn c (t .1) ≡ recordOn c (u .1) → Alike ts us → Alike (t ∷ ts) (u ∷ us)
+
+  firsts : {ts us : List (Bool × Decoded)} → Alike ts us → recordOn c (firstTrue Invalid ts) ≡ recordOn c (firstTrue Invalid us)
+  firsts end = refl
+  firsts (also {u = u} e d a) = elim (decided (u .0)) [ inl z ↦ rw (e ∙ z, z) d | inr z ↦ rw (e ∙ z, z) (firsts a) ]
+
+  valid-cut : (b b′ : Bool) (st st′ : Step) → b ≡ b′ → stepOn c st ≡ stepOn c st′ → recordOn c (validIf b st) ≡ recordOn c (validIf b′ st′)
+  valid-cut b b′ st st′ e h = elim (decided b′) [ inl z ↦ rw (e ∙ z, z) h | inr z ↦ rw (e ∙ z, z) ]
+
+  module _ (few-workers : c .head .workers ≤ 8) (few-splitters : c .head .splitters ≤ 256) (w x v : ℕ) where
+    worker-cut : (f : ℕ → Step) → ((y : ℕ) → ltb y (c .head .workers) ≡ false → stepOn c (f y) ≡ refusedBy c NoWorker) → stepOn c (f (min w 255)) ≡ stepOn c (f w)
+    worker-cut f past = cut f (refusedBy c NoWorker) w 255 (c .head .workers) (omega arith) past
+
+    steal-cut : stepOn c (Steal (min w 255) (min x 65535)) ≡ stepOn c (Steal w x)
+    steal-cut =
+        worker-cut (λ u. Steal u (min x 65535)) (λ y e. no-worker (Steal y (min x 65535)) e)
+        ∙ cut (λ u. Steal w u) _ x 65535 (c .head .workers) (omega arith) (no-victim w)
+
+    read-cut : stepOn c (Read (min w 255) (min x 65535)) ≡ stepOn c (Read w x)
+    read-cut =
+        worker-cut (λ u. Read u (min x 65535)) (λ y e. no-worker (Read y (min x 65535)) e)
+        ∙ cut (λ u. Read w u) _ x 65535 (c .head .splitters) (omega arith) (no-read w)
+
+    write-cut : stepOn c (Write (min w 255) (min x 65535) v) ≡ stepOn c (Write w x v)
+    write-cut =
+        worker-cut (λ u. Write u (min x 65535) v) (λ y e. no-worker (Write y (min x 65535) v) e)
+        ∙ cut (λ u. Write w u v) _ x 65535 (c .head .splitters) (omega arith) (λ y e. no-write w y v e)
+
+    record-cut : (kind : ℕ) → recordOn c (recordOf (min kind 255) (min w 255) (min x 65535) v) ≡ recordOn c (recordOf kind w x v)
+    unfolding recordOf
+    record-cut kind =
+        let zero-field : eqb (min x 65535) 0 && eqb v 0 ≡ eqb x 0 && eqb v 0 = ap (λ (b : Bool). b && eqb v 0) (told x 65535 0 (omega arith)) in
+        firsts {ts = kinds (min kind 255) (min w 255) (min x 65535) v} {us = kinds kind w x v}
+        (also (told kind 255 1 (omega arith)) (valid-cut _ _ _ _ zero-field (worker-cut (λ u. Spawn u) (λ y e. no-worker (Spawn y) e)))
+        (also (told kind 255 2 (omega arith)) (valid-cut _ _ _ _ zero-field (worker-cut (λ u. Return u) (λ y e. no-worker (Return y) e)))
+        (also (told kind 255 3 (omega arith)) (valid-cut (eqb v 0) _ _ _ refl steal-cut)
+        (also (told kind 255 4 (omega arith)) (valid-cut _ _ _ _ zero-field (worker-cut (λ u. Sync u) (λ y e. no-worker (Sync y) e)))
+        (also (told kind 255 5 (omega arith)) (valid-cut (eqb v 0) _ _ _ refl read-cut)
+        (also (told kind 255 6 (omega arith)) write-cut end))))))
+
+-- ---- a step by the fields of a record
+
+sound-told : (N : Numbers) (ds fs ws ks : List ℕ) (k : ℕ) → checked N ds fs ws ks ≡ Sound k → sound N ds fs ws ≡ true
+unfolding checked
+sound-told N ds fs ws ks k e = elim (decided (sound N ds fs ws)) [
+  | inl t ↦ t
+  | inr t ↦ elim (decided (leb (N .nodes) (length ks))) [
+    | inl r ↦ absurd (let z : _≡_ {A = ℕ} 0 1 = (let q : Checked.Unsound ≡ Sound k = rw (r, t) at e in cc) in omega arith)
+    | inr r ↦ absurd (let z : _≡_ {A = ℕ} 0 1 = (let q : NoRoom ≡ Sound k = rw r at e in cc) in omega arith)
+  ]
+]
+
+module _ (s : State) (ws ks : List ℕ) (kind w x v : ℕ) where
+  check-cut : (k : Checked) → checked (numbersOf s) (s .deques) (s .frames) ws ks ≡ k
+      → recordChecked k s ws ks (recordOf (min kind 255) (min w 255) (min x 65535) v) ≡ recordChecked k s ws ks (recordOf kind w x v)
+  check-cut NoRoom e = refl
+  check-cut Checked.Unsound e = refl
+  check-cut (Sound k) e =
+      let F = sound-facts (numbersOf s) (s .deques) (s .frames) ws (sound-told (numbersOf s) (s .deques) (s .frames) ws ks k e) .numbers in
+      ap (λ d. entered d (cleared (s .nodes) ks)) (record-cut (coreOf s ws k) (F .few-workers) (F .few-splitters) w x v kind)
+
+  -- the fields cut to 8, 8 and 16 bits
+  pub same-cut : enterRecord s ws ks (recordOf (min kind 255) (min w 255) (min x 65535) v) ≡ enterRecord s ws ks (recordOf kind w x v)
+  unfolding enterRecord
+  same-cut = check-cut (checked (numbersOf s) (s .deques) (s .frames) ws ks) refl

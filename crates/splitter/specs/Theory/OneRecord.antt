@@ -1,0 +1,83 @@
+-- A step as a tape of one record: the record's bytes, and what the tape leaves and answers.
+use mathlib.Core.Path.{_≡_, refl}
+use mathlib.Core.List.{List, [], _∷_}
+use Prim.Native.Nat.{ℕ, _+_, _*_, _/_, _%_, _^_, _<_, min}
+use native.Mathlib.Nat.{div-div-eq-div-mul}
+use native.Mathlib.Omega.{arith}
+use lib.ListN.{length, getD, set}
+use Rattle.soundness.specs.declared.Checked.{Checked}
+use Rattle.soundness.specs.declared.Checked.the-variants.{NoRoom, Sound}
+use Rattle.soundness.specs.Soundness.{checked}
+use Rattle.model.specs.Record.{little, recordOf, decodeAt}
+use Rattle.semantics.specs.declared.State.{State}
+use Rattle.semantics.specs.declared.Call.{Call}
+use Rattle.semantics.specs.declared.Call.the-variants.{Taken, Denied}
+use Rattle.semantics.specs.Answers.{refusalNumber, answerWords}
+use Rattle.semantics.specs.Entries.{Entered, Played, numbersOf, coreOf, recordOn, recordsFrom, recordsOf, runOn, tapeChecked, play}
+use Rattle.splitter.specs.Interface.{bothWords, recordChecked, enterRecord}
+
+-- ---- the bytes
+
+two-bytes : (x : ℕ) → x < 2 ^ 16 → little (x % 2 ^ 8 ∷ x / 2 ^ 8 % 2 ^ 8 ∷ []) ≡ x
+two-bytes x h = omega arith
+
+digits : (x y z u a b c d : ℕ) → x ≡ a + 256 * y → y ≡ b + 256 * z → z ≡ c + 256 * u → u ≡ d → little (a ∷ b ∷ c ∷ d ∷ []) ≡ x
+digits x y z u a b c d ex ey ez eu = omega arith
+
+four-bytes : (x : ℕ) → x < 2 ^ 32 → little (x % 2 ^ 8 ∷ x / 2 ^ 8 % 2 ^ 8 ∷ x / 2 ^ 16 % 2 ^ 8 ∷ x / 2 ^ 24 % 2 ^ 8 ∷ []) ≡ x
+four-bytes x h =
+    let a : x / 2 ^ 8 / 2 ^ 8 ≡ x / 2 ^ 16 = div-div-eq-div-mul x (2 ^ 8) (2 ^ 8) in
+    let b : x / 2 ^ 16 / 2 ^ 8 ≡ x / 2 ^ 24 = div-div-eq-div-mul x (2 ^ 16) (2 ^ 8) in
+    digits x (x / 2 ^ 8) (x / 2 ^ 16) (x / 2 ^ 24) _ _ _ _ (omega arith) (omega arith) (omega arith) (omega arith)
+
+same-fields : {k k′ w w′ f f′ v v′ : ℕ} → k ≡ k′ → w ≡ w′ → f ≡ f′ → v ≡ v′ → recordOf k w f v ≡ recordOf k′ w′ f′ v′
+same-fields ek ew ef ev = λ i. recordOf (ek i) (ew i) (ef i) (ev i)
+
+-- a record's bytes, the lowest first
+abbrev pub bytesOf : ℕ → ℕ → ℕ → ℕ → List ℕ
+bytesOf k w x v =
+    k % 2 ^ 8 ∷ w % 2 ^ 8 ∷ x % 2 ^ 8 ∷ x / 2 ^ 8 % 2 ^ 8 ∷ v % 2 ^ 8 ∷ v / 2 ^ 8 % 2 ^ 8 ∷ v / 2 ^ 16 % 2 ^ 8 ∷ v / 2 ^ 24 % 2 ^ 8 ∷ []
+
+bytes-decode : (k w x v : ℕ) → k < 2 ^ 8 → w < 2 ^ 8 → x < 2 ^ 16 → v < 2 ^ 32 → decodeAt (bytesOf k w x v) 0 ≡ recordOf k w x v
+unfolding decodeAt
+bytes-decode k w x v hk hw hx hv = same-fields (omega arith) (omega arith) (two-bytes x hx) (four-bytes v hv)
+
+pub record-made : (bytes : List ℕ) (kind w x v k′ w′ x′ : ℕ) → v < 2 ^ 32 → k′ ≡ min kind 255 → w′ ≡ min w 255 → x′ ≡ min x 65535
+    → bytes ≡ bytesOf k′ w′ x′ v → decodeAt bytes 0 ≡ recordOf (min kind 255) (min w 255) (min x 65535) v
+record-made bytes kind w x v k′ w′ x′ hv ek ew ex eb = rw (eb, ek, ew, ex) (bytes-decode (min kind 255) (min w 255) (min x 65535) v (omega arith) (omega arith) (omega arith) hv)
+
+-- ---- a tape of one record
+
+-- the number of the call's refusal, or both answer words
+abbrev pub callWords : Call → ℕ → ℕ → ℕ
+callWords Taken a b = bothWords (a, b)
+callWords (Denied r) a b = refusalNumber r
+
+-- a tape leaves and answers what a step does
+pub record Same (p : Played) (o : Entered) : Type 0 where
+  pub state : p .state ≡ o .state
+  pub pool : p .pool ≡ o .pool
+  pub work : p .work ≡ o .work
+  pub words : callWords (p .call) (getD (p .answers) 0 0) (getD (p .answers) 1 0) ≡ bothWords (answerWords (o .answer))
+
+put-two : (rs : List ℕ) → length rs ≡ 2 → (a b : ℕ) → bothWords (getD (set (set rs 0 a) 1 b) 0 0, getD (set (set rs 0 a) 1 b) 1 0) ≡ bothWords (a, b)
+put-two [] e a b = absurd (omega arith)
+put-two (x ∷ []) e a b = absurd (omega arith)
+put-two (x ∷ y ∷ l) e a b = refl
+
+module _ (s : State) (ws ks bytes rs : List ℕ) (long : length bytes ≡ 8) (two : length rs ≡ 2) where
+  one : recordsOf bytes ≡ decodeAt bytes 0 ∷ []
+  unfolding recordsFrom
+  one = rw long
+
+  one-checked : (k : Checked) → Same (tapeChecked k s ws ks bytes rs) (recordChecked k s ws ks (decodeAt bytes 0))
+  unfolding runOn
+  one-checked NoRoom = record { state = refl; pool = refl; work = refl; words = refl }
+  one-checked Checked.Unsound = record { state = refl; pool = refl; work = refl; words = refl }
+  one-checked (Sound k) =
+      let o = recordOn (coreOf s ws k) (decodeAt bytes 0) in
+      rw one (record { state = refl; pool = refl; work = refl; words = put-two rs two (answerWords (o .answer) .0) (answerWords (o .answer) .1) })
+
+  pub one-record : Same (play s ws ks bytes rs) (enterRecord s ws ks (decodeAt bytes 0))
+  unfolding play enterRecord
+  one-record = rw (long, two) (one-checked (checked (numbersOf s) (s .deques) (s .frames) ws ks))
