@@ -1,13 +1,13 @@
 -- The check's ways out, and those of the entries at a state, over plain variables.
 use mathlib.Core.Path.{_≡_, refl, sym, ap, _∙_}
-use mathlib.Core.Bool.{Bool, true, false, cond, _&&_}
+use mathlib.Core.Bool.{Bool, true, false, cond, not, _&&_}
 use mathlib.Core.List.{List, []}
-use Prim.Native.Nat.{ℕ, _*_, _≤_, _<_}
+use Prim.Native.Nat.{ℕ, _*_, _/_, _%_, _≤_, _<_}
 use native.Mathlib.Omega.{arith}
-use lib.Dec.{leb}
+use lib.Dec.{eqb, leb, ltb}
 use lib.ListN.{length}
 use borrow.Author.Tests.{le-leb, lt-leb}
-use Rattle.words.specs.Tests.{both, true≢false}
+use Rattle.words.specs.Tests.{both, neither, ge-of, true≢false}
 use Rattle.sizes.specs.Sizes.{treeNodes}
 use Rattle.soundness.specs.declared.Numbers.{Numbers}
 use Rattle.soundness.specs.declared.Checked.{Checked}
@@ -29,6 +29,7 @@ use Rattle.semantics.specs.declared.Call.the-variants.{Taken, Denied}
 use Rattle.semantics.specs.Core.{did, stepOn}
 use Rattle.semantics.specs.Entries.{Entered, Played, numbersOf, headOf, coreOf, stateOf, enter, stepChecked, play, tapeChecked, unfitTape, ran, runOn, recordsOf}
 use Rattle.semantics.specs.Theory.WorkSlice.{checked-room, no-room-keeps}
+use Rattle.semantics.specs.Theory.Kept.{Kept, kept-start}
 use Rattle.engine.specs.Promises.{core, IsStep, IsTape}
 
 -- ---- the check
@@ -42,14 +43,15 @@ unsound-first true true c e = absurd (true≢false e)
 unsound-first true false c e = refl
 unsound-first false b c e = refl
 
--- the fourth and the sixth of the tests of the numbers
-in-bounds : (a b c d e f g : Bool) → a && (b && (c && (d && (e && (f && g))))) ≡ true → (d ≡ true) × (f ≡ true)
+-- the fourth and the last two of the tests of the numbers
+in-bounds : (a b c d e f g : Bool) → a && (b && (c && (d && (e && (f && g))))) ≡ true → (d ≡ true) × (f ≡ true) × (g ≡ true)
 in-bounds a b c d e f g t =
     let p = both a (b && (c && (d && (e && (f && g))))) t .1 in
     let q = both b (c && (d && (e && (f && g)))) p .1 in
     let r = both c (d && (e && (f && g))) q .1 in
     let u = both d (e && (f && g)) r in
-    (u .0, both f g (both e (f && g) (u .1) .1) .0)
+    let v = both f g (both e (f && g) (u .1) .1) in
+    (u .0, v .0, v .1)
 
 -- by whether the pool is sound
 bad : (p : Bool) (m : ℕ) → Bad ≡ cond p (Good m) Bad → Checked.Unsound ≡ cond p (Sound m) Checked.Unsound
@@ -93,7 +95,7 @@ module _ (s : Numbers) (ds fs ws ks : List ℕ) where
       unfolding poolChecked numbersSound
       answer-is =
           let i = in-bounds (leb 1 (s .workers)) (leb (s .workers) 8) (leb 1 (s .splitters)) (leb (s .splitters) 256) (leb (treeNodes (s .splitters)) (s .nodes)) (leb (s .nodes) 16384) (leb (4 * s .nodes) (length ws)) (sound-tables .0) in
-          ea .1 ∙ rw (i .0, i .1, le-leb (s .nodes) (length ks) room)
+          ea .1 ∙ rw (i .0, i .1, i .2, le-leb (s .nodes) (length ks) room)
 
       check-is : checked s ds fs ws ks ≡ cond trees (Sound (freeCount s ws)) Checked.Unsound
       check-is = checked-room s ds fs ws ks (le-leb (s .nodes) (length ks) room) ∙ ap (λ p. cond p (Sound (freeCount s ws)) Checked.Unsound) sound-is
@@ -109,6 +111,18 @@ pub checks-state : (s : State) (n : Numbers) (ws ks ks′ : List ℕ) (k : Check
 checks-state s n ws ks ks′ k e h = rw e at h
 
 -- ---- a step and a tape at a sound state
+
+pub state-after : (g h : Head) (ds fs : List ℕ) (s : State) → s ≡ stateOf (core g ds fs []) → g ≡ h → s ≡ stateOf (core h ds fs [])
+state-after g h ds fs s e eg = e ∙ ap (λ (k : Head). stateOf (core k ds fs [])) eg
+
+-- the check found the state sound
+pub found-sound : (s : State) (ws ks ks′ : List ℕ) (k : Checked) (free : ℕ) → length (s .deques) ≡ 520 → length (s .frames) ≡ 384
+    → Checks (numbersOf s) (s .deques) (s .frames) ws ks ks′ k → k ≡ Sound free → Kept (coreOf s ws free)
+found-sound s ws ks ks′ k free ed ef ek e = kept-start s ws ks free ed ef (sym e ∙ ek .1)
+
+-- a tape that fits has room for its answers
+pub fit-answers : (bytes rs : List ℕ) (b : Bool) → b ≡ unfitTape bytes rs → b ≡ false → 2 * (length bytes / 8) ≤ length rs
+fit-answers bytes rs b e f = ge-of (neither (not (eqb (length bytes % 8) 0)) (ltb (length rs) (2 * (length bytes / 8))) (sym e ∙ f) .1)
 
 module _ (s : State) (free : ℕ) (ws : List ℕ) (hd h′ : Head) (ds′ fs′ ws′ : List ℕ) (s′ : State) (eh : hd ≡ headOf s free) (es : s′ ≡ stateOf (core h′ ds′ fs′ [])) where
   pub stepped : (st : Step) (a : Answer) → did h′ ds′ fs′ ws′ a ≡ stepOn (core hd (s .deques) (s .frames) ws) st

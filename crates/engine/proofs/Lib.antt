@@ -3,3 +3,4 @@ pub mod Steps
 pub mod Turns
 pub mod Starts
 pub mod Checks
+pub mod Passing

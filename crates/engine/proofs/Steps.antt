@@ -109,39 +109,38 @@ module _ (h : Head) (ds fs ws : List ℕ) (w : ℕ) where
 -- ---- accepted
 
 module _ (h : Head) (ds fs ws : List ℕ) (w p : ℕ) (f : Frame) (ep : p ≡ bottom ds w) (ef : f ≡ frameAt fs p) where
-  pub spawn-acts : (h′ : Head) (ds′ fs′ ws′ : List ℕ) (k vacant : ℕ) → ws′ ≡ retain ws (f .root) → table ds′ fs′ vacant ≡ spawn (table ds fs (h .vacant)) w → h′ ≡ withVacant h vacant
-      → k ≡ plus (f .depth) 1 → did h′ ds′ fs′ ws′ (Accepted (Spawned k)) ≡ spawned (core h ds fs ws) w
+  pub spawn-acts : (ds′ fs′ ws′ : List ℕ) (k vacant : ℕ) → ws′ ≡ retain ws (f .root) → table ds′ fs′ vacant ≡ spawn (table ds fs (h .vacant)) w → k ≡ plus (f .depth) 1
+      → did (withVacant h vacant) ds′ fs′ ws′ (Accepted (Spawned k)) ≡ spawned (core h ds fs ws) w
   unfolding spawned
-  spawn-acts h′ ds′ fs′ ws′ k vacant ew et eh ek = rw (ek, eh, ew, ← et, ← ep, ← ef)
+  spawn-acts ds′ fs′ ws′ k vacant ew et ek = rw (ek, ew, ← et, ← ep, ← ef)
 
-  pub return-acts : (h′ g : Head) (ds′ fs′ ws′ : List ℕ) (first count vacant : ℕ) (o : Returned) → (ws′ ≡ release (h .height) ws (h .free) (h .spare) (f .root) .0)
+  pub return-acts : (ds′ fs′ ws′ : List ℕ) (first count vacant : ℕ) (o : Returned) → (ws′ ≡ release (h .height) ws (h .free) (h .spare) (f .root) .0)
       × (first ≡ release (h .height) ws (h .free) (h .spare) (f .root) .1)
       × (count ≡ release (h .height) ws (h .free) (h .spare) (f .root) .2)
-      → IsReturn (table ds fs (h .vacant)) w (table ds′ fs′ vacant) o → g ≡ withVacant h vacant → h′ ≡ withFree g first count
-      → did h′ ds′ fs′ ws′ (Accepted (Ended o)) ≡ ended (core h ds fs ws) w
+      → IsReturn (table ds fs (h .vacant)) w (table ds′ fs′ vacant) o → did (withFree (withVacant h vacant) first count) ds′ fs′ ws′ (Accepted (Ended o)) ≡ ended (core h ds fs ws) w
   unfolding ended
-  return-acts h′ g ds′ fs′ ws′ first count vacant o er et eg eh = rw (et .outcome, eh, eg, er .0, er .1, er .2, ← et .after, ← ep, ← ef)
+  return-acts ds′ fs′ ws′ first count vacant o er et = rw (et .outcome, er .0, er .1, er .2, ← et .after, ← ep, ← ef)
 
-  pub read-acts : (x y : ℕ) → y ≡ readAt (h .height) ws (f .root) x → did h ds fs ws (Accepted (Value y)) ≡ valued (core h ds fs ws) w x
+module _ (h : Head) (ds fs ws : List ℕ) (w p root : ℕ) (ep : p ≡ bottom ds w) (er : root ≡ frameAt fs p .root) where
+  pub read-acts : (h′ : Head) (a : Answer) (x y : ℕ) → y ≡ readAt (h .height) ws root x → (h′ ≡ h) × (a ≡ Accepted (Value y)) → did h′ ds fs ws a ≡ valued (core h ds fs ws) w x
   unfolding valued
-  read-acts x y e = rw (e, ← ep, ← ef)
+  read-acts h′ a x y e o = rw (o .0, o .1, e, er, ep)
 
-  pub write-acts : (h′ : Head) (fs′ ws′ : List ℕ) (x y first count : ℕ) (g : Frame) → (ws′ ≡ write (h .height) ws (h .free) (h .spare) (f .root) x y .0)
-      × (first ≡ write (h .height) ws (h .free) (h .spare) (f .root) x y .1)
-      × (count ≡ write (h .height) ws (h .free) (h .spare) (f .root) x y .2)
-      → g ≡ withRoot f (h .free) → fs′ ≡ setFrame fs p g → h′ ≡ withFree h first count
-      → did h′ ds fs′ ws′ (Accepted (Written count)) ≡ wrote (core h ds fs ws) w x y
+  pub write-acts : (fs′ ws′ : List ℕ) (x y first count : ℕ) → (ws′ ≡ write (h .height) ws (h .free) (h .spare) root x y .0)
+      × (first ≡ write (h .height) ws (h .free) (h .spare) root x y .1)
+      × (count ≡ write (h .height) ws (h .free) (h .spare) root x y .2)
+      → fs′ ≡ setFrame fs p (withRoot (frameAt fs p) (h .free)) → did (withFree h first count) ds fs′ ws′ (Accepted (Written count)) ≡ wrote (core h ds fs ws) w x y
   unfolding wrote
-  write-acts h′ fs′ ws′ x y first count g ew eg es eh = rw (eh, es, eg, ew .0, ew .1, ew .2, ← ep, ← ef)
+  write-acts fs′ ws′ x y first count ew es = rw (es, ew .0, ew .1, ew .2, er, ep)
 
-pub steal-acts : (h : Head) (ds fs ws ds′ : List ℕ) (w v p : ℕ) (f : Frame) → p ≡ top ds v → f ≡ frameAt fs p
-    → ((gs : List ℕ) (free : ℕ) → table ds′ gs free ≡ steal (table ds gs free) w v) → did h ds′ fs ws (Accepted (Stolen (f .depth))) ≡ robbed (core h ds fs ws) w v
+pub steal-acts : (h h′ : Head) (ds fs ws ds′ : List ℕ) (a : Answer) (w v p : ℕ) (f : Frame) → p ≡ top ds v → f ≡ frameAt fs p
+    → ((gs : List ℕ) (free : ℕ) → table ds′ gs free ≡ steal (table ds gs free) w v) → (h′ ≡ h) × (a ≡ Accepted (Stolen (f .depth))) → did h′ ds′ fs ws a ≡ robbed (core h ds fs ws) w v
 unfolding robbed
-steal-acts h ds fs ws ds′ w v p f ep ef et = rw (← et fs (h .vacant), ← ep, ← ef)
+steal-acts h h′ ds fs ws ds′ a w v p f ep ef et o = rw (o .0, o .1, ← et fs (h .vacant), ← ep, ← ef)
 
-pub sync-acts : (h : Head) (ds fs ws ds′ fs′ : List ℕ) (w : ℕ) (o : Synced) → IsSync ds fs w ds′ fs′ o → did h ds′ fs′ ws (Accepted (Waited o)) ≡ waited (core h ds fs ws) w
+pub sync-acts : (h h′ : Head) (ds fs ws ds′ fs′ : List ℕ) (a : Answer) (w : ℕ) (o : Synced) → IsSync ds fs w ds′ fs′ o → (h′ ≡ h) × (a ≡ Accepted (Waited o)) → did h′ ds′ fs′ ws a ≡ waited (core h ds fs ws) w
 unfolding waited
-sync-acts h ds fs ws ds′ fs′ w o e = rw (e .outcome (h .vacant), ← e .after (h .vacant))
+sync-acts h h′ ds fs ws ds′ fs′ a w o e u = rw (u .0, u .1, e .outcome (h .vacant), ← e .after (h .vacant))
 
 -- ---- a record
 

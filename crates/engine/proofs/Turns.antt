@@ -1,20 +1,18 @@
--- The tape: two answer words past the end; the loop.
-use mathlib.Core.Path.{_≡_, sym, ap, _∙_}
+-- The tape's loop.
+use mathlib.Core.Path.{_≡_, sym, ap, subst, _∙_}
 use mathlib.Core.List.{List}
 use Prim.Native.Nat.{ℕ, suc, _+_, _-_, _*_, _≤_, _<_}
 use native.Mathlib.Omega.{arith}
-use lib.ListN.{set, length}
-use lib.Seq.{set-out}
+use lib.ListN.{set}
 use Rattle.model.specs.Record.{decodeAt}
 use Rattle.semantics.specs.Answers.{answerWords}
-use Rattle.semantics.specs.Core.{Core, Did}
+use Rattle.semantics.specs.declared.Head.{Head}
+use Rattle.semantics.specs.declared.Answer.{Answer}
+use Rattle.semantics.specs.Core.{Core, Did, did}
 use Rattle.semantics.specs.Entries.{Ran, ran, runOn, recordOn, recordsFrom, putAnswer}
-
-pub both-out : (l : List ℕ) (to a b : ℕ) → length l ≤ to → l ≡ set (set l to a) (to + 1) b
-both-out l to a b h =
-    let e = set-out l to a h in
-    let o : length (set l to a) ≤ to + 1 = omega (arith, ap length e) in
-    sym (set-out (set l to a) (to + 1) b o ∙ e)
+use Rattle.semantics.specs.Theory.Kept.{Kept, kept-record}
+use Rattle.semantics.specs.Theory.Ready.{Ready, kept-ready}
+use Rattle.engine.specs.Promises.{core, renewed}
 
 -- where the loop begins, what is left when a record has been run, and when none is left
 module _ (tape : List ℕ) (n : ℕ) where
@@ -46,3 +44,23 @@ module _ (tape : List ℕ) (n : ℕ) where
   begin r =
       let z : n - 0 ≡ n = omega arith in
       ap (λ (m : ℕ). runOn r 0 (recordsFrom m tape 0)) z
+
+  -- a record, from a sound core: what is left, and that the core is sound again
+  pub turn-kept : (h head : Head) (ds fs ws ds′ fs′ ws′ a a′ : List ℕ) (free vacant spare free′ vacant′ spare′ : ℕ) (r : Answer) (i x y : ℕ) → head ≡ renewed h free vacant spare
+      → Kept (core (renewed h free vacant spare) ds fs ws) → i < n → did (renewed head free′ vacant′ spare′) ds′ fs′ ws′ r ≡ recordOn (core head ds fs ws) (decodeAt tape (i * 8))
+      → x ≡ answerWords r .0 → y ≡ answerWords r .1 → a′ ≡ set (set a (i * 2) x) (i * 2 + 1) y
+      → Kept (core (renewed h free′ vacant′ spare′) ds′ fs′ ws′)
+      × (runOn (ran (core (renewed h free′ vacant′ spare′) ds′ fs′ ws′) a′) ((i + 1) * 2) (recordsFrom (n - (i + 1)) tape ((i + 1) * 8))
+        ≡ runOn (ran (core (renewed h free vacant spare) ds fs ws) a) (i * 2) (recordsFrom (n - i) tape (i * 8)))
+  turn-kept h head ds fs ws ds′ fs′ ws′ a a′ free vacant spare free′ vacant′ spare′ r i x y eh K l eo ex ey ea =
+      let c : Core = core (renewed h free vacant spare) ds fs ws in
+      let o : Did = did (renewed h free′ vacant′ spare′) ds′ fs′ ws′ r in
+      let e : o ≡ recordOn c (decodeAt tape (i * 8)) = subst (λ (g : Head). did (renewed g free′ vacant′ spare′) ds′ fs′ ws′ r ≡ recordOn (core g ds fs ws) (decodeAt tape (i * 8))) eh eo in
+      (subst (λ (q : Did). Kept (q .core)) (sym e) (kept-record c K (decodeAt tape (i * 8))), turn c a a′ i x y o l e ex ey ea)
+
+-- the numbers are those of a sound core
+pub ready-head : (h head : Head) (ds fs ws : List ℕ) → head ≡ h → Kept (core h ds fs ws) → Ready (core head ds fs ws)
+ready-head h head ds fs ws e K = subst (λ (g : Head). Ready (core g ds fs ws)) (sym e) (kept-ready (core h ds fs ws) K)
+
+pub kept-head : (h head : Head) (ds fs ws : List ℕ) → head ≡ h → Kept (core h ds fs ws) → Kept (core head ds fs ws)
+kept-head h head ds fs ws e K = subst (λ (g : Head). Kept (core g ds fs ws)) (sym e) K

@@ -14,11 +14,21 @@ use Rattle.semantics.specs.declared.Refusal.{Refusal}
 use Rattle.semantics.specs.declared.Refusal.the-variants.{Values, Workers, Nodes}
 use Rattle.semantics.specs.Core.{Core}
 use Rattle.semantics.specs.Entries.{startOn, enter, play}
+use Rattle.engine.specs.declared.Out.{Out}
 use Rattle.engine.specs.declared.Verdict.{Verdict}
 use Rattle.engine.specs.declared.Verdict.the-variants.{Pass, Refuse}
 
 abbrev pub core : Head → List ℕ → List ℕ → List ℕ → Core
 core h ds fs ws = record { head = h; deques = ds; frames = fs; pool = ws }
+
+-- the numbers with another first free node, first free place and number of free nodes
+abbrev pub renewed : Head → ℕ → ℕ → ℕ → Head
+renewed h free vacant spare =
+    record { workers = h .workers; splitters = h .splitters; nodes = h .nodes; free = free; vacant = vacant; height = h .height; spare = spare }
+
+-- what a step leaves of the numbers h
+abbrev pub headAfter : Head → Out → Head
+headAfter h o = renewed h (o .free) (o .vacant) (o .spare)
 
 -- the first test that holds refuses
 abbrev pub verdict : List (Bool × Refusal) → Verdict

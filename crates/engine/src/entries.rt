@@ -2,13 +2,17 @@
 // are locals here, and lent to the core.
 ghost use mathlib.Core.Path.{_≡_};
 ghost use mathlib.Core.List.{[]};
+ghost use Prim.Native.Nat.{_*_, _/_, _≤_};
+ghost use lib.ListN.{length};
 ghost use Rattle.soundness.specs.Soundness.{checked, cleared};
 ghost use Rattle.semantics.specs.Core.{stepOn};
 ghost use Rattle.semantics.specs.Entries.{numbersOf, headOf, coreOf, stateOf, recordsOf, ran, runOn, unfitTape};
+ghost use Rattle.semantics.specs.Theory.Kept.{Kept};
 ghost use Rattle.engine.specs.Promises.{core, IsStep, IsTape};
 use crate::Stepped;
 use crate::Taped;
 use crate::checking::check;
+use crate::records::head_with;
 use crate::records::run_tape;
 use crate::records::take_step;
 use model::Step;
@@ -74,23 +78,26 @@ pub fn check_state(state: State, pool: &[u32], work: &mut [u32]) -> Checked
 
 // The step, at a sound state with so many free nodes.
 fn step_at(state: State, spare: u32, pool: &mut [u32], step: Step) -> Stepped
+    requires { ⌜ Kept (coreOf state (now pool) spare) ⌝ }
     ensures { λ r. ⌜ (r .state ≡ stateOf (stepOn (coreOf state (now (pool .entry)) spare) step .core))
         × (now (pool .exit) ≡ stepOn (coreOf state (now (pool .entry)) spare) step .core .pool)
         × (r .answer ≡ stepOn (coreOf state (now (pool .entry)) spare) step .answer) ⌝ }
 {
     let mut deques = state.deques;
     let mut frames = state.frames;
-    let out = take_step(head_of(state, spare), &mut deques, &mut frames, pool, step);
-    let h = out.head;
+    let h = head_of(state, spare);
+    let out = take_step(h, &mut deques, &mut frames, pool, step);
+    let after = head_with(h, out.free, out.vacant, out.spare);
     let answer = out.answer;
     Stepped {
-        state: state_of(h, deques, frames),
+        state: state_of(after, deques, frames),
         answer,
     }
 }
 
 // The tape, at a sound state with so many free nodes.
 fn tape_at(state: State, spare: u32, pool: &mut [u32], bytes: &[u8], answers: &mut [u32]) -> State
+    requires { ⌜ Kept (coreOf state (now pool) spare) × (2 * (length (now bytes) / 8) ≤ length (now answers)) ⌝ }
     ensures { λ r. ⌜ (r ≡ stateOf (runOn (ran (coreOf state (now (pool .entry)) spare) (now (answers .entry))) 0 (recordsOf (now (bytes .entry))) .core))
         × (now (pool .exit) ≡ runOn (ran (coreOf state (now (pool .entry)) spare) (now (answers .entry))) 0 (recordsOf (now (bytes .entry))) .core .pool)
         × (now (answers .exit) ≡ runOn (ran (coreOf state (now (pool .entry)) spare) (now (answers .entry))) 0 (recordsOf (now (bytes .entry))) .answers) ⌝ }

@@ -1,25 +1,27 @@
 // The six kinds of steps over the numbers h and the lent words of the deques, the frame table and the pool: each is refused,
-// and changes nothing, or acts.
+// and changes nothing, or acts. The core is ready (it is sound), so that reads and writes test no index.
 ghost use mathlib.Core.Path.{_≡_};
 ghost use Rattle.model.specs.declared.Step.the-variants.{Spawn, Return, Steal, Sync, Read, Write};
-ghost use Rattle.semantics.specs.Core.{did, stepOn, withVacant, withFree};
-ghost use Rattle.semantics.specs.declared.Answer.the-variants.{Refused};
-ghost use Rattle.engine.specs.Promises.{core};
+ghost use Rattle.semantics.specs.Core.{did, stepOn};
+ghost use Rattle.semantics.specs.Theory.Ready.{Ready};
+ghost use Rattle.semantics.specs.declared.Answer.the-variants.{Accepted, Refused};
+ghost use Rattle.engine.specs.Promises.{core, headAfter};
 use crate::Out;
 use crate::Verdict;
 use crate::refusals::acting_verdict;
 use crate::refusals::or_refuse;
 use crate::refusals::steal_verdict;
 use frames::NONE;
+use frames::acting_place;
 use frames::bottom_of;
 use frames::frame_in;
 use frames::return_frame;
+use frames::root_at;
+use frames::set_root;
 use frames::spawn_frame;
 use frames::steal_frame;
-use frames::store_frame;
 use frames::sync_frame;
 use frames::top_of;
-use frames::with_root;
 use pool::read_at;
 use pool::release;
 use pool::retain;
@@ -29,37 +31,28 @@ use semantics::Done;
 use semantics::Head;
 use semantics::Refusal;
 
-// With another first free place.
-fn with_vacant(h: Head, place: u32) -> Head
-    ensures { λ r. ⌜ r ≡ withVacant h place ⌝ }
-{
-    let mut g = h;
-    g.vacant = place;
-    g
-}
-
-// With another first free node and number of free nodes.
-fn with_free(h: Head, first: u32, count: u32) -> Head
-    ensures { λ r. ⌜ r ≡ withFree h first count ⌝ }
-{
-    let mut g = h;
-    g.free = first;
-    g.spare = count;
-    g
-}
-
-// A refused step leaves the numbers as they are.
-pub fn refused(h: Head, refusal: Refusal) -> Out
-    ensures { λ r. ⌜ (r .head ≡ h) × (r .answer ≡ Refused refusal) ⌝ }
+// The numbers stay as they are.
+fn unchanged(h: Head, answer: Answer) -> Out
+    ensures { λ r. ⌜ (headAfter h r ≡ h) × (r .answer ≡ answer) ⌝ }
 {
     Out {
-        head: h,
-        answer: Answer::Refused(refusal),
+        free: h.free,
+        vacant: h.vacant,
+        spare: h.spare,
+        answer,
     }
 }
 
+// A refused step changes nothing.
+pub fn refused(h: Head, refusal: Refusal) -> Out
+    ensures { λ r. ⌜ (headAfter h r ≡ h) × (r .answer ≡ Refused refusal) ⌝ }
+{
+    unchanged(h, Answer::Refused(refusal))
+}
+
 pub fn step_spawn(h: Head, deques: &mut [u32], frames: &mut [u32], pool: &mut [u32], w: u32) -> Out
-    ensures { λ r. ⌜ did (r .head) (now (deques .exit)) (now (frames .exit)) (now (pool .exit)) (r .answer)
+    requires { ⌜ Ready (core h (now deques) (now frames) (now pool)) ⌝ }
+    ensures { λ r. ⌜ did (headAfter h r) (now (deques .exit)) (now (frames .exit)) (now (pool .exit)) (r .answer)
         ≡ stepOn (core h (now (deques .entry)) (now (frames .entry)) (now (pool .entry))) (Spawn w) ⌝ }
 {
     let verdict = or_refuse(
@@ -71,16 +64,25 @@ pub fn step_spawn(h: Head, deques: &mut [u32], frames: &mut [u32], pool: &mut [u
         return refused(h, refusal);
     }
     let f = frame_in(frames, bottom_of(deques, w));
-    retain(pool, f.root);
+    retain(pool, h.nodes, f.root);
     let vacant = spawn_frame(deques, frames, h.vacant, w);
     Out {
-        head: with_vacant(h, vacant),
+        free: h.free,
+        vacant,
+        spare: h.spare,
         answer: Answer::Accepted(Done::Spawned(words::add(f.depth, 1))),
     }
 }
 
-pub fn step_return(h: Head, deques: &mut [u32], frames: &mut [u32], pool: &mut [u32], w: u32) -> Out
-    ensures { λ r. ⌜ did (r .head) (now (deques .exit)) (now (frames .exit)) (now (pool .exit)) (r .answer)
+pub fn step_return(
+    h: Head,
+    deques: &mut [u32],
+    frames: &mut [u32],
+    pool: &mut [u32],
+    w: u32,
+) -> Out
+    requires { ⌜ Ready (core h (now deques) (now frames) (now pool)) ⌝ }
+    ensures { λ r. ⌜ did (headAfter h r) (now (deques .exit)) (now (frames .exit)) (now (pool .exit)) (r .answer)
         ≡ stepOn (core h (now (deques .entry)) (now (frames .entry)) (now (pool .entry))) (Return w) ⌝ }
 {
     let f = frame_in(frames, bottom_of(deques, w));
@@ -92,11 +94,14 @@ pub fn step_return(h: Head, deques: &mut [u32], frames: &mut [u32], pool: &mut [
     if let Verdict::Refuse(refusal) = verdict {
         return refused(h, refusal);
     }
-    let list = release(pool, h.free, h.spare, f.root, h.height);
+    let mut spare = h.spare;
+    let free = release(pool, h.nodes, &mut spare, h.free, f.root, h.height);
     let ended = return_frame(deques, frames, h.vacant, w);
     let outcome = ended.outcome;
     Out {
-        head: with_free(with_vacant(h, ended.free), list.first, list.count),
+        free,
+        vacant: ended.free,
+        spare,
         answer: Answer::Accepted(Done::Ended(outcome)),
     }
 }
@@ -109,7 +114,7 @@ pub fn step_steal(
     w: u32,
     v: u32,
 ) -> Out
-    ensures { λ r. ⌜ did (r .head) (now (deques .exit)) (now (frames .exit)) (now (pool .exit)) (r .answer)
+    ensures { λ r. ⌜ did (headAfter h r) (now (deques .exit)) (now (frames .exit)) (now (pool .exit)) (r .answer)
         ≡ stepOn (core h (now (deques .entry)) (now (frames .entry)) (now (pool .entry))) (Steal w v) ⌝ }
 {
     let verdict = steal_verdict(h, deques, w, v);
@@ -118,14 +123,11 @@ pub fn step_steal(
     }
     let f = frame_in(frames, top_of(deques, v));
     steal_frame(deques, w, v);
-    Out {
-        head: h,
-        answer: Answer::Accepted(Done::Stolen(f.depth)),
-    }
+    unchanged(h, Answer::Accepted(Done::Stolen(f.depth)))
 }
 
 pub fn step_sync(h: Head, deques: &mut [u32], frames: &mut [u32], pool: &mut [u32], w: u32) -> Out
-    ensures { λ r. ⌜ did (r .head) (now (deques .exit)) (now (frames .exit)) (now (pool .exit)) (r .answer)
+    ensures { λ r. ⌜ did (headAfter h r) (now (deques .exit)) (now (frames .exit)) (now (pool .exit)) (r .answer)
         ≡ stepOn (core h (now (deques .entry)) (now (frames .entry)) (now (pool .entry))) (Sync w) ⌝ }
 {
     let verdict = acting_verdict(h, deques, w);
@@ -133,10 +135,7 @@ pub fn step_sync(h: Head, deques: &mut [u32], frames: &mut [u32], pool: &mut [u3
         return refused(h, refusal);
     }
     let outcome = sync_frame(deques, frames, w);
-    Out {
-        head: h,
-        answer: Answer::Accepted(Done::Waited(outcome)),
-    }
+    unchanged(h, Answer::Accepted(Done::Waited(outcome)))
 }
 
 pub fn step_read(
@@ -147,7 +146,8 @@ pub fn step_read(
     w: u32,
     x: u32,
 ) -> Out
-    ensures { λ r. ⌜ did (r .head) (now (deques .exit)) (now (frames .exit)) (now (pool .exit)) (r .answer)
+    requires { ⌜ Ready (core h (now deques) (now frames) (now pool)) ⌝ }
+    ensures { λ r. ⌜ did (headAfter h r) (now (deques .exit)) (now (frames .exit)) (now (pool .exit)) (r .answer)
         ≡ stepOn (core h (now (deques .entry)) (now (frames .entry)) (now (pool .entry))) (Read w x) ⌝ }
 {
     let verdict = or_refuse(
@@ -158,12 +158,9 @@ pub fn step_read(
     if let Verdict::Refuse(refusal) = verdict {
         return refused(h, refusal);
     }
-    let f = frame_in(frames, bottom_of(deques, w));
-    let value = read_at(pool, h.height, f.root, x);
-    Out {
-        head: h,
-        answer: Answer::Accepted(Done::Value(value)),
-    }
+    let root = root_at(frames, acting_place(deques, w));
+    let value = read_at(pool, h.nodes, h.height, root, x);
+    unchanged(h, Answer::Accepted(Done::Value(value)))
 }
 
 pub fn step_write(
@@ -175,7 +172,8 @@ pub fn step_write(
     x: u32,
     v: u32,
 ) -> Out
-    ensures { λ r. ⌜ did (r .head) (now (deques .exit)) (now (frames .exit)) (now (pool .exit)) (r .answer)
+    requires { ⌜ Ready (core h (now deques) (now frames) (now pool)) ⌝ }
+    ensures { λ r. ⌜ did (headAfter h r) (now (deques .exit)) (now (frames .exit)) (now (pool .exit)) (r .answer)
         ≡ stepOn (core h (now (deques .entry)) (now (frames .entry)) (now (pool .entry))) (Write w x v) ⌝ }
 {
     let within = or_refuse(
@@ -187,12 +185,14 @@ pub fn step_write(
     if let Verdict::Refuse(refusal) = verdict {
         return refused(h, refusal);
     }
-    let p = bottom_of(deques, w);
-    let f = frame_in(frames, p);
-    let list = write_path(pool, h.height, h.free, h.spare, f.root, x, v);
-    store_frame(frames, p, with_root(f, h.free));
+    let p = acting_place(deques, w);
+    let root = root_at(frames, p);
+    let list = write_path(pool, h.nodes, h.height, h.free, h.spare, root, x, v);
+    set_root(frames, p, h.free);
     Out {
-        head: with_free(h, list.first, list.count),
+        free: list.first,
+        vacant: h.vacant,
+        spare: list.count,
         answer: Answer::Accepted(Done::Written(list.count)),
     }
 }

@@ -28,13 +28,17 @@ pub use records::step_record;
 pub use records::take_step;
 use semantics::Answer;
 use semantics::Call;
-use semantics::Head;
 use semantics::Refusal;
 use semantics::State;
 
-// What a step leaves of the numbers, and its answer.
+// What a step leaves of the numbers that change, and its answer.
 pub struct Out {
-    pub head: Head,
+    // the first free node
+    pub free: u32,
+    // the first free frame place
+    pub vacant: u32,
+    // the number of free nodes
+    pub spare: u32,
     pub answer: Answer,
 }
 

@@ -1,11 +1,13 @@
 // A step of any kind, a record, and the tape.
 ghost use mathlib.Core.Path.{_≡_};
-ghost use Prim.Native.Nat.{_+_};
-ghost use lib.ListN.{set};
+ghost use Prim.Native.Nat.{_+_, _*_, _/_, _≤_, _<_};
+ghost use lib.ListN.{length, set};
 ghost use Rattle.model.specs.Record.{decodeAt};
 ghost use Rattle.semantics.specs.Core.{did, stepOn};
 ghost use Rattle.semantics.specs.Entries.{recordOn, recordsOf, ran, runOn};
-ghost use Rattle.engine.specs.Promises.{core};
+ghost use Rattle.semantics.specs.Theory.Kept.{Kept};
+ghost use Rattle.semantics.specs.Theory.Ready.{Ready};
+ghost use Rattle.engine.specs.Promises.{core, renewed, headAfter};
 use crate::Out;
 use crate::answers::done_kind;
 use crate::answers::done_number;
@@ -31,7 +33,8 @@ pub fn take_step(
     pool: &mut [u32],
     step: Step,
 ) -> Out
-    ensures { λ r. ⌜ did (r .head) (now (deques .exit)) (now (frames .exit)) (now (pool .exit)) (r .answer)
+    requires { ⌜ Ready (core h (now deques) (now frames) (now pool)) ⌝ }
+    ensures { λ r. ⌜ did (headAfter h r) (now (deques .exit)) (now (frames .exit)) (now (pool .exit)) (r .answer)
         ≡ stepOn (core h (now (deques .entry)) (now (frames .entry)) (now (pool .entry))) step ⌝ }
 {
     match step {
@@ -53,7 +56,8 @@ pub fn step_record(
     tape: &[u8],
     at: usize,
 ) -> Out
-    ensures { λ r. ⌜ did (r .head) (now (deques .exit)) (now (frames .exit)) (now (pool .exit)) (r .answer)
+    requires { ⌜ Ready (core h (now deques) (now frames) (now pool)) × (at + 8 ≤ length (now tape)) ⌝ }
+    ensures { λ r. ⌜ did (headAfter h r) (now (deques .exit)) (now (frames .exit)) (now (pool .exit)) (r .answer)
         ≡ recordOn (core h (now (deques .entry)) (now (frames .entry)) (now (pool .entry))) (decodeAt (now (tape .entry)) at) ⌝ }
 {
     let decoded = decode(tape, at);
@@ -65,17 +69,29 @@ pub fn step_record(
 
 // "Each record gives two answer words"
 fn put_answer(answers: &mut [u32], to: usize, first: u32, second: u32)
+    requires { ⌜ to + 1 < length (now answers) ⌝ }
     ensures { λ _. ⌜ now (answers .exit) ≡ set (set (now (answers .entry)) to first) (to + 1) second ⌝ }
 {
-    if to >= answers.len() {
-        return;
-    }
-    let next = to + 1;
-    words::put(answers, to, first);
-    words::put(answers, next, second);
+    answers[to] = first;
+    answers[to + 1] = second;
 }
 
-// The tape's records in order. "A refused record gives its refusal and 0, and the tape goes on."
+// The numbers with what a step left.
+pub fn head_with(h: Head, free: u32, vacant: u32, spare: u32) -> Head
+    ensures { λ r. ⌜ r ≡ renewed h free vacant spare ⌝ }
+{
+    Head {
+        workers: h.workers,
+        splitters: h.splitters,
+        nodes: h.nodes,
+        free,
+        vacant,
+        height: h.height,
+        spare,
+    }
+}
+
+// The tape's records in order, from a sound core. "A refused record gives its refusal and 0, and the tape goes on."
 pub fn run_tape(
     h: Head,
     deques: &mut [u32],
@@ -84,17 +100,23 @@ pub fn run_tape(
     tape: &[u8],
     answers: &mut [u32],
 ) -> Head
+    requires { ⌜ Kept (core h (now deques) (now frames) (now pool)) × (2 * (length (now tape) / 8) ≤ length (now answers)) ⌝ }
     ensures { λ r. ⌜ ran (core r (now (deques .exit)) (now (frames .exit)) (now (pool .exit))) (now (answers .exit))
         ≡ runOn (ran (core h (now (deques .entry)) (now (frames .entry)) (now (pool .entry))) (now (answers .entry))) 0 (recordsOf (now (tape .entry))) ⌝ }
 {
-    let mut head = h;
+    let mut free = h.free;
+    let mut vacant = h.vacant;
+    let mut spare = h.spare;
     let mut i: usize = 0;
     while i < tape.len() / 8 {
         let to = i * 2;
         let at = i * 8;
         i += 1;
+        let head = head_with(h, free, vacant, spare);
         let out = step_record(head, deques, frames, pool, tape, at);
-        head = out.head;
+        free = out.free;
+        vacant = out.vacant;
+        spare = out.spare;
         let answer = out.answer;
         let Answer::Accepted(done) = answer else {
             put_answer(answers, to, first_word(answer), 0);
@@ -102,5 +124,5 @@ pub fn run_tape(
         };
         put_answer(answers, to, done_kind(done), done_number(done));
     }
-    head
+    head_with(h, free, vacant, spare)
 }

@@ -8,3 +8,5 @@ pub mod Places
 pub mod Tables
 pub mod Summary
 pub mod Start
+-- the acting frame and its root by one index
+pub mod Fast

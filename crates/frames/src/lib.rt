@@ -1,5 +1,6 @@
 // The frame table and the workers' deques, in lent words; what the steps do to them.
 mod deques;
+mod fast;
 mod records;
 mod steps;
 
@@ -11,6 +12,9 @@ pub use deques::init_deques;
 pub use deques::pop_frame;
 pub use deques::push_frame;
 pub use deques::top_of;
+pub use fast::acting_place;
+pub use fast::root_at;
+pub use fast::set_root;
 pub use records::child_of;
 pub use records::frame_in;
 pub use records::free_place;

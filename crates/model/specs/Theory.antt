@@ -42,3 +42,4 @@ pub mod FreshMarks
 pub mod Bounds
 -- all of them together, along a run from a start
 pub mod Invariant
+pub mod Unused

@@ -2,10 +2,11 @@
 use crate::Decoded;
 use crate::Step;
 ghost use mathlib.Core.Path.{_≡_};
-ghost use mathlib.Core.Bool.{_&&_};
 ghost use mathlib.Core.List.{[], _∷_};
-ghost use lib.Dec.{eqb};
-ghost use Rattle.model.specs.Record.{little, validIf, recordOf, decodeAt};
+ghost use Prim.Native.Nat.{_+_, _≤_};
+ghost use lib.ListN.{length};
+ghost use Rattle.model.specs.Record.{little, recordOf, decodeAt};
+ghost use Rattle.model.specs.Theory.Unused.{unusedSet};
 
 // A byte's number.
 fn wide(b: u8) -> u32
@@ -28,44 +29,48 @@ pub fn number32(b0: u8, b1: u8, b2: u8, b3: u8) -> u32
     number16(b0, b1) + 65536 * number16(b2, b3)
 }
 
-// The step, if its unused fields are zero.
-fn valid_if_zero(step: Step, field: u32, value: u32) -> Decoded
-    ensures { λ r. ⌜ r ≡ validIf (eqb field 0 && eqb value 0) step ⌝ }
+// Is a field that this kind does not use other than zero?
+fn misused(kind: u32, field: u32, value: u32) -> bool
+    ensures { λ r. ⌜ r ≡ unusedSet kind field value ⌝ }
 {
-    if field != 0 {
-        return Decoded::Invalid;
+    if kind == 5 {
+        return value != 0;
+    }
+    if kind == 6 {
+        return false;
     }
     if value != 0 {
-        return Decoded::Invalid;
+        return true;
     }
-    Decoded::Valid(step)
+    if kind == 3 {
+        return false;
+    }
+    field != 0
 }
 
 // The step of a record with these fields.
 pub fn step_of(kind: u32, worker: u32, field: u32, value: u32) -> Decoded
     ensures { λ r. ⌜ r ≡ recordOf kind worker field value ⌝ }
 {
+    if misused(kind, field, value) {
+        return Decoded::Invalid;
+    }
     match kind {
-        1 => valid_if_zero(Step::Spawn(worker), field, value),
-        2 => valid_if_zero(Step::Return(worker), field, value),
-        3 => valid_if_zero(Step::Steal(worker, field), 0, value),
-        4 => valid_if_zero(Step::Sync(worker), field, value),
-        5 => valid_if_zero(Step::Read(worker, field), 0, value),
+        1 => Decoded::Valid(Step::Spawn(worker)),
+        2 => Decoded::Valid(Step::Return(worker)),
+        3 => Decoded::Valid(Step::Steal(worker, field)),
+        4 => Decoded::Valid(Step::Sync(worker)),
+        5 => Decoded::Valid(Step::Read(worker, field)),
         6 => Decoded::Valid(Step::Write(worker, field, value)),
         _ => Decoded::Invalid,
     }
 }
 
-// The record at `at`, if 8 bytes are there.
+// The record at `at`.
 pub fn decode(tape: &[u8], at: usize) -> Decoded
+    requires { ⌜ at + 8 ≤ length (now tape) ⌝ }
     ensures { λ r. ⌜ r ≡ decodeAt (now (tape .entry)) at ⌝ }
 {
-    if tape.len() < 8 {
-        return Decoded::Invalid;
-    }
-    if tape.len() - 8 < at {
-        return Decoded::Invalid;
-    }
     let field = number16(tape[at + 2], tape[at + 3]);
     let value = number32(tape[at + 4], tape[at + 5], tape[at + 6], tape[at + 7]);
     step_of(wide(tape[at]), wide(tape[at + 1]), field, value)

@@ -1,3 +1,6 @@
--- What the proofs of several functions use: Words (the words of a node, indexed by a bit), Laws (a turn and the end of each loop).
+-- What the proofs of several functions use: Words (the words of a node, indexed by a bit), Laws (a turn and the end of each loop),
+-- Freeing (the calls of a release), Writing (a turn and the ends of a write).
 mod Words
 mod Laws
+mod Freeing
+mod Writing

@@ -1,19 +1,27 @@
 -- The word that a bit indexes is the child, the other one the sibling: what the walk and the path read and store.
 use mathlib.Core.Path.{_≡_, ap, ap₂, _∙_}
 use mathlib.Core.List.{List}
-use Prim.Native.Nat.{ℕ, zero, suc, _+_, _-_, _*_, _^_, _<_, _≤_}
+use Prim.Native.Nat.{ℕ, zero, suc, _+_, _-_, _*_, _/_, _^_, _<_, _≤_}
 use native.Mathlib.Nat.{div-eq-of-lt, lt-of-lt-of-le}
 use native.Mathlib.Omega.{arith}
+use lib.Bits.{bitAnd}
 use lib.ListN.{getD, set}
 use lib.Pow.{pow-mono}
 use lib.Seq.{set-comm}
+use Rattle.sizes.specs.Bits.{bit-mask, bit-lt}
 use Rattle.sizes.specs.Sizes.{bit}
+use Rattle.pool.specs.Links.{Link, LinksIn}
+use Rattle.pool.specs.Theory.Links.{sibling-link}
 use Rattle.pool.specs.Pool.{left, right, side, child, sibling, setNode, retain, pathNode}
 
 -- past the width of a word every bit is 0
 pub bit-high : (l x : ℕ) → x < 2 ^ 32 → 32 ≤ l → 0 ≡ bit l x
 unfolding bit
 bit-high l x h k = rw (div-eq-of-lt (lt-of-lt-of-le h (pow-mono k)))
+
+-- the shift and mask of the code
+pub mask-lt : (l x : ℕ) → bitAnd (x / 2 ^ l) 1 < 2
+mask-lt l x = omega (arith, bit-mask l x, bit-lt l x)
 
 pub child-word : (ws : List ℕ) (i b : ℕ) → b < 2 → getD ws (4 * i + 1 + b) 0 ≡ child ws i b
 unfolding child side left right
@@ -38,3 +46,12 @@ links ws i (suc (suc b)) next kept h = absurd (omega arith)
 pub path-words : (ws : List ℕ) (i b next kept : ℕ) → b < 2 → retain (set (set (set (set ws (4 * i) 1) (4 * i + 1 + b) next) (4 * i + 2 - b) kept) (4 * i + 3) 0) kept ≡ pathNode ws i b next kept
 unfolding pathNode setNode
 path-words ws i b next kept h = ap (λ (w : List ℕ). retain (set w (4 * i + 3) 0) kept) (links (set ws (4 * i) 1) i b next kept h)
+
+-- the same with the mask m of the code, and the kept sibling read from the old node
+pub copy-words : (ws : List ℕ) (i old m b next : ℕ) → m ≡ b → b < 2 →
+    retain (set (set (set (set ws (4 * i) 1) (4 * i + 1 + m) next) (4 * i + 2 - m) (getD ws (4 * old + 2 - m) 0)) (4 * i + 3) 0) (getD ws (4 * old + 2 - m) 0)
+    ≡ pathNode ws i b next (sibling ws old b)
+copy-words ws i old m b next e h = rw (e, sibling-word ws old b h) (path-words ws i b next (sibling ws old b) h)
+
+pub kept-link : {N : ℕ} {ws : List ℕ} (old m b : ℕ) → LinksIn N ws → old < N → m ≡ b → b < 2 → Link N (getD ws (4 * old + 2 - m) 0)
+kept-link {ws = ws} old m b L h e k = rw (e, sibling-word ws old b k) (sibling-link old b L h)

@@ -23,6 +23,8 @@ pub mod CopyPath
 pub mod Operations
 -- Reached: in use is reached from a live root
 pub mod Reached
+-- LiveLinks: a live pool has what Links asks
+pub mod LiveLinks
 -- Trees: document 01's soundness of the pool, and the nodes of its trees
 pub mod Trees
 -- Soundness: soundness of the pool is the invariant
@@ -39,3 +41,5 @@ pub mod Init
 pub mod Good
 -- Examples: the definitions computed
 pub mod Examples
+-- Links: links in range, kept by every change
+pub mod Links

@@ -1,8 +1,10 @@
-// The pool of nodes: four words a node, in a lent slice of words. Every function is total: what is past the end reads as 0
-// and is not stored. Each contract is an equation with a definition of specs/Pool.antt, on all inputs.
+// The pool of nodes: four words a node, in a lent slice of words. Each contract is an equation with a definition of
+// specs/Pool.antt. A node's words, and the start, are total: what is past the end reads as 0 and is not stored. The operations
+// ask that the links are nodes or none (specs/Links.antt), so that no index is tested.
 mod node;
 mod refs;
 mod start;
+mod total;
 mod tree;
 
 pub use node::NONE;
@@ -16,7 +18,5 @@ pub use refs::FreeList;
 pub use refs::release;
 pub use refs::retain;
 pub use start::init_pool;
-pub use tree::copy_path;
-pub use tree::leaf_of;
 pub use tree::read_at;
 pub use tree::write_path;

@@ -1,20 +1,21 @@
-// Reference counts: a node is freed when its last holder lets go.
+// Reference counts: a node is freed when its last holder lets go. Links are nodes or none, so no index is tested; `nodes` is
+// there for the contracts.
 ghost use mathlib.Core.Path.{_≡_};
-ghost use Rattle.pool.specs.Pool.{retain, release};
+ghost use Prim.Native.Nat.{_*_, _<_, _≤_};
+ghost use lib.ListN.{length};
+ghost use Rattle.pool.specs.Links.{Link, LinksIn, LetGo};
+ghost use Rattle.pool.specs.Pool.{refcount, retain, release};
 use crate::node::NONE;
-use crate::node::left_of;
-use crate::node::refcount_of;
-use crate::node::right_of;
-use crate::node::set_node;
-use crate::node::set_refcount;
+use crate::node::store_node;
 
 // One holder more; no node, no change.
-pub fn retain(pool: &mut [u32], i: u32)
+pub fn retain(pool: &mut [u32], nodes: u32, i: u32)
+    requires { ⌜ (4 * nodes ≤ length (now pool)) × Link nodes i ⌝ }
     ensures { λ _. ⌜ now (pool .exit) ≡ retain (now (pool .entry)) i ⌝ }
 {
     if i != NONE {
-        let c = refcount_of(pool, i);
-        set_refcount(pool, i, words::add(c, 1));
+        let at = 4 * (i as usize);
+        pool[at] = words::add(pool[at], 1);
     }
 }
 
@@ -24,37 +25,62 @@ pub struct FreeList {
     pub count: u32,
 }
 
-// One holder less of a node of this level; at zero it is freed, then its left link is released, then its right. Takes and
-// gives the free list.
-pub fn release(pool: &mut [u32], free: u32, count: u32, i: u32, level: u32) -> FreeList
-    ensures { λ r. ⌜ (now (pool .exit) ≡ release level (now (pool .entry)) free count i .0)
-        × (r .first ≡ release level (now (pool .entry)) free count i .1)
-        × (r .count ≡ release level (now (pool .entry)) free count i .2) ⌝ }
+// One holder less. True if it was the last: node i is then to be freed, and nothing is stored.
+fn let_go(pool: &mut [u32], nodes: u32, i: u32) -> bool
+    requires { ⌜ (4 * nodes ≤ length (now pool)) × Link nodes i ⌝ }
+    ensures { λ r. ⌜ LetGo r nodes (now (pool .entry)) (now (pool .exit)) i ⌝ }
 {
     if i == NONE {
-        return FreeList {
-            first: free,
-            count: count,
-        };
+        return false;
     }
-    let c = refcount_of(pool, i);
+    let at = 4 * (i as usize);
+    let c = pool[at];
     if c > 1 {
-        set_refcount(pool, i, c - 1);
-        return FreeList {
-            first: free,
-            count: count,
-        };
+        pool[at] = c - 1;
+        return false;
     }
-    let left = left_of(pool, i);
-    let right = right_of(pool, i);
-    set_node(pool, i, 0, free, 0, 0);
-    let more = words::add(count, 1);
+    true
+}
+
+// Frees node i of this level, whose last holder let go, then releases its left link, then its right. Counts the free nodes
+// in `spare`, and gives the first.
+fn free_tree(pool: &mut [u32], nodes: u32, spare: &mut u32, free: u32, i: u32, level: u32) -> u32
+    requires { ⌜ LinksIn nodes (now pool) × (i < nodes) × Link nodes free × (refcount (now pool) i ≤ 1) ⌝ }
+    ensures { λ r. ⌜ (now (pool .exit) ≡ release level (now (pool .entry)) free (now (spare .entry)) i .0)
+        × (r ≡ release level (now (pool .entry)) free (now (spare .entry)) i .1)
+        × (now (spare .exit) ≡ release level (now (pool .entry)) free (now (spare .entry)) i .2) ⌝ }
+{
+    let at = 4 * (i as usize);
+    let left = pool[at + 1];
+    let right = pool[at + 2];
+    store_node(pool, nodes, i, 0, free, 0, 0);
+    *spare = words::add(*spare, 1);
     if level == 0 {
-        return FreeList {
-            first: i,
-            count: more,
-        };
+        return i;
     }
-    let list = release(pool, i, more, left, level - 1);
-    release(pool, list.first, list.count, right, level - 1)
+    if let_go(pool, nodes, left) {
+        let first = free_tree(pool, nodes, spare, i, left, level - 1);
+        if let_go(pool, nodes, right) {
+            return free_tree(pool, nodes, spare, first, right, level - 1);
+        }
+        return first;
+    }
+    if let_go(pool, nodes, right) {
+        return free_tree(pool, nodes, spare, i, right, level - 1);
+    }
+    i
+}
+
+// One holder less of a node of this level; at zero it is freed, then its left link is released, then its right. Counts the
+// free nodes in `spare`, and gives the first.
+pub fn release(pool: &mut [u32], nodes: u32, spare: &mut u32, free: u32, i: u32, level: u32) -> u32
+    requires { ⌜ LinksIn nodes (now pool) × (0 < nodes) × Link nodes free × Link nodes i ⌝ }
+    ensures { λ r. ⌜ (now (pool .exit) ≡ release level (now (pool .entry)) free (now (spare .entry)) i .0)
+        × (r ≡ release level (now (pool .entry)) free (now (spare .entry)) i .1)
+        × (now (spare .exit) ≡ release level (now (pool .entry)) free (now (spare .entry)) i .2) ⌝ }
+{
+    if let_go(pool, nodes, i) {
+        return free_tree(pool, nodes, spare, free, i, level);
+    }
+    free
 }

@@ -4,22 +4,24 @@ use mathlib.Core.Logic.{inl, inr}
 use mathlib.Core.Bool.{Bool, true, false, cond, not, _&&_, and-false}
 use mathlib.Core.List.{List}
 use Prim.Native.Nat.{ℕ, zero, suc, _+_, _-_, _*_, _%_, _^_, _≤_, _<_, min}
-use native.Mathlib.Nat.{lt-of-lt-of-le, add-zero, add-suc}
+use native.Mathlib.Nat.{add-zero, add-suc}
 use native.Mathlib.Numerals.{add-one, sub-one}
 use native.Mathlib.Omega.{arith}
-use borrow.Author.Tests.{eq-eqb, ne-eqb, lt-ltb, le-ltb, le-leb, lt-leb, not-true, not-false}
+use native.Mathlib.Decide.{ℕ-discrete}
+use borrow.Author.Tests.{eq-eqb, ne-eqb, eqb-false, lt-ltb, le-ltb, le-leb, lt-leb, not-true, not-false}
 use lib.Dec.{eqb, leb, ltb}
-use lib.ListN.{length, set}
-use lib.Pow.{pow-mono, shl-exact}
+use lib.ListN.{length, getD, set}
+use lib.Pow.{shl-exact}
 use Rattle.words.specs.Basics.{none, all}
 use Rattle.sizes.specs.Sizes.{height}
 use Rattle.words.specs.Tests.{decided}
-use Rattle.pool.specs.Pool.{left, right, value}
+use Rattle.pool.specs.Pool.{refcount, left, right, value}
+use Rattle.soundness.specs.Soundness.{isFree}
 use Rattle.pool_check.specs.declared.PoolChecked.{PoolChecked}
 use Rattle.pool_check.specs.declared.PoolChecked.the-variants.{Bad, Good}
-use Rattle.pool_check.specs.Ways.{onLeft, visit-off, visit-leaf, visit-left, visit-end, visit-right, take-yes, take-no, settle-off, settle-on, run-out, run-off, run-on}
+use Rattle.pool_check.specs.Ways.{onLeft, visit-off, visit-again, visit-shapeless, visit-below, below-leaf, below-left, below-end, below-right, settle-off, settle-on, run-out, run-off, run-on}
 use Rattle.pool_check.specs.Answer.{inBounds}
-use Rattle.pool_check.specs.Algorithm.{mark, fresh, visited, shaped, visit, visitPlace, visitPlaces, nodeRight, unvisited, takeFree, followFree, settle, runCheck}
+use Rattle.pool_check.specs.Algorithm.{mark, links, counted, fresh, stamp, shaped, stamped, linked, visit, below, onward, Met, visitPlace, visitPlaces, nodeRight, unvisited, vacant, chainFrom, settle, runCheck}
 
 -- the two parts of an equation of pairs, and back
 pub parts : {A : Type 0} {p q : List ℕ × A} → p ≡ q → (p .0 ≡ q .0) × (p .1 ≡ q .1)
@@ -45,52 +47,97 @@ pub shaped-leaf : (ws : List ℕ) (l i : ℕ) → l ≡ 0 → shaped ws l i ≡ 
 shaped-leaf ws zero i h = refl
 shaped-leaf ws (suc l) i h = absurd (omega arith)
 
--- ---- the two halves of a group: past the width of a word the left one has all
-
-pub below-pow : (k l : ℕ) → k < 2 ^ 32 → 32 ≤ l → k < 2 ^ l
-below-pow k l h b = lt-of-lt-of-le h (pow-mono b)
+-- ---- the left half of a group
 
 pub shl-one : (l : ℕ) → l < 32 → 1 * 2 ^ l % 4294967296 ≡ 2 ^ l
 shl-one l h = shl-exact {a = 1} 1 l 32 (omega arith) (omega arith) ∙ omega arith
 
--- ---- a visit by its ways out, from a level
+-- ---- a node met, by the ways out
 
-module _ (N : ℕ) (ws : List ℕ) (k i c : ℕ) (w : List ℕ) where
-  pub visit-shapeless : (l : ℕ) → ltb i N && shaped ws l i ≡ false → (w, false) ≡ visit N ws l k i c w
-  visit-shapeless l h = sym (visit-off N ws k i c w l h)
+module _ (N : ℕ) (ws : List ℕ) (l k i : ℕ) (w : List ℕ) where
+  pub met-off : N ≤ i → Met N ws l k i w w 0
+  met-off h = record { is = visit-off N ws k i w l h; most = omega arith; first = λ e. absurd (omega arith) }
 
-  pub visit-bottom : (l : ℕ) → l ≡ 0 → ltb i N && shaped ws l i ≡ true → (visited w i c, true) ≡ visit N ws l k i c w
-  visit-bottom zero e h = sym (visit-leaf N ws k i c w h)
-  visit-bottom (suc l) e h = absurd (omega arith)
+  module _ (b : i < N) where
+    pub met-same : (getD w i 0 ≡ 0 → ⊥) → getD w i 0 % 8192 ≡ stamp l k → Met N ws l k i w (linked w i) 1
+    met-same u e = record { is = visit-again N ws k i w b l u ∙ ap (λ q. (linked w i, q)) (eq-eqb _ _ e); most = omega arith; first = λ z. absurd (omega arith) }
 
-  -- what the visit of the left child leaves and answers
-  pub on-left : (l : ℕ) {kl a f : ℕ} {w₁ w₂ : List ℕ} {b : Bool} → (w₂ ≡ visit N ws l kl a f w₁ .0) × (b ≡ visit N ws l kl a f w₁ .1)
-      → kl ≡ min k (2 ^ l) → a ≡ left ws i → w₁ ≡ visited w i c → f ≡ fresh w i → (w₂ ≡ onLeft N ws k i c w l .0) × (b ≡ onLeft N ws k i c w l .1)
-  on-left l v ek ea ew ef = rw (← ek, ← ea, ← ew, ← ef) v
+    pub met-other : (getD w i 0 ≡ 0 → ⊥) → (getD w i 0 % 8192 ≡ stamp l k → ⊥) → Met N ws l k i w (linked w i) 0
+    met-other u e = record { is = visit-again N ws k i w b l u ∙ ap (λ q. (linked w i, q)) (ne-eqb _ _ e); most = omega arith; first = λ z. absurd (omega arith) }
 
-  module _ (l : ℕ) (e : l ≡ 0 → ⊥) (h : ltb i N && shaped ws l i ≡ true) {w₂ : List ℕ} {b : Bool} (v : (w₂ ≡ onLeft N ws k i c w (l - 1) .0) × (b ≡ onLeft N ws k i c w (l - 1) .1)) where
-    level : suc (l - 1) ≡ l
-    level = omega arith
+    module _ (u : getD w i 0 ≡ 0) where
+      pub met-shapeless : shaped ws l i ≡ false → Met N ws l k i w (stamped w i (stamp l k)) 0
+      met-shapeless s = record { is = visit-shapeless N ws k i w b u l s; most = omega arith; first = λ z. absurd (omega arith) }
 
-    inner : ltb i N && shaped ws (suc (l - 1)) i ≡ true
-    inner = ap (λ (q : ℕ). ltb i N && shaped ws q i) level ∙ h
+      pub met-leaf : shaped ws l i ≡ true → l ≡ 0 → Met N ws l k i w (stamped w i (stamp l k)) 1
+      met-leaf s e = record { is = visit-below N ws k i w b u l s ∙ below-leaf N ws l k i (stamped w i (stamp l k)) e; most = omega arith; first = λ z. absurd (omega arith) }
 
-    from-level : visit N ws (suc (l - 1)) k i c w ≡ visit N ws l k i c w
-    from-level = ap (λ (q : ℕ). visit N ws q k i c w) level
+      pub met-first : shaped ws l i ≡ true → (l ≡ 0 → ⊥) → Met N ws l k i w (stamped w i (stamp l k)) 2
+      met-first s e = record { is = visit-below N ws k i w b u l s; most = omega arith; first = λ z. (b, omega arith) }
 
-    pub visit-left-fails : not b ≡ true → (w₂, false) ≡ visit N ws l k i c w
-    visit-left-fails t = rw (v .0) (sym (visit-left N ws k i c w (l - 1) inner (failed (v .1) t)) ∙ from-level)
+-- ---- what comes of it
+
+module _ (N : ℕ) (ws : List ℕ) (l k i : ℕ) (w w' : List ℕ) (r : ℕ) (m : Met N ws l k i w w' r) where
+  pub met-no : r ≡ 0 → visit N ws l k i w ≡ (w', false)
+  met-no e = m .is ∙ ap (λ q. onward q w' (below N ws l k i)) e
+
+  pub met-yes : (r ≡ 0 → ⊥) → (r ≡ 2 → ⊥) → visit N ws l k i w ≡ (w', true)
+  met-yes some done = let e : r ≡ 1 = omega (arith, m .most) in m .is ∙ ap (λ q. onward q w' (below N ws l k i)) e
+
+  pub met-below : r ≡ 2 → visit N ws l k i w ≡ below N ws l k i w'
+  met-below e = m .is ∙ ap (λ q. onward q w' (below N ws l k i)) e
+
+  -- no first visit: the answer says it
+  pub met-answer : (r ≡ 2 → ⊥) → visit N ws l k i w ≡ (w', eqb r 1)
+  met-answer done = elim (ℕ-discrete r 0) [
+    | yes e ↦ met-no e ∙ ap (λ q. (w', q)) (sym (ne-eqb r 1 (omega arith)))
+    | no e ↦ met-yes e done ∙ ap (λ q. (w', q)) (sym (eq-eqb r 1 (omega (arith, m .most))))
+  ]
+
+-- ---- below a node of a level that is not 0: the left child, of which w₂ is left, and the right one
+
+module _ (N : ℕ) (ws : List ℕ) (level k i : ℕ) (w : List ℕ) (pos : 0 < level) {part a : ℕ} (ek : part ≡ min k (2 ^ (level - 1))) (ea : a ≡ left ws i) where
+  from-level : below N ws (suc (level - 1)) k i w ≡ below N ws level k i w
+  from-level = let e : suc (level - 1) ≡ level = omega arith in ap (λ q. below N ws q k i w) e
+
+  left-is : onLeft N ws (level - 1) k i w ≡ visit N ws (level - 1) part a w
+  left-is = rw (ek, ea)
+
+  failing : (w₂ : List ℕ) → visit N ws (level - 1) part a w ≡ (w₂, false) → (w₂, false) ≡ below N ws level k i w
+  failing w₂ v =
+      let e : onLeft N ws (level - 1) k i w ≡ (w₂, false) = left-is ∙ v in
+      ap (λ p. (p .0, false)) (sym e) ∙ sym (below-left N ws (level - 1) k i w (ap (λ p. p .1) e)) ∙ from-level
+
+  module _ {w₁ : List ℕ} {r : ℕ} (m : Met N ws (level - 1) part a w w₁ r) where
+    pub walk-refused : r ≡ 0 → (w₁, false) ≡ below N ws level k i w
+    walk-refused e = failing w₁ (met-no N ws (level - 1) part a w w₁ r m e)
+
+    module _ {w₂ : List ℕ} {b : Bool} (e : r ≡ 2) (v : (w₂ ≡ below N ws (level - 1) part a w₁ .0) × (b ≡ below N ws (level - 1) part a w₁ .1)) where
+      walked : visit N ws (level - 1) part a w ≡ (w₂, b)
+      walked = met-below N ws (level - 1) part a w w₁ r m e ∙ pair _ v
+
+      pub walk-fails : not b ≡ true → (w₂, false) ≡ below N ws level k i w
+      walk-fails t = failing w₂ (walked ∙ ap (λ q. (w₂, q)) (not-true b t))
+
+      pub left-walked : not b ≡ false → visit N ws (level - 1) part a w ≡ (w₂, true)
+      left-walked t = walked ∙ ap (λ q. (w₂, q)) (not-false b t)
+
+  module _ {w₂ : List ℕ} (v : visit N ws (level - 1) part a w ≡ (w₂, true)) {j : ℕ} (ej : j ≡ right ws i) where
+    on-left : onLeft N ws (level - 1) k i w ≡ (w₂, true)
+    on-left = left-is ∙ v
 
     -- what the left child leaves of the splitters
-    rest : {kl : ℕ} → kl ≡ min k (2 ^ (l - 1)) → k - kl ≡ k - 2 ^ (l - 1)
-    rest ek = omega arith
+    rest : k - part ≡ k - 2 ^ (level - 1)
+    rest = omega arith
 
-    pub visit-no-right : not b ≡ false → {kl r : ℕ} → kl ≡ min k (2 ^ (l - 1)) → k - kl ≡ 0 → r ≡ right ws i → (w₂, eqb r none) ≡ visit N ws l k i c w
-    visit-no-right t ek z er = rw (v .0, er) (sym (visit-end N ws k i c w (l - 1) inner (held (v .1) t) (sym (rest ek) ∙ z)) ∙ from-level)
+    pub walk-ends : k - part ≡ 0 → (w₂, eqb j none) ≡ below N ws level k i w
+    walk-ends z =
+        rw (← ap (λ p. p .0) on-left, ej) (sym (below-end N ws (level - 1) k i w (ap (λ p. p .1) on-left) (sym rest ∙ z)) ∙ from-level)
 
-    pub visit-goes-right : not b ≡ false → {kl r f : ℕ} → kl ≡ min k (2 ^ (l - 1)) → (k - kl ≡ 0 → ⊥) → r ≡ right ws i → f ≡ fresh w i → visit N ws (l - 1) (k - kl) r f w₂ ≡ visit N ws l k i c w
-    visit-goes-right t ek z er ef =
-        rw (v .0, er, ef, rest ek) (sym (visit-right N ws k i c w (l - 1) inner (held (v .1) t) (λ q. z (rest ek ∙ q))) ∙ from-level)
+    module _ (z : k - part ≡ 0 → ⊥) where
+      pub walk-right : visit N ws (level - 1) (k - part) j w₂ ≡ below N ws level k i w
+      walk-right =
+          rw (← ap (λ p. p .0) on-left, ej, rest) (sym (below-right N ws (level - 1) k i w (ap (λ p. p .1) on-left) (λ q. z (rest ∙ q))) ∙ from-level)
 
 -- ---- the places
 
@@ -117,57 +164,67 @@ module _ (n h N : ℕ) (fs ws w₀ : List ℕ) where
 
 -- ---- the nodes
 
-pub scan-done : (ws w : List ℕ) (N i free : ℕ) → i ≡ N → all i (nodeRight ws w) ≡ true → free ≡ unvisited i w → Good free ≡ cond (all N (nodeRight ws w)) (Good (unvisited N w)) Bad
-scan-done ws w N i free e a f = rw (← e, a) (ap Good f)
+-- the links of a node that was not visited are none
+pub counted-links : (w : List ℕ) (i : ℕ) → links w i ≡ counted w i
+counted-links w i = elim (decided (eqb (mark w i) 1)) [
+  | inl e ↦ rw e
+  | inr e ↦ (let d : mark w i ≡ 1 → ⊥ = eqb-false (mark w i) 1 e in rw e (omega arith))
+]
+
+-- one node more
+pub all-step : (i : ℕ) (f : ℕ → Bool) {s t : Bool} → s ≡ all i f → t ≡ f i → s && t ≡ all (i + 1) f
+all-step i f es et = rw (add-one, es, et)
+
+module _ (ws w : List ℕ) (N i : ℕ) (s : Bool) (e : i ≡ N) (a : s ≡ all i (nodeRight ws w)) where
+  pub scan-right : s ≡ true → {free : ℕ} → free ≡ unvisited i w → Good free ≡ cond (all N (nodeRight ws w)) (Good (unvisited N w)) Bad
+  scan-right t f = rw (← e, sym a ∙ t) (ap Good f)
+
+  pub scan-wrong : s ≡ false → Bad ≡ cond (all N (nodeRight ws w)) (Good (unvisited N w)) Bad
+  scan-wrong t = rw (← e, sym a ∙ t)
 
 -- ---- the free chain
 
-module _ (N : ℕ) (w : List ℕ) (a : ℕ) where
-  pub take-off : N ≤ a → (w, false) ≡ takeFree N w a
-  take-off h = sym (take-no N w a (rw (le-ltb a N h)))
+module _ (N : ℕ) (ws w : List ℕ) where
+  pub chain-off : (c a : ℕ) → 0 < c → N ≤ a → chainFrom N ws w c a ≡ false
+  unfolding chainFrom
+  chain-off zero a b h = absurd (omega arith)
+  chain-off (suc c) a b h = rw (le-ltb a N h)
 
-  pub take-visited : fresh w a ≡ 0 → (w, false) ≡ takeFree N w a
-  take-visited h = sym (take-no N w a (rw (ne-eqb (mark w a) 0 (omega arith)) (and-false (ltb a N))))
+  pub chain-full : (c a : ℕ) → 0 < c → vacant ws w a ≡ false → chainFrom N ws w c a ≡ false
+  unfolding chainFrom
+  chain-full zero a b h = absurd (omega arith)
+  chain-full (suc c) a b h = rw h (and-false (ltb a N))
 
-  pub take-fresh : a < N → (fresh w a ≡ 0 → ⊥) → (set w a 1, true) ≡ takeFree N w a
-  take-fresh b h = sym (take-yes N w a (rw (lt-ltb a N b, eq-eqb (mark w a) 0 (omega arith))))
+  pub chain-next : (c a : ℕ) → 0 < c → a < N → vacant ws w a ≡ true → chainFrom N ws w (c - 1) (left ws a) ≡ chainFrom N ws w c a
+  unfolding chainFrom
+  chain-next zero a b i h = absurd (omega arith)
+  chain-next (suc c) a b i h = rw (sub-one, lt-ltb a N i, h)
 
-module _ (N : ℕ) (ws : List ℕ) where
-  pub follow-next : (c a : ℕ) (w : List ℕ) → 0 < c → takeFree N w a .1 ≡ true → followFree N ws (c - 1) (left ws a) (takeFree N w a .0) ≡ followFree N ws c a w
-  unfolding followFree
-  follow-next zero a w b e = absurd (omega arith)
-  follow-next (suc c) a w b e = rw (sub-one, e)
-
-  pub follow-fail : (c a : ℕ) (w : List ℕ) → 0 < c → takeFree N w a .1 ≡ false → (takeFree N w a .0, false) ≡ followFree N ws c a w
-  unfolding followFree
-  follow-fail zero a w b e = absurd (omega arith)
-  follow-fail (suc c) a w b e = rw e
-
-  pub follow-done : (c a : ℕ) (w : List ℕ) → c ≤ 0 → (w, eqb a none) ≡ followFree N ws c a w
-  unfolding followFree
-  follow-done zero a w b = refl
-  follow-done (suc c) a w b = absurd (omega arith)
+  pub chain-end : (c a : ℕ) → c ≤ 0 → eqb a none ≡ chainFrom N ws w c a
+  unfolding chainFrom
+  chain-end zero a b = refl
+  chain-end (suc c) a b = absurd (omega arith)
 
 -- ---- the whole
 
 -- what the scan answered
 module _ (N : ℕ) (ws : List ℕ) (first : ℕ) (w : List ℕ) (r : PoolChecked) (e : r ≡ cond (all N (nodeRight ws w)) (Good (unvisited N w)) Bad) where
-  pub settle-wrong : r ≡ Bad → (w, Bad) ≡ settle N ws first w
+  pub settle-wrong : r ≡ Bad → Bad ≡ settle N ws first w
   settle-wrong b = elim (decided (all N (nodeRight ws w))) [
     | inl h ↦ (let g : r ≡ Good (unvisited N w) = rw h at e in let z : _≡_ {A = ℕ} 0 1 = cc in absurd (omega arith))
     | inr h ↦ sym (settle-off N ws first w h)
   ]
 
-  settle-right : (free : ℕ) → r ≡ Good free → (followFree N ws free first w .0, cond (followFree N ws free first w .1) (Good free) Bad) ≡ settle N ws first w
+  settle-right : (free : ℕ) → r ≡ Good free → cond (chainFrom N ws w free first) (Good free) Bad ≡ settle N ws first w
   settle-right free g = elim (decided (all N (nodeRight ws w))) [
     | inl h ↦ (let g' : r ≡ Good (unvisited N w) = rw h at e in let z : free ≡ unvisited N w = cc in rw (z, settle-on N ws first w h))
     | inr h ↦ (let b : r ≡ Bad = rw h at e in let z : _≡_ {A = ℕ} 0 1 = cc in absurd (omega arith))
   ]
 
-  pub settle-found : (free : ℕ) → r ≡ Good free → followFree N ws free first w .1 ≡ true → (followFree N ws free first w .0, Good free) ≡ settle N ws first w
+  pub settle-found : (free : ℕ) → r ≡ Good free → chainFrom N ws w free first ≡ true → Good free ≡ settle N ws first w
   settle-found free g t = rw t at (settle-right free g)
 
-  pub settle-lost : (free : ℕ) → r ≡ Good free → followFree N ws free first w .1 ≡ false → (followFree N ws free first w .0, Bad) ≡ settle N ws first w
+  pub settle-lost : (free : ℕ) → r ≡ Good free → chainFrom N ws w free first ≡ false → Bad ≡ settle N ws first w
   settle-lost free g t = rw t at (settle-right free g)
 
 module _ (n N first : ℕ) (fs ws w : List ℕ) where
@@ -177,15 +234,19 @@ module _ (n N first : ℕ) (fs ws w : List ℕ) where
   pub out-nodes : 16384 < N → (w, Bad) ≡ runCheck n N first fs ws w
   out-nodes h = sym (run-out n N first fs ws w (rw (lt-leb N 16384 h) (and-false (leb n 256))))
 
-  pub out-work : length w < N → (w, Bad) ≡ runCheck n N first fs ws w
-  out-work h = sym (run-out n N first fs ws w (rw (lt-leb N (length w) h, and-false (leb N 16384)) (and-false (leb n 256))))
+  pub out-pool : length ws < 4 * N → (w, Bad) ≡ runCheck n N first fs ws w
+  out-pool h = sym (run-out n N first fs ws w (rw (lt-leb (4 * N) (length ws) h, and-false (leb N 16384)) (and-false (leb n 256))))
 
-  module _ (h : ℕ) (a : n ≤ 256) (b : N ≤ 16384) (l : N ≤ length w) (e : h ≡ height n) where
-    inside : inBounds n N w ≡ true
-    inside = rw (le-leb n 256 a, le-leb N 16384 b, le-leb N (length w) l)
+  pub out-work : length w < N → (w, Bad) ≡ runCheck n N first fs ws w
+  out-work h =
+      sym (run-out n N first fs ws w (rw (lt-leb N (length w) h, and-false (leb (4 * N) (length ws)), and-false (leb N 16384)) (and-false (leb n 256))))
+
+  module _ (h : ℕ) (a : n ≤ 256) (b : N ≤ 16384) (p : 4 * N ≤ length ws) (l : N ≤ length w) (e : h ≡ height n) where
+    inside : inBounds n N ws w ≡ true
+    inside = rw (le-leb n 256 a, le-leb N 16384 b, le-leb (4 * N) (length ws) p, le-leb N (length w) l)
 
     pub run-failed : visitPlaces n h N fs ws 64 w .1 ≡ false → (visitPlaces n h N fs ws 64 w .0, Bad) ≡ runCheck n N first fs ws w
     run-failed t = rw e (sym (run-off n N first fs ws w inside (rw e at t)))
 
-    pub run-settled : visitPlaces n h N fs ws 64 w .1 ≡ true → settle N ws first (visitPlaces n h N fs ws 64 w .0) ≡ runCheck n N first fs ws w
+    pub run-settled : visitPlaces n h N fs ws 64 w .1 ≡ true → (visitPlaces n h N fs ws 64 w .0, settle N ws first (visitPlaces n h N fs ws 64 w .0)) ≡ runCheck n N first fs ws w
     run-settled t = rw e (sym (run-on n N first fs ws w inside (rw e at t)))

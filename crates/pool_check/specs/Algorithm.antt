@@ -1,35 +1,34 @@
 -- The check of the pool as the code runs it. Definitions only; every one is total.
--- A word of the work slice w is twice the links counted to the node, plus its mark: 1 if it was visited.
+-- A word of the work slice w is 0 if the node was not visited; else the node's stamp plus 8192 times the links counted to it.
+use mathlib.Core.Path.{_≡_}
 use mathlib.Core.Bool.{Bool, true, false, cond, _&&_}
 use mathlib.Core.List.{List}
-use Prim.Native.Nat.{ℕ, zero, suc, _-_, _/_, _%_, _^_, min}
+use Prim.Native.Nat.{ℕ, zero, suc, _+_, _-_, _*_, _/_, _%_, _^_, _≤_, _<_, min}
 use lib.Dec.{eqb, ltb}
-use lib.ListN.{getD, set}
+use lib.ListN.{length, getD, set}
 use Rattle.words.specs.Basics.{none, plus, sum, all}
 use Rattle.sizes.specs.Sizes.{height}
 use Rattle.pool.specs.Pool.{refcount, left, right, value, nextFree}
 use Rattle.frames.specs.Frames.{frameAt}
-use Rattle.soundness.specs.Soundness.{lives, isFree}
+use Rattle.soundness.specs.Soundness.{lives}
 use Rattle.pool_check.specs.Answer.{inBounds}
 use Rattle.pool_check.specs.declared.PoolChecked.{PoolChecked}
 use Rattle.pool_check.specs.declared.PoolChecked.the-variants.{Bad, Good}
 
+-- 1 if node i was visited, else 0
 abbrev pub mark : List ℕ → ℕ → ℕ
-mark w i = getD w i 0 % 2
+mark w i = min 1 (getD w i 0)
 
 abbrev pub links : List ℕ → ℕ → ℕ
-links w i = getD w i 0 / 2
+links w i = getD w i 0 / 8192
 
 -- 1 if node i was not visited, else 0
 abbrev pub fresh : List ℕ → ℕ → ℕ
 fresh w i = 1 - mark w i
 
--- node i visited, by c links that count
-abbrev pub visitedWord : List ℕ → ℕ → ℕ → ℕ
-visitedWord w i c = plus (plus (getD w i 0) (plus c c)) (fresh w i)
-
-abbrev pub visited : List ℕ → ℕ → ℕ → List ℕ
-visited w i c = set w i (visitedWord w i c)
+-- how a node stands in its trees: its level l, and the k splitters under it
+abbrev pub stamp : ℕ → ℕ → ℕ
+stamp l k = 512 * l + k
 
 -- the second, if the first went well
 abbrev pub andThen : List ℕ × Bool → (List ℕ → List ℕ × Bool) → List ℕ × Bool
@@ -42,21 +41,63 @@ abbrev pub shaped : List ℕ → ℕ → ℕ → Bool
 shaped ws zero i = eqb (left ws i) none && eqb (right ws i) none
 shaped ws (suc l) i = eqb (value ws i) 0
 
--- the tree of node i at level l, over k splitters, is visited. c is 1 if the link to i is to be counted; a node's own links
--- are counted when it is first visited
-unfoldable pub visit : ℕ → List ℕ → ℕ → ℕ → ℕ → ℕ → List ℕ → List ℕ × Bool
-visit N ws zero k i c w = elim (ltb i N && shaped ws zero i) [ true ↦ (visited w i c, true) | false ↦ (w, false) ]
-visit N ws (suc l) k i c w =
-    elim (ltb i N && shaped ws (suc l) i) [
-      | true ↦
-          andThen (visit N ws l (min k (2 ^ l)) (left ws i) (fresh w i) (visited w i c))
-          (λ w'. elim (eqb (k - 2 ^ l) 0) [ true ↦ (w', eqb (right ws i) none) | false ↦ visit N ws l (k - 2 ^ l) (right ws i) (fresh w i) w' ])
+-- node i visited for the first time, by one link
+abbrev pub stamped : List ℕ → ℕ → ℕ → List ℕ
+stamped w i s = set w i (s + 8192)
+
+-- one link more to node i
+abbrev pub linked : List ℕ → ℕ → List ℕ
+linked w i = set w i (plus (getD w i 0) 8192)
+
+-- a link to node i, which is to stand at level l over k splitters. At the first visit it is stamped so, and f goes on; later the
+-- stamp must be the same
+abbrev pub meet : ℕ → List ℕ → ℕ → ℕ → ℕ → List ℕ → (List ℕ → List ℕ × Bool) → List ℕ × Bool
+meet N ws l k i w f =
+    elim (ltb i N) [
+      | true ↦ elim (eqb (getD w i 0) 0) [
+        | true ↦ elim (shaped ws l i) [ true ↦ f (stamped w i (stamp l k)) | false ↦ (stamped w i (stamp l k), false) ]
+        | false ↦ (linked w i, eqb (getD w i 0 % 8192) (stamp l k))
+      ]
       | false ↦ (w, false)
     ]
 
+-- the children of node i, at level l, which stands over k splitters; v visits one
+abbrev pub children : List ℕ → ℕ → ℕ → ℕ → (ℕ → ℕ → List ℕ → List ℕ × Bool) → List ℕ → List ℕ × Bool
+children ws l k i v w =
+    andThen (v (min k (2 ^ l)) (left ws i) w) (λ w'. elim (eqb (k - 2 ^ l) 0) [ true ↦ (w', eqb (right ws i) none) | false ↦ v (k - 2 ^ l) (right ws i) w' ])
+
+-- a link to node i, which is to be the root of a tree of level l over k splitters: the tree is walked at the first visit only
+unfoldable pub visit : ℕ → List ℕ → ℕ → ℕ → ℕ → List ℕ → List ℕ × Bool
+visit N ws zero k i w = meet N ws zero k i w (λ w'. (w', true))
+visit N ws (suc l) k i w = meet N ws (suc l) k i w (children ws l k i (visit N ws l))
+
+-- what such a first visit does below the node
+unfoldable pub below : ℕ → List ℕ → ℕ → ℕ → ℕ → List ℕ → List ℕ × Bool
+below N ws zero k i w = (w, true)
+below N ws (suc l) k i w = children ws l k i (visit N ws l) w
+
+-- the visit when its node was met: 0 is no, 1 is yes, 2 is that f goes on below the node
+abbrev pub onward : ℕ → List ℕ → (List ℕ → List ℕ × Bool) → List ℕ × Bool
+onward zero w f = (w, false)
+onward (suc zero) w f = (w, true)
+onward (suc (suc r)) w f = f w
+
+-- node i was met, with the answer r; the work slice was w and is w'
+pub record Met (N : ℕ) (ws : List ℕ) (l k i : ℕ) (w w' : List ℕ) (r : ℕ) : Type 0 where
+  pub is : visit N ws l k i w ≡ onward r w' (below N ws l k i)
+  pub most : r ≤ 2
+  pub first : r ≡ 2 → (i < N) × (0 < l)
+
+-- pool and work slice have room for N nodes, and a stamp for a word
+pub record Roomy (N : ℕ) (ws w : List ℕ) (l k : ℕ) : Type 0 where
+  pub pool : 4 * N ≤ length ws
+  pub work : N ≤ length w
+  pub level : l ≤ 8
+  pub part : k ≤ 256
+
 -- the tree, of height h over n splitters, of the frame at place p, if it lives
 unfoldable pub visitPlace : ℕ → ℕ → ℕ → List ℕ → List ℕ → ℕ → List ℕ → List ℕ × Bool
-visitPlace n h N fs ws p w = elim (lives fs p) [ true ↦ visit N ws h n (frameAt fs p .root) 1 w | false ↦ (w, true) ]
+visitPlace n h N fs ws p w = elim (lives fs p) [ true ↦ visit N ws h n (frameAt fs p .root) w | false ↦ (w, true) ]
 
 -- those of the places below c
 unfoldable pub visitPlaces : ℕ → ℕ → ℕ → List ℕ → List ℕ → ℕ → List ℕ → List ℕ × Bool
@@ -65,9 +106,13 @@ visitPlaces n h N fs ws (suc c) w = andThen (visitPlaces n h N fs ws c w) (visit
 
 -- ---- the nodes
 
--- visited: the links counted are its holders; not visited: it is free
+-- the links counted to node i; none, if it was not visited
+abbrev pub counted : List ℕ → ℕ → ℕ
+counted w i = cond (eqb (mark w i) 1) (links w i) 0
+
+-- the links counted to node i are its holders
 unfoldable pub nodeRight : List ℕ → List ℕ → ℕ → Bool
-nodeRight ws w i = cond (eqb (mark w i) 1) (eqb (refcount ws i) (links w i)) (isFree ws i)
+nodeRight ws w i = eqb (refcount ws i) (counted w i)
 
 -- how many were not visited
 abbrev pub unvisited : ℕ → List ℕ → ℕ
@@ -75,33 +120,31 @@ unvisited N w = sum N (fresh w)
 
 -- ---- the free chain
 
--- node a is a node and was not visited; it is now
-unfoldable pub takeFree : ℕ → List ℕ → ℕ → List ℕ × Bool
-takeFree N w a = elim (ltb a N && eqb (mark w a) 0) [ true ↦ (set w a 1, true) | false ↦ (w, false) ]
+-- node i has no right child and no value, as a free node
+abbrev pub bare : List ℕ → ℕ → Bool
+bare ws i = eqb (right ws i) 0 && eqb (value ws i) 0
 
--- the chain from node a on has just c nodes
-unfoldable pub followFree : ℕ → List ℕ → ℕ → ℕ → List ℕ → List ℕ × Bool
-followFree N ws zero a w = (w, eqb a none)
-followFree N ws (suc c) a w = andThen (takeFree N w a) (followFree N ws c (nextFree ws a))
+-- and was not visited
+unfoldable pub vacant : List ℕ → List ℕ → ℕ → Bool
+vacant ws w i = eqb (fresh w i) 1 && bare ws i
+
+-- the chain from node a on has just c nodes, all of them vacant
+unfoldable pub chainFrom : ℕ → List ℕ → List ℕ → ℕ → ℕ → Bool
+chainFrom N ws w zero a = eqb a none
+chainFrom N ws w (suc c) a = ltb a N && (vacant ws w a && chainFrom N ws w c (nextFree ws a))
 
 -- ---- the whole
 
 -- the nodes and the free chain, after the trees
-unfoldable pub settle : ℕ → List ℕ → ℕ → List ℕ → List ℕ × PoolChecked
-settle N ws first w =
-    elim (all N (nodeRight ws w)) [
-      | true ↦
-          let q : List ℕ × Bool = followFree N ws (unvisited N w) first w in
-          (q .0, cond (q .1) (Good (unvisited N w)) Bad)
-      | false ↦ (w, Bad)
-    ]
+unfoldable pub settle : ℕ → List ℕ → ℕ → List ℕ → PoolChecked
+settle N ws first w = cond (all N (nodeRight ws w) && chainFrom N ws w (unvisited N w) first) (Good (unvisited N w)) Bad
 
 -- w begins with N zeros
 unfoldable pub runCheck : ℕ → ℕ → ℕ → List ℕ → List ℕ → List ℕ → List ℕ × PoolChecked
 runCheck n N first fs ws w =
-    elim (inBounds n N w) [
+    elim (inBounds n N ws w) [
       | true ↦
           let p : List ℕ × Bool = visitPlaces n (height n) N fs ws 64 w in
-          elim (p .1) [ true ↦ settle N ws first (p .0) | false ↦ (p .0, Bad) ]
+          elim (p .1) [ true ↦ (p .0, settle N ws first (p .0)) | false ↦ (p .0, Bad) ]
       | false ↦ (w, Bad)
     ]

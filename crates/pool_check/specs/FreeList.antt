@@ -1,116 +1,179 @@
--- The free chain: it is followed to its end over just the nodes that were not visited if and only if the chain of the
--- definition has each of them once.
+-- The free chain: it is followed to its end over just as many vacant nodes as were not visited if and only if the chain of
+-- the definition has each of those once, and they are vacant.
 use mathlib.Core.Path.{_≡_, refl, sym, ap, _∙_}
-use mathlib.Core.Logic.{inl, inr}
-use mathlib.Core.Bool.{Bool, true, false, _&&_}
-use mathlib.Core.List.{List, [], _∷_}
-use Prim.Native.Nat.{ℕ, zero, suc, _+_, _≤_, _<_}
+use mathlib.Core.Bool.{true}
+use mathlib.Core.List.{List, _∷_}
+use Prim.Native.Nat.{ℕ, zero, suc, _≤_, _<_}
 use native.Mathlib.Omega.{arith}
 use native.Mathlib.Decide.{ℕ-discrete}
-use borrow.Author.Tests.{eqb-true, eqb-false, eq-eqb}
+use borrow.Author.Tests.{eqb-true, eq-eqb}
 use lib.Dec.{eqb, ltb}
-use lib.ListN.{length, set, length-set}
-use lib.Seq.{getD-set-same, getD-set-other}
-use Rattle.words.specs.Basics.{none, δ, count, follow, below}
-use Rattle.words.specs.Counting.{δ-same, δ-other, count-nil, count-cons, sum-upd, sum-le, sum-cong, sum-ge, sum-pos}
-use Rattle.words.specs.Tests.{decided, both, lt-of, ltb-of, true≢false}
+use lib.ListN.{length}
+use Rattle.words.specs.Basics.{none, sum, count, follow, below}
+use Rattle.words.specs.Counting.{δ-same, δ-other, count-nil, count-cons, sum-le, sum-cong}
+use Rattle.words.specs.Tests.{both, lt-of, ltb-of}
 use Rattle.words.specs.Loops.{follow-none, follow-step, count-sum}
 use Rattle.pool.specs.Pool.{nextFree}
-use Rattle.pool_check.specs.Algorithm.{mark, fresh, unvisited, andThen, takeFree, followFree}
-use Rattle.pool_check.specs.Ways.{take-yes, take-no, Keeps, keeps-refl, keeps-trans, keeps-set}
+use Rattle.pool_check.specs.Algorithm.{fresh, unvisited, bare, vacant, chainFrom}
 
 pub unvisited-le : (N : ℕ) (w : List ℕ) → unvisited N w ≤ N
 unvisited-le N w = omega (arith, sum-le N 1 (fresh w) (λ j. omega arith))
 
--- ---- one node taken
+-- ---- sums
 
-take-keeps : (N : ℕ) (w : List ℕ) (a : ℕ) → Keeps N w (takeFree N w a .0)
-take-keeps N w a = elim (decided (ltb a N && eqb (mark w a) 0)) [
-  | inl e ↦ rw (take-yes N w a e) (keeps-set N w a 1 (lt-of (both (ltb a N) (eqb (mark w a) 0) e .0)))
-  | inr e ↦ rw (take-no N w a e) keeps-refl
-]
+-- f is nowhere more than g
+sum-upto : (n : ℕ) (f g : ℕ → ℕ) → ((j : ℕ) → j < n → f j ≤ g j) → sum n f ≤ sum n g
+sum-upto zero f g h = omega arith
+sum-upto (suc n) f g h = omega (arith, sum-upto n f g (λ j b. h j (omega arith)), h n (omega arith))
 
-pub follow-keeps : (N : ℕ) (ws : List ℕ) (c a : ℕ) (w : List ℕ) → Keeps N w (followFree N ws c a w .0)
-unfolding followFree
-follow-keeps N ws zero a w = keeps-refl
-follow-keeps N ws (suc c) a w = elim (decided (takeFree N w a .1)) [
-  | inl e ↦ rw e (keeps-trans (take-keeps N w a) (follow-keeps N ws c (nextFree ws a) (takeFree N w a .0)))
-  | inr e ↦ rw e (take-keeps N w a)
-]
+-- and its sum is no less: the two are the same
+sum-tight : (n : ℕ) (f g : ℕ → ℕ) → ((j : ℕ) → j < n → f j ≤ g j) → sum n g ≤ sum n f → (j : ℕ) → j < n → f j ≡ g j
+sum-tight zero f g h s j b = absurd (omega arith)
+sum-tight (suc n) f g h s j b =
+    let h' : (j : ℕ) → j < n → f j ≤ g j = λ j b. h j (omega arith) in
+    elim (ℕ-discrete j n) [
+      | yes e ↦ omega (arith, ap f e, ap g e, h n (omega arith), sum-upto n f g h')
+      | no e ↦ sum-tight n f g h' (omega (arith, h n (omega arith))) j (omega arith)
+    ]
 
--- a node that was not visited, taken
-module _ (N : ℕ) (w : List ℕ) (a : ℕ) (b : a < N) (r : N ≤ length w) (z : mark w a ≡ 0) where
-  taken-fresh : (x : ℕ) → fresh (set w a 1) x + δ x a ≡ fresh w x
-  taken-fresh x = elim (ℕ-discrete x a) [
-    | yes e ↦ rw e (omega (arith, getD-set-same w a 1 0 (omega arith), δ-same a))
-    | no e ↦ omega (arith, getD-set-other w a x 1 0 e, δ-other x a e)
-  ]
+-- ---- a chain that ends
 
-  taken-unvisited : unvisited N (set w a 1) + 1 ≡ unvisited N w
-  taken-unvisited =
-      omega (arith, sum-upd N a (fresh (set w a 1)) (fresh w) b (λ j _ d. omega (arith, taken-fresh j, δ-other j a d)), taken-fresh a, δ-same a)
-
--- ---- the chain
-
--- the chain xs of the definition has each node that was not visited once
-pub record Chained (N : ℕ) (w xs : List ℕ) : Type 0 where
+-- xs is a list of c vacant nodes, each there once
+pub record Vacants (N : ℕ) (ws w : List ℕ) (c : ℕ) (xs : List ℕ) : Type 0 where
   pub within : below N xs ≡ true
-  pub once : (x : ℕ) → x < N → count x xs ≡ fresh w x
+  pub size : length xs ≡ c
+  pub empty : (x : ℕ) → x < N → 0 < count x xs → vacant ws w x ≡ true
+  pub once : (x : ℕ) → x < N → count x xs ≤ 1
 
-pub chained-length : (N : ℕ) (w xs : List ℕ) → Chained N w xs → length xs ≡ unvisited N w
-chained-length N w xs p = sym (count-sum N xs (p .within)) ∙ sum-cong N (λ i. count i xs) (fresh w) (p .once)
-
-module _ (N : ℕ) (ws : List ℕ) (few : N ≤ 16384) where
+module _ (N : ℕ) (ws w : List ℕ) (few : N ≤ 16384) where
   abbrev chain : ℕ → ℕ → List ℕ
   chain f a = follow f (nextFree ws) a
 
-  then-yes : (a c : ℕ) (w : List ℕ) → ltb a N && eqb (mark w a) 0 ≡ true → andThen (takeFree N w a) (followFree N ws c (nextFree ws a)) .1 ≡ followFree N ws c (nextFree ws a) (set w a 1) .1
-  then-yes a c w q = ap (λ (p : List ℕ × Bool). andThen p (followFree N ws c (nextFree ws a)) .1) (take-yes N w a q)
+  -- the first node, and the rest
+  first-of : (c a : ℕ) → chainFrom N ws w (suc c) a ≡ true → (a < N) × (vacant ws w a ≡ true) × (chainFrom N ws w c (nextFree ws a) ≡ true)
+  unfolding chainFrom
+  first-of c a t =
+      let p = both (ltb a N) _ t in
+      let q = both (vacant ws w a) _ (p .1) in
+      (lt-of (p .0), q .0, q .1)
 
-  pub follow-sound : (c f a : ℕ) (w : List ℕ) → c ≤ f → N ≤ length w → c ≡ unvisited N w → followFree N ws c a w .1 ≡ true → Chained N w (chain (suc f) a)
-  unfolding followFree
-  follow-sound zero f a w h r e t =
-      rw (follow-none (suc f) (nextFree ws) a (eqb-true a none t)) (record { within = refl; once = λ x b. omega (arith, count-nil x, sum-ge N x (fresh w) b) })
-  follow-sound (suc c) zero a w h r e t = absurd (omega arith)
-  follow-sound (suc c) (suc f) a w h r e t = elim (decided (ltb a N && eqb (mark w a) 0)) [
-    | inl q ↦ (
-        let p = both (ltb a N) (eqb (mark w a) 0) q in
-        let b : a < N = lt-of (p .0) in
-        let z : mark w a ≡ 0 = eqb-true (mark w a) 0 (p .1) in
-        let I = follow-sound c f (nextFree ws a) (set w a 1) (omega arith) (omega (arith, length-set w a 1)) (omega (arith, taken-unvisited N w a b r z)) (sym (then-yes a c w q) ∙ t) in
-        rw (follow-step (suc f) (nextFree ws) a (omega arith))
-        (record { within = rw (p .0) (I .within); once = λ x bx. omega (arith, count-cons x a (chain (suc f) (nextFree ws a)), I .once x bx, taken-fresh N w a b r z x) }))
-    | inr q ↦ absurd (true≢false (sym t ∙ ap (λ (p : List ℕ × Bool). andThen p (followFree N ws c (nextFree ws a)) .1) (take-no N w a q)))
+  end-of : (a : ℕ) → chainFrom N ws w zero a ≡ true → a ≡ none
+  unfolding chainFrom
+  end-of a t = eqb-true a none t
+
+  -- a chain ends after one number of steps only
+  one-length : (c d a : ℕ) → chainFrom N ws w c a ≡ true → chainFrom N ws w d a ≡ true → c ≡ d
+  one-length zero zero a s t = refl
+  one-length zero (suc d) a s t = absurd (omega (arith, end-of a s, first-of d a t .0))
+  one-length (suc c) zero a s t = absurd (omega (arith, end-of a t, first-of c a s .0))
+  one-length (suc c) (suc d) a s t = ap suc (one-length c d (nextFree ws a) (first-of c a s .2) (first-of d a t .2))
+
+  -- the chain goes on from each of its nodes
+  from-there : (c f a x : ℕ) → c ≤ f → chainFrom N ws w c a ≡ true → 0 < count x (chain (suc f) a) → (d : ℕ) × (d ≤ c) × (chainFrom N ws w d x ≡ true)
+  from-there zero f a x h t o = absurd (omega (arith, ap (count x) (follow-none (suc f) (nextFree ws) a (end-of a t)), count-nil x))
+  from-there (suc c) zero a x h t o = absurd (omega arith)
+  from-there (suc c) (suc f) a x h t o = elim (ℕ-discrete x a) [
+    | yes e ↦ (suc c, omega arith, rw e t)
+    | no e ↦ (
+        let p = first-of c a t in
+        let r = from-there c f (nextFree ws a) x (omega arith) (p .2) (omega (arith, ap (count x) (follow-step (suc f) (nextFree ws) a (omega arith)), count-cons x a (chain (suc f) (nextFree ws a)), δ-other x a e)) in
+        (r .0, omega (arith, r .1), r .2))
   ]
 
-  -- a chain that does not end here
-  first-in : (f a : ℕ) (w : List ℕ) → eqb a none ≡ false → Chained N w (chain (suc f) a) → (a < N) × (0 < fresh w a) × Chained N w (a ∷ chain f (nextFree ws a))
-  first-in f a w d t =
-      let t' : Chained N w (a ∷ chain f (nextFree ws a)) = rw (follow-step f (nextFree ws) a (eqb-false a none d)) at t in
-      let b : a < N = lt-of (both (ltb a N) (below N (chain f (nextFree ws a))) (t' .within) .0) in
-      (b, omega (arith, t' .once a b, count-cons a a (chain f (nextFree ws a)), δ-same a), t')
+  -- so no node is there twice
+  not-again : (c f a : ℕ) → c ≤ f → chainFrom N ws w (suc c) a ≡ true → count a (chain (suc f) (nextFree ws a)) ≡ 0
+  not-again c f a h t = elim (ℕ-discrete (count a (chain (suc f) (nextFree ws a))) 0) [
+    | yes e ↦ e
+    | no e ↦ (
+        let r = from-there c f (nextFree ws a) a h (first-of c a t .2) (omega arith) in
+        absurd (omega (arith, r .1, one-length (suc c) (r .0) a t (r .2))))
+  ]
 
-  pub follow-complete : (c f a : ℕ) (w : List ℕ) → c ≤ f → N ≤ length w → c ≡ unvisited N w → Chained N w (chain (suc f) a) → followFree N ws c a w .1 ≡ true
-  unfolding followFree
-  follow-complete zero f a w h r e t = elim (decided (eqb a none)) [
-    | inl d ↦ d
-    | inr d ↦ (let p = first-in f a w d t in absurd (omega (arith, sum-ge N a (fresh w) (p .0), p .1)))
+  pub chain-sound : (c f a : ℕ) → c ≤ f → chainFrom N ws w c a ≡ true → Vacants N ws w c (chain (suc f) a)
+  chain-sound zero f a h t =
+      rw (follow-none (suc f) (nextFree ws) a (end-of a t))
+      (record { within = refl; size = refl; empty = λ x _ o. absurd (omega (arith, count-nil x)); once = λ x _. omega (arith, count-nil x) })
+  chain-sound (suc c) zero a h t = absurd (omega arith)
+  chain-sound (suc c) (suc f) a h t =
+      let p = first-of c a t in
+      let b : a < N = p .0 in
+      let xs = chain (suc f) (nextFree ws a) in
+      let I = chain-sound c f (nextFree ws a) (omega arith) (p .2) in
+      rw (follow-step (suc f) (nextFree ws) a (omega arith))
+      (record {
+        within = rw (ltb-of b) (I .within);
+        size = ap suc (I .size);
+        empty = λ x bx o. elim (ℕ-discrete x a) [ yes e ↦ rw e (p .1) | no e ↦ I .empty x bx (omega (arith, count-cons x a xs, δ-other x a e)) ];
+        once = λ x bx. elim (ℕ-discrete x a) [
+          | yes e ↦ rw e (omega (arith, count-cons a a xs, δ-same a, not-again c f a (omega arith) t))
+          | no e ↦ omega (arith, count-cons x a xs, δ-other x a e, I .once x bx)
+        ];
+      })
+
+  -- a list of vacant nodes without its first
+  rest-of : (c a : ℕ) (xs : List ℕ) → Vacants N ws w (suc c) (a ∷ xs) → (ltb a N ≡ true) × (vacant ws w a ≡ true) × Vacants N ws w c xs
+  rest-of c a xs v =
+      let p = both (ltb a N) (below N xs) (v .within) in (
+        p .0,
+        v .empty a (lt-of (p .0)) (omega (arith, count-cons a a xs, δ-same a)),
+        record {
+          within = p .1;
+          size = omega (arith, v .size);
+          empty = λ x bx o. v .empty x bx (omega (arith, count-cons x a xs));
+          once = λ x bx. omega (arith, v .once x bx, count-cons x a xs);
+        },
+      )
+
+  pub chain-complete : (c f a : ℕ) → c ≤ f → Vacants N ws w c (chain (suc f) a) → chainFrom N ws w c a ≡ true
+  unfolding chainFrom
+  chain-complete zero f a h v = elim (ℕ-discrete a none) [
+    | yes e ↦ eq-eqb a none e
+    | no e ↦ absurd (omega (arith, v .size, ap length (follow-step f (nextFree ws) a e)))
   ]
-  follow-complete (suc c) zero a w h r e t = absurd (omega arith)
-  follow-complete (suc c) (suc f) a w h r e t = elim (decided (eqb a none)) [
-    | inl d ↦ (
-        let j = sum-pos N (fresh w) (omega arith) in
-        let t' : Chained N w [] = rw (follow-none (suc (suc f)) (nextFree ws) a (eqb-true a none d)) at t in
-        absurd (omega (arith, t' .once (j .0) (j .1), count-nil (j .0), j .2)))
-    | inr d ↦ (
-        let p = first-in (suc f) a w d t in
-        let b : a < N = p .0 in
-        let z : mark w a ≡ 0 = omega (arith, p .1) in
-        let u : ltb a N && eqb (mark w a) 0 ≡ true = rw (ltb-of b, eq-eqb (mark w a) 0 z) in
-        then-yes a c w u
-        ∙ follow-complete c f (nextFree ws a) (set w a 1) (omega arith) (omega (arith, length-set w a 1)) (omega (arith, taken-unvisited N w a b r z))
-        (record {
-          within = both (ltb a N) (below N (chain (suc f) (nextFree ws a))) (p .2 .within) .1;
-          once = λ x bx. omega (arith, p .2 .once x bx, count-cons x a (chain (suc f) (nextFree ws a)), taken-fresh N w a b r z x);
-        }))
+  chain-complete (suc c) zero a h v = absurd (omega arith)
+  chain-complete (suc c) (suc f) a h v = elim (ℕ-discrete a none) [
+    | yes e ↦ absurd (omega (arith, v .size, ap length (follow-none (suc (suc f)) (nextFree ws) a e)))
+    | no e ↦ (
+        let r = rest-of c a (chain (suc f) (nextFree ws a)) (rw (follow-step (suc f) (nextFree ws) a e) at v) in
+        rw (r .0, r .1) (chain-complete c f (nextFree ws a) (omega arith) (r .2)))
   ]
+
+-- ---- and the nodes that were not visited
+
+-- the chain xs of the definition has each node that was not visited once
+pub record Chained (N : ℕ) (ws w xs : List ℕ) : Type 0 where
+  pub within : below N xs ≡ true
+  pub once : (x : ℕ) → x < N → count x xs ≡ fresh w x
+  pub empty : (x : ℕ) → x < N → 0 < count x xs → bare ws x ≡ true
+
+module _ (N : ℕ) (ws w xs : List ℕ) where
+  pub chained-length : Chained N ws w xs → length xs ≡ unvisited N w
+  chained-length p = sym (count-sum N xs (p .within)) ∙ sum-cong N (λ i. count i xs) (fresh w) (p .once)
+
+  -- a vacant node was not visited
+  vacant-of : (x : ℕ) → vacant ws w x ≡ true → (fresh w x ≡ 1) × (bare ws x ≡ true)
+  unfolding vacant
+  vacant-of x t = let p = both (eqb (fresh w x) 1) _ t in (eqb-true (fresh w x) 1 (p .0), p .1)
+
+  -- as many different ones as there are: each of them
+  pub chained : Vacants N ws w (unvisited N w) xs → Chained N ws w xs
+  chained v = record {
+    within = v .within;
+    once = sum-tight N (λ i. count i xs) (fresh w) upto (omega (arith, count-sum N xs (v .within), v .size));
+    empty = λ x b o. vacant-of x (v .empty x b o) .1;
+  }
+    where
+      upto : (x : ℕ) → x < N → count x xs ≤ fresh w x
+      upto x b = elim (ℕ-discrete (count x xs) 0) [
+        | yes e ↦ omega arith
+        | no e ↦ omega (arith, v .once x b, vacant-of x (v .empty x b (omega arith)) .0)
+      ]
+
+  pub vacants : Chained N ws w xs → Vacants N ws w (unvisited N w) xs
+  unfolding vacant
+  vacants p = record {
+    within = p .within;
+    size = chained-length p;
+    empty = λ x b o. rw (eq-eqb (fresh w x) 1 (omega (arith, p .once x b))) (p .empty x b o);
+    once = λ x b. omega (arith, p .once x b);
+  }

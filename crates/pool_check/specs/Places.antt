@@ -1,7 +1,7 @@
 -- All live frames' trees visited: the marks are the nodes reached, the links counted are the holders of document 01.
 use mathlib.Core.Path.{_≡_, refl, sym, _∙_}
 use mathlib.Core.Logic.{inl, inr}
-use mathlib.Core.Bool.{true, cond, _&&_, and-true}
+use mathlib.Core.Bool.{Bool, true, cond, _&&_}
 use mathlib.Core.List.{List, [], _∷_, _++_}
 use Prim.Native.Nat.{ℕ, zero, suc, _+_, _*_, _≤_, _<_, min}
 use native.Mathlib.Omega.{arith}
@@ -9,15 +9,18 @@ use lib.Dec.{ltb}
 use lib.ListN.{length, getD}
 use Rattle.words.specs.Basics.{sum, count}
 use Rattle.words.specs.Counting.{δ-le, count-nil, count-cons, count-append, sum-cong, sum-zero}
-use Rattle.words.specs.Tests.{decided, both, ltb-of}
+use Rattle.words.specs.Tests.{decided, both, ltb-of, true≢false}
 use Rattle.sizes.specs.Sizes.{height}
-use Rattle.sizes.specs.Heights.{height-covers}
+use Rattle.sizes.specs.Heights.{height-covers, height-le}
 use Rattle.sizes.specs.Leaves.{leaves, leaves-top}
 use Rattle.frames.specs.Frames.{frameAt}
 use Rattle.soundness.specs.Soundness.{lives, treeAt, treesAt, nodesAt, reached, isReached, holders, rootsBelow, liveRoots}
 use Rattle.pool_check.specs.Algorithm.{mark, links, visitPlace, visitPlaces}
 use Rattle.pool_check.specs.Ways.{place-live, place-free, Keeps, keeps-refl, keeps-trans, visit-keeps}
-use Rattle.pool_check.specs.Visit.{linkTo, linksTo, Adds, visit-tree, visit-adds}
+use Rattle.pool_check.specs.Shape.{tree, tree-is, nodes-is, Fits}
+use Rattle.pool_check.specs.Stamps.{linkTo, linksTo}
+use Rattle.pool_check.specs.Visit.{Adds, Settled, visit-shows}
+use Rattle.pool_check.specs.Succeeds.{Honest, visit-succeeds}
 
 -- ---- lists of roots
 
@@ -60,68 +63,109 @@ adds-append n N ws rs ss w w' w'' p q = record {
   counts = λ x b. omega (arith, p .counts x b, q .counts x b, count-append x rs ss);
 }
 
-adds-root : (n N : ℕ) (ws : List ℕ) (r : ℕ) (w w' : List ℕ) → Adds N ws r 1 (nodesAt n ws (height n) 0 r) w w' → AddsAll n N ws (r ∷ []) w w'
+adds-root : (n N : ℕ) (ws : List ℕ) (r : ℕ) (w w' : List ℕ) → Adds N ws r (nodesAt n ws (height n) 0 r) w w' → AddsAll n N ws (r ∷ []) w w'
 adds-root n N ws r w w' p = record {
   marks = λ x b. omega (arith, p .marks x b, count-append x (nodesAt n ws (height n) 0 r) [], count-nil x);
   counts = λ x b. omega (arith, p .counts x b, count-cons x r [], count-nil x);
 }
 
+-- what the visits of the trees of roots rs show, if they succeed
+record Shown (n N : ℕ) (ws rs w w' : List ℕ) : Type 0 where
+  trees : treesAt n N ws rs ≡ true
+  adds : AddsAll n N ws rs w w'
+  settled : Settled n N ws (suc (height n)) w'
+
+shown-append : (n N : ℕ) (ws rs ss w w' w'' : List ℕ) → Shown n N ws rs w w' → Shown n N ws ss w' w'' → Shown n N ws (rs ++ ss) w w''
+shown-append n N ws rs ss w w' w'' p q = record {
+  trees = rw (trees-append n N ws rs ss, p .trees) (q .trees);
+  adds = adds-append n N ws rs ss w w' w'' (p .adds) (q .adds);
+  settled = q .settled;
+}
+
 -- ---- the places
 
 module _ (n N : ℕ) (fs ws : List ℕ) where
-  place-keeps : (p : ℕ) (w : List ℕ) → Keeps N w (visitPlace n (height n) N fs ws p w .0)
+  -- one place, and those below c
+  abbrev place : ℕ → List ℕ → List ℕ × Bool
+  place = visitPlace n (height n) N fs ws
+
+  abbrev places : ℕ → List ℕ → List ℕ × Bool
+  places = visitPlaces n (height n) N fs ws
+
+  place-keeps : (p : ℕ) (w : List ℕ) → Keeps N w (place p w .0)
   place-keeps p w = elim (decided (lives fs p)) [
-    | inl e ↦ rw (place-live n (height n) N fs ws p w e) (visit-keeps N ws (height n) n (frameAt fs p .root) 1 w)
+    | inl e ↦ rw (place-live n (height n) N fs ws p w e) (visit-keeps N ws (height n) n (frameAt fs p .root) w)
     | inr e ↦ rw (place-free n (height n) N fs ws p w e) keeps-refl
   ]
 
   pub places-keeps : (c : ℕ) (w : List ℕ) → Keeps N w (visitPlaces n (height n) N fs ws c w .0)
   unfolding visitPlaces
   places-keeps zero w = keeps-refl
-  places-keeps (suc c) w = elim (decided (visitPlaces n (height n) N fs ws c w .1)) [
-    | inl e ↦ rw e (keeps-trans (places-keeps c w) (place-keeps c (visitPlaces n (height n) N fs ws c w .0)))
+  places-keeps (suc c) w = elim (decided (places c w .1)) [
+    | inl e ↦ rw e (keeps-trans (places-keeps c w) (place-keeps c (places c w .0)))
     | inr e ↦ rw e (places-keeps c w)
   ]
 
   all-leaves : n ≡ leaves n (height n) 0
   all-leaves = sym (leaves-top n (height n) (height-covers n))
 
-  place-tree : (p : ℕ) (w : List ℕ) → visitPlace n (height n) N fs ws p w .1 ≡ treesAt n N ws (rootAt fs p)
-  place-tree p w = elim (decided (lives fs p)) [
-    | inl e ↦ rw (place-live n (height n) N fs ws p w e, visit-tree n N ws (height n) 0 n (frameAt fs p .root) 1 w all-leaves, e) (sym (and-true (treeAt n N ws (height n) 0 (frameAt fs p .root))))
-    | inr e ↦ rw (place-free n (height n) N fs ws p w e, e)
-  ]
+  all-fit : Fits n (height n) n
+  all-fit = record { some = omega arith; most = omega arith; covered = height-covers n }
 
-  -- a visit succeeds if and only if it is of trees
-  pub places-tree : (c : ℕ) (w : List ℕ) → visitPlaces n (height n) N fs ws c w .1 ≡ treesAt n N ws (rootsBelow fs c)
-  unfolding visitPlaces rootsBelow
-  places-tree zero w = refl
-  places-tree (suc c) w = rw (trees-append n N ws (rootsBelow fs c) (rootAt fs c), ← places-tree c w) (elim (decided (visitPlaces n (height n) N fs ws c w .1)) [
-    | inl e ↦ rw e (place-tree c (visitPlaces n (height n) N fs ws c w .0))
-    | inr e ↦ rw e
-  ])
+  root-tree : (r : ℕ) → tree N ws (height n) n r ≡ treeAt n N ws (height n) 0 r
+  root-tree r = tree-is n N ws (height n) 0 n r all-leaves
 
-  module _ (few : N ≤ 16384) where
-    place-adds : (p : ℕ) (w : List ℕ) → N ≤ length w → ((x : ℕ) → x < N → links w x ≤ 63 + linksTo N ws w x) → treesAt n N ws (rootAt fs p) ≡ true
-        → AddsAll n N ws (rootAt fs p) w (visitPlace n (height n) N fs ws p w .0)
-    place-adds p w r h t = elim (decided (lives fs p)) [
+  module _ (small : n ≤ 256) (few : N ≤ 16384) where
+    level : height n ≤ 8
+    level = height-le n 8 (omega arith)
+
+    -- ---- visits that succeed
+
+    place-shows : (p : ℕ) (w : List ℕ) → N ≤ length w → ((x : ℕ) → x < N → links w x ≤ 63 + linksTo N ws w x) → Settled n N ws (suc (height n)) w
+        → place p w .1 ≡ true → Shown n N ws (rootAt fs p) w (place p w .0)
+    place-shows p w r h S = elim (decided (lives fs p)) [
       | inl e ↦
-          rw (place-live n (height n) N fs ws p w e, e) (adds-root n N ws (frameAt fs p .root) w _
-          (visit-adds n N ws few (height n) 0 n (frameAt fs p .root) 1 w all-leaves r (λ x b. omega (arith, h x b, δ-le x (frameAt fs p .root))) (both (treeAt n N ws (height n) 0 (frameAt fs p .root)) true (rw e at t) .0)))
-      | inr e ↦ rw (place-free n (height n) N fs ws p w e, e) (adds-nil n N ws w)
+          rw (place-live n (height n) N fs ws p w e, e) (λ t.
+          let root = frameAt fs p .root in
+          let v = visit-shows n N ws small few (height n) n root w all-fit level r (λ x b. omega (arith, h x b, δ-le x root)) S t in
+          record {
+            trees = rw (← root-tree root, v .0);
+            adds = adds-root n N ws root w _ (rw (nodes-is n ws (height n) 0 n root all-leaves) at (v .1 .adds));
+            settled = v .1 .settled;
+          })
+      | inr e ↦ rw (place-free n (height n) N fs ws p w e, e) (λ t. record { trees = refl; adds = adds-nil n N ws w; settled = S })
     ]
 
-    pub places-adds : (c : ℕ) (w : List ℕ) → c ≤ 64 → N ≤ length w → ((x : ℕ) → x < N → getD w x 0 ≡ 0) → treesAt n N ws (rootsBelow fs c) ≡ true
-        → AddsAll n N ws (rootsBelow fs c) w (visitPlaces n (height n) N fs ws c w .0)
+    places-shows : (c : ℕ) (w : List ℕ) → c ≤ 64 → N ≤ length w → ((x : ℕ) → x < N → getD w x 0 ≡ 0) → places c w .1 ≡ true → Shown n N ws (rootsBelow fs c) w (places c w .0)
     unfolding visitPlaces rootsBelow
-    places-adds zero w m r z t = adds-nil n N ws w
-    places-adds (suc c) w m r z t =
-        let w₁ = visitPlaces n (height n) N fs ws c w .0 in
+    places-shows zero w m r z t = record { trees = refl; adds = adds-nil n N ws w; settled = λ x l' k' b f lt one e. absurd (omega (arith, z x b)) }
+    places-shows (suc c) w m r z t = elim (decided (places c w .1)) [
+      | inl e ↦ (
+          let w₁ = places c w .0 in
+          let P = places-shows c w (omega arith) r z e in
+          let room : (x : ℕ) → x < N → links w₁ x ≤ 63 + linksTo N ws w₁ x = λ x b. omega (arith, P .adds .counts x b, z x b, count-roots fs c x) in
+          rw e (shown-append n N ws (rootsBelow fs c) (rootAt fs c) w w₁ _ P (place-shows c w₁ (omega (arith, places-keeps c w .size)) room (P .settled) (rw e at t))))
+      | inr e ↦ absurd (true≢false (sym (rw e at t)))
+    ]
+
+    -- ---- visits of trees
+
+    place-succeeds : (p : ℕ) (w : List ℕ) → N ≤ length w → Honest n N ws w → treesAt n N ws (rootAt fs p) ≡ true → (place p w .1 ≡ true) × Honest n N ws (place p w .0)
+    place-succeeds p w r H = elim (decided (lives fs p)) [
+      | inl e ↦
+          rw (place-live n (height n) N fs ws p w e, e) (λ t.
+          let root = frameAt fs p .root in
+          visit-succeeds n N ws small few (height n) n root w all-fit level r H (root-tree root ∙ both (treeAt n N ws (height n) 0 root) true t .0))
+      | inr e ↦ rw (place-free n (height n) N fs ws p w e, e) (λ t. (refl, H))
+    ]
+
+    places-succeeds : (c : ℕ) (w : List ℕ) → N ≤ length w → Honest n N ws w → treesAt n N ws (rootsBelow fs c) ≡ true → (places c w .1 ≡ true) × Honest n N ws (places c w .0)
+    unfolding visitPlaces rootsBelow
+    places-succeeds zero w r H t = (refl, H)
+    places-succeeds (suc c) w r H t =
         let q = both (treesAt n N ws (rootsBelow fs c)) (treesAt n N ws (rootAt fs c)) (sym (trees-append n N ws (rootsBelow fs c) (rootAt fs c)) ∙ t) in
-        let P = places-adds c w (omega arith) r z (q .0) in
-        rw (places-tree c w ∙ q .0)
-        (adds-append n N ws (rootsBelow fs c) (rootAt fs c) w w₁ _ P
-        (place-adds c w₁ (omega (arith, places-keeps c w .size)) (λ x b. omega (arith, P .counts x b, z x b, count-roots fs c x)) (q .1)))
+        let P = places-succeeds c w r H (q .0) in
+        rw (P .0) (place-succeeds c (places c w .0) (omega (arith, places-keeps c w .size)) (P .1) (q .1))
 
 -- ---- all of them, from a work slice of zeros
 
@@ -150,6 +194,19 @@ module _ (n N : ℕ) (ws rs w w' : List ℕ) (zeros : (x : ℕ) → x < N → ge
   tallied : Tallied n N ws rs w'
   tallied = record { marks = all-marks; counts = λ x b. omega (arith, p .counts x b, zeros x b, none-before x, reached-links x) }
 
-pub places-tallied : (n N : ℕ) (fs ws w : List ℕ) → N ≤ 16384 → N ≤ length w → ((x : ℕ) → x < N → getD w x 0 ≡ 0) → treesAt n N ws (liveRoots fs) ≡ true
-    → Tallied n N ws (liveRoots fs) (visitPlaces n (height n) N fs ws 64 w .0)
-places-tallied n N fs ws w few r z t = tallied n N ws (liveRoots fs) w (visitPlaces n (height n) N fs ws 64 w .0) z (places-adds n N fs ws few 64 w (omega arith) r z t)
+module _ (n N : ℕ) (fs ws w : List ℕ) (small : n ≤ 256) (few : N ≤ 16384) (r : N ≤ length w) (z : (x : ℕ) → x < N → getD w x 0 ≡ 0) where
+  succeeds : treesAt n N ws (liveRoots fs) ≡ true → visitPlaces n (height n) N fs ws 64 w .1 ≡ true
+  succeeds t = places-succeeds n N fs ws small few 64 w r (λ x b m. absurd (omega (arith, z x b))) t .0
+
+  shows : visitPlaces n (height n) N fs ws 64 w .1 ≡ true → Shown n N ws (liveRoots fs) w (visitPlaces n (height n) N fs ws 64 w .0)
+  shows t = places-shows n N fs ws small few 64 w (omega arith) r z t
+
+  -- the visits succeed if and only if they are of trees
+  pub places-tree : visitPlaces n (height n) N fs ws 64 w .1 ≡ treesAt n N ws (liveRoots fs)
+  places-tree = elim (decided (visitPlaces n (height n) N fs ws 64 w .1)) [
+    | inl e ↦ e ∙ sym (shows e .trees)
+    | inr e ↦ elim (decided (treesAt n N ws (liveRoots fs))) [ inl t ↦ succeeds t ∙ sym t | inr t ↦ e ∙ sym t ]
+  ]
+
+  pub places-tallied : treesAt n N ws (liveRoots fs) ≡ true → Tallied n N ws (liveRoots fs) (visitPlaces n (height n) N fs ws 64 w .0)
+  places-tallied t = tallied n N ws (liveRoots fs) w (visitPlaces n (height n) N fs ws 64 w .0) z (shows (succeeds t) .adds)

@@ -1,168 +1,206 @@
--- A visit succeeds just on a tree of the definition, and what it adds to the marks and to the links counted.
-use mathlib.Core.Path.{_≡_, sym, ap, _∙_}
-use mathlib.Core.Logic.{inl, inr}
-use mathlib.Core.Bool.{true, false, _&&_}
+-- A visit that succeeds is of a tree of the definition; what it adds to the marks and to the links counted.
+use mathlib.Core.Path.{_≡_, refl, sym, ap, _∙_}
+use mathlib.Core.Logic.{_⊎_, _≢_, inl, inr}
+use mathlib.Core.Bool.{Bool, true}
 use mathlib.Core.List.{List, [], _∷_, _++_}
 use Prim.Native.Nat.{ℕ, zero, suc, _+_, _-_, _*_, _%_, _^_, _≤_, _<_, min}
 use native.Mathlib.Omega.{arith}
-use native.Mathlib.Decide.{ℕ-discrete}
-use borrow.Author.Tests.{eq-eqb, ne-eqb, eqb-true, eqb-false}
-use lib.Dec.{eqb, ltb}
+use native.Mathlib.Decide.{ℕ-discrete, decLt}
+use borrow.Author.Tests.{eqb-true}
+use lib.Dec.{eqb}
 use lib.ListN.{length, getD, length-set}
-use lib.Seq.{getD-set-same, getD-set-other}
-use Rattle.words.specs.Basics.{none, sum, δ, count}
-use Rattle.words.specs.Counting.{δ-same, δ-other, δ-le, count-nil, count-cons, count-append, sum-upd, sum-le}
-use Rattle.words.specs.Tests.{decided, both, lt-of, ltb-of, true≢false}
-use Rattle.sizes.specs.Leaves.{leaves, leaves-left, leaves-right, leaves-some, leaves-none}
-use Rattle.pool.specs.Pool.{left, right, value}
-use Rattle.soundness.specs.Soundness.{treeAt, nodesAt}
-use Rattle.pool_check.specs.Ways.{onLeft, visit-leaf, visit-end, visit-right, visit-keeps}
-use Rattle.pool_check.specs.Algorithm.{mark, links, fresh, visitedWord, visited, shaped, visit}
+use Rattle.words.specs.Basics.{none, δ, count}
+use Rattle.words.specs.Counting.{δ-other, count-nil, count-cons, count-append}
+use Rattle.words.specs.Tests.{decided, both, true≢false}
+use Rattle.pool.specs.Pool.{left, right}
+use Rattle.pool_check.specs.Algorithm.{mark, links, stamp, shaped, stamped, linked, visit, below}
+use Rattle.pool_check.specs.Ways.{onLeft, visit-off, visit-again, visit-shapeless, visit-below, below-left, below-end, below-right, visit-keeps}
+use Rattle.pool_check.specs.Shape.{tree, nodes, leaf-tree, end-tree, inner-tree, leaf-nodes, end-nodes, inner-nodes, Fits, fits-left, fits-right}
+use Rattle.pool_check.specs.Stamps.{linksTo, linksTo-le, stampOf, linked-stamp, linked-mark, linked-links, linked-linksTo, stamped-word, stamped-other, stamped-mark, stamped-links, stamped-linksTo}
 
--- ---- success
+-- marks set three times
+three-marks : (m a b c : ℕ) {m₁ m₂ m₃ d : ℕ} → m₁ ≡ min 1 (m + a) → m₂ ≡ min 1 (m₁ + b) → m₃ ≡ min 1 (m₂ + c) → d ≡ a + (b + c) → m₃ ≡ min 1 (m + d)
+three-marks m a b c e₁ e₂ e₃ e = omega arith
 
--- a group's right half is empty if it has no splitter
-right-empty : (n l g k : ℕ) → k ≡ leaves n (suc l) g → ltb ((2 * g + 1) * 2 ^ l) n ≡ false → eqb (k - 2 ^ l) 0 ≡ true
-right-empty n l g k e h = eq-eqb (k - 2 ^ l) 0 (omega (arith, ap (λ (q : ℕ). q - 2 ^ l) e, leaves-right n l g, leaves-none n l (2 * g + 1) (λ b. true≢false (sym (ltb-of b) ∙ h))))
-
-right-some : (n l g k : ℕ) → k ≡ leaves n (suc l) g → ltb ((2 * g + 1) * 2 ^ l) n ≡ true → eqb (k - 2 ^ l) 0 ≡ false
-right-some n l g k e h = ne-eqb (k - 2 ^ l) 0 (omega (arith, ap (λ (q : ℕ). q - 2 ^ l) e, leaves-right n l g, leaves-some n l (2 * g + 1) (lt-of h)))
-
-pub visit-tree : (n N : ℕ) (ws : List ℕ) (l g k i c : ℕ) (w : List ℕ) → k ≡ leaves n l g → visit N ws l k i c w .1 ≡ treeAt n N ws l g i
-unfolding visit treeAt
-visit-tree n N ws zero g k i c w e = elim (decided (ltb i N)) [
-  | inl a ↦ elim (decided (shaped ws zero i)) [ inl b ↦ rw (a, b, visit) | inr b ↦ rw (a, b, visit) ]
-  | inr a ↦ rw (a, visit)
-]
-visit-tree n N ws (suc l) g k i c w e = elim (decided (ltb i N)) [
-  | inl a ↦ elim (decided (eqb (value ws i) 0)) [
-    | inl b ↦ rw (a, b, visit, visit-tree n N ws l (2 * g) (min k (2 ^ l)) (left ws i) (fresh w i) (visited w i c) (ap (λ (q : ℕ). min q (2 ^ l)) e ∙ leaves-left n l g))
-        (elim (decided (treeAt n N ws l (2 * g) (left ws i))) [
-          | inl t ↦ elim (decided (ltb ((2 * g + 1) * 2 ^ l) n)) [
-            | inl h ↦
-                rw (t, h, right-some n l g k e h)
-                (visit-tree n N ws l (2 * g + 1) (k - 2 ^ l) (right ws i) (fresh w i) (onLeft N ws k i c w l .0) (ap (λ (q : ℕ). q - 2 ^ l) e ∙ leaves-right n l g))
-            | inr h ↦ rw (t, h, right-empty n l g k e h)
-          ]
-          | inr t ↦ rw t
-        ])
-    | inr b ↦ rw (a, b, visit)
-  ]
-  | inr a ↦ rw (a, visit)
-]
-
--- ---- one node visited
-
--- the links of node j to node x
-abbrev pub linkTo : List ℕ → ℕ → ℕ → ℕ
-linkTo ws x j = δ x (left ws j) + δ x (right ws j)
-
--- the links of the visited nodes to node x
-abbrev pub linksTo : ℕ → List ℕ → List ℕ → ℕ → ℕ
-linksTo N ws w x = sum N (λ j. mark w j * linkTo ws x j)
-
-times-le : (m y : ℕ) → m ≤ 1 → m * y ≤ y
-times-le zero y h = omega arith
-times-le (suc zero) y h = omega arith
-times-le (suc (suc m)) y h = absurd (omega arith)
-
-settled : (a b m y z : ℕ) → m ≤ 1 → a + m * (y + z) ≡ b + 1 * (y + z) → a ≡ b + ((1 - m) * y + (1 - m) * z)
-settled a b zero y z h e = omega arith
-settled a b (suc zero) y z h e = omega arith
-settled a b (suc (suc m)) y z h e = absurd (omega arith)
-
--- no sum of links comes near the width of a word
-pub linksTo-le : (N : ℕ) (ws w : List ℕ) (x : ℕ) → linksTo N ws w x ≤ N * 2
-linksTo-le N ws w x = sum-le N 2 (λ j. mark w j * linkTo ws x j) (λ j. omega (arith, times-le (mark w j) (linkTo ws x j) (omega arith), δ-le x (left ws j), δ-le x (right ws j)))
-
-module _ (w : List ℕ) (i c : ℕ) (inside : i < length w) (small : 2 * (links w i + c) + 1 < 2 ^ 32) where
-  visited-word : getD (visited w i c) i 0 ≡ 2 * (links w i + c) + 1
-  visited-word = getD-set-same w i (visitedWord w i c) 0 inside ∙ omega arith
-
-  visited-mark : (x : ℕ) → mark (visited w i c) x ≡ min 1 (mark w x + δ x i)
-  visited-mark x = elim (ℕ-discrete x i) [
-    | yes e ↦ rw e (omega (arith, visited-word, δ-same i))
-    | no e ↦ omega (arith, getD-set-other w i x (visitedWord w i c) 0 e, δ-other x i e)
-  ]
-
-  visited-links : (x : ℕ) → links (visited w i c) x ≡ links w x + c * δ x i
-  visited-links x = elim (ℕ-discrete x i) [
-    | yes e ↦ rw (e, δ-same i) (omega (arith, visited-word))
-    | no e ↦ rw (δ-other x i e) (omega (arith, getD-set-other w i x (visitedWord w i c) 0 e))
-  ]
-
-  visited-linksTo : (N : ℕ) (ws : List ℕ) (x : ℕ) → i < N → linksTo N ws (visited w i c) x ≡ linksTo N ws w x + (fresh w i * δ x (left ws i) + fresh w i * δ x (right ws i))
-  visited-linksTo N ws x b =
-      let u = sum-upd N i (λ j. mark (visited w i c) j * linkTo ws x j) (λ j. mark w j * linkTo ws x j) b (λ j _ d. ap (λ (q : ℕ). q % 2 * linkTo ws x j) (getD-set-other w i j (visitedWord w i c) 0 d)) in
-      settled (linksTo N ws (visited w i c) x) (linksTo N ws w x) (mark w i) (δ x (left ws i)) (δ x (right ws i)) (omega arith) (u ∙ ap (λ (q : ℕ). linksTo N ws w x + q * linkTo ws x i) (omega (arith, visited-word)))
-
--- ---- a tree visited
-
--- what a visit of the tree with these nodes, reached by c links to i that count, makes of w
-pub record Adds (N : ℕ) (ws : List ℕ) (i c : ℕ) (nodes w w' : List ℕ) : Type 0 where
-  pub marks : (x : ℕ) → x < N → mark w' x ≡ min 1 (mark w x + count x nodes)
-  pub counts : (x : ℕ) → x < N → links w' x + linksTo N ws w x ≡ links w x + c * δ x i + linksTo N ws w' x
+-- a visit of the tree with these nodes, by a link to i: the marks, and the links counted
+pub record Adds (N : ℕ) (ws : List ℕ) (i : ℕ) (xs w w' : List ℕ) : Type 0 where
+  pub marks : (x : ℕ) → x < N → mark w' x ≡ min 1 (mark w x + count x xs)
+  pub counts : (x : ℕ) → x < N → links w' x + linksTo N ws w x ≡ links w x + δ x i + linksTo N ws w' x
 
 -- the links counted, the one to i among them, are links of visited nodes or of the at most 64 roots
-abbrev pub Room : ℕ → List ℕ → ℕ → ℕ → List ℕ → Type 0
-Room N ws i c w = (x : ℕ) → x < N → links w x + c * δ x i ≤ 64 + linksTo N ws w x
+abbrev pub Room : ℕ → List ℕ → ℕ → List ℕ → Type 0
+Room N ws i w = (x : ℕ) → x < N → links w x + δ x i ≤ 64 + linksTo N ws w x
 
--- an absent child
-adds-none : (N : ℕ) (ws : List ℕ) (i c : ℕ) (w : List ℕ) → N ≤ 16384 → i ≡ none → Adds N ws i c [] w w
-adds-none N ws i c w few e =
-    record { marks = λ x b. omega (arith, count-nil x); counts = λ x b. rw (δ-other x i (omega arith)) (omega arith) }
+-- the stamps of level l and above stay
+abbrev Stays : ℕ → ℕ → List ℕ → List ℕ → Type 0
+Stays N l w w' = (x : ℕ) → x < N → ((stampOf w' x ≡ stampOf w x) × (mark w' x ≡ mark w x)) ⊎ (stampOf w' x < 512 * l)
 
--- node i, and then its children
-module _ (N : ℕ) (ws : List ℕ) (i c : ℕ) (w : List ℕ) (few : N ≤ 16384) (b : i < N) (r : N ≤ length w) (h : Room N ws i c w) where
-  small : 2 * (links w i + c) + 1 < 2 ^ 32
-  small = omega (arith, rw (δ-same i) at (h i b), linksTo-le N ws w i)
+-- a node whose stamp is below level l is the root of such a tree, and all nodes of the tree are visited
+abbrev pub Settled : ℕ → ℕ → List ℕ → ℕ → List ℕ → Type 0
+Settled n N ws l w =
+    (x l' k' : ℕ) → x < N → Fits n l' k' → l' < l → mark w x ≡ 1 → stampOf w x ≡ stamp l' k' → (tree N ws l' k' x ≡ true) × ((y : ℕ) → y < N → min 1 (count y (nodes ws l' k' x)) ≤ mark w y)
 
-  inside : i < length w
-  inside = omega arith
+-- what a visit does, at a level below l, by a link to the root i of a tree with the nodes xs
+pub record Visited (n N : ℕ) (ws : List ℕ) (l i : ℕ) (xs w w' : List ℕ) : Type 0 where
+  pub adds : Adds N ws i xs w w'
+  pub stays : Stays N l w w'
+  pub settled : Settled n N ws l w'
 
-  room-left : Room N ws (left ws i) (fresh w i) (visited w i c)
-  room-left x bx = omega (arith, visited-links w i c inside small x, visited-linksTo w i c inside small N ws x b, h x bx)
-
-  room-right : (A w₂ : List ℕ) → Adds N ws (left ws i) (fresh w i) A (visited w i c) w₂ → Room N ws (right ws i) (fresh w i) w₂
-  room-right A w₂ p x bx = omega (arith, p .counts x bx, visited-links w i c inside small x, visited-linksTo w i c inside small N ws x b, h x bx)
-
-  adds-inner : (A B w₂ w₃ : List ℕ) → Adds N ws (left ws i) (fresh w i) A (visited w i c) w₂ → Adds N ws (right ws i) (fresh w i) B w₂ w₃ → Adds N ws i c (i ∷ (A ++ B)) w w₃
-  adds-inner A B w₂ w₃ p q = record {
-    marks = λ x bx. omega (arith, p .marks x bx, q .marks x bx, visited-mark w i c inside small x, count-cons x i (A ++ B), count-append x A B);
-    counts = λ x bx. omega (arith, p .counts x bx, q .counts x bx, visited-links w i c inside small x, visited-linksTo w i c inside small N ws x b);
+module _ (n N : ℕ) (ws : List ℕ) (small : n ≤ 256) (few : N ≤ 16384) where
+  -- an absent child
+  visited-none : (l i : ℕ) (w : List ℕ) → i ≡ none → Settled n N ws l w → Visited n N ws l i [] w w
+  visited-none l i w e S = record {
+    adds = record { marks = λ x b. omega (arith, count-nil x); counts = λ x b. omega (arith, δ-other x i (omega arith)) };
+    stays = λ x b. inl (refl, refl);
+    settled = S;
   }
 
-module _ (n N : ℕ) (ws : List ℕ) (few : N ≤ 16384) where
-  pub visit-adds : (l g k i c : ℕ) (w : List ℕ) → k ≡ leaves n l g → N ≤ length w → Room N ws i c w → treeAt n N ws l g i ≡ true → Adds N ws i c (nodesAt n ws l g i) w (visit N ws l k i c w .0)
-  unfolding treeAt nodesAt
-  visit-adds zero g k i c w e r h t =
-      let p = both (ltb i N) (eqb (left ws i) none && eqb (right ws i) none) t in
-      let q = both (eqb (left ws i) none) (eqb (right ws i) none) (p .1) in
-      rw (visit-leaf N ws k i c w t)
-      (adds-inner N ws i c w few (lt-of (p .0)) r h [] [] (visited w i c) (visited w i c)
-      (adds-none N ws (left ws i) (fresh w i) (visited w i c) few (eqb-true (left ws i) none (q .0)))
-      (adds-none N ws (right ws i) (fresh w i) (visited w i c) few (eqb-true (right ws i) none (q .1))))
-  visit-adds (suc l) g k i c w e r h t =
-      let p = both (ltb i N) _ t in
-      let q = both (eqb (value ws i) 0) _ (p .1) in
-      let s = both (treeAt n N ws l (2 * g) (left ws i)) _ (q .1) in
-      let eL : min k (2 ^ l) ≡ leaves n l (2 * g) = ap (λ (q : ℕ). min q (2 ^ l)) e ∙ leaves-left n l g in
-      let eR : k - 2 ^ l ≡ leaves n l (2 * g + 1) = ap (λ (q : ℕ). q - 2 ^ l) e ∙ leaves-right n l g in
-      let b : i < N = lt-of (p .0) in
-      let ok : ltb i N && shaped ws (suc l) i ≡ true = rw (p .0, q .0) in
-      let tL : onLeft N ws k i c w l .1 ≡ true = visit-tree n N ws l (2 * g) (min k (2 ^ l)) (left ws i) (fresh w i) (visited w i c) eL ∙ s .0 in
-      let L = visit-adds l (2 * g) (min k (2 ^ l)) (left ws i) (fresh w i) (visited w i c) eL (omega (arith, length-set w i (visitedWord w i c))) (room-left N ws i c w few b r h) (s .0) in
-      let keeps = visit-keeps N ws l (min k (2 ^ l)) (left ws i) (fresh w i) (visited w i c) in
-      let r₂ : N ≤ length (onLeft N ws k i c w l .0) = omega (arith, keeps .size, length-set w i (visitedWord w i c)) in
-      elim (decided (ltb ((2 * g + 1) * 2 ^ l) n)) [
-        | inl d ↦
-            rw (visit-right N ws k i c w l ok tL (eqb-false (k - 2 ^ l) 0 (right-some n l g k e d)), d)
-            (adds-inner N ws i c w few b r h (nodesAt n ws l (2 * g) (left ws i)) (nodesAt n ws l (2 * g + 1) (right ws i)) (onLeft N ws k i c w l .0) _
-            L
-            (visit-adds l (2 * g + 1) (k - 2 ^ l) (right ws i) (fresh w i) (onLeft N ws k i c w l .0) eR r₂ (room-right N ws i c w few b r h _ (onLeft N ws k i c w l .0) L) (rw d at (s .1))))
-        | inr d ↦
-            rw (visit-end N ws k i c w l ok tL (eqb-true (k - 2 ^ l) 0 (right-empty n l g k e d)), d)
-            (adds-inner N ws i c w few b r h (nodesAt n ws l (2 * g) (left ws i)) [] (onLeft N ws k i c w l .0) (onLeft N ws k i c w l .0)
-            L
-            (adds-none N ws (right ws i) (fresh w i) (onLeft N ws k i c w l .0) few (eqb-true (right ws i) none (rw d at (s .1)))))
+  -- a link to node i, at level l over k splitters: a later one, and the first
+  module _ (l k i : ℕ) (w : List ℕ) (f : Fits n l k) (level : l ≤ 8) (b : i < N) (r : N ≤ length w) (h : Room N ws i w) (S : Settled n N ws (suc l) w) where
+    inside : i < length w
+    inside = omega arith
+
+    visited-again : getD w i 0 ≢ 0 → stampOf w i ≡ stamp l k → (tree N ws l k i ≡ true) × Visited n N ws (suc l) i (nodes ws l k i) w (linked w i)
+    visited-again met e =
+        let few-links : links w i < 524287 = omega (arith, h i b, linksTo-le N ws w i) in
+        let T = S i l k b f (omega arith) (omega arith) e in (
+          T .0,
+          record {
+            adds = record {
+              marks = λ x bx. omega (arith, linked-mark w i inside met few-links x, T .1 x bx);
+              counts = λ x bx. omega (arith, linked-links w i inside met few-links x, linked-linksTo w i inside met few-links N ws x);
+            };
+            stays = λ x bx. inl (linked-stamp w i inside x, linked-mark w i inside met few-links x);
+            settled = λ x l' k' bx f' lt m e'.
+                let U = S x l' k' bx f' lt (sym (linked-mark w i inside met few-links x) ∙ m) (sym (linked-stamp w i inside x) ∙ e') in
+                (U .0, λ y by. omega (arith, linked-mark w i inside met few-links y, U .1 y by));
+          },
+        )
+
+    module _ (u : getD w i 0 ≡ 0) where
+      abbrev w₁ : List ℕ
+      w₁ = stamped w i (stamp l k)
+
+      low : stamp l k < 8192
+      low = omega (arith, f .most)
+
+      own-stamp : (x : ℕ) → x ≡ i → stampOf w₁ x ≡ stamp l k
+      own-stamp x e = rw e (omega (arith, low, stamped-word w i (stamp l k) inside u low))
+
+      -- the other nodes are as they were
+      settled-other : (x l' k' : ℕ) → x < N → x ≢ i → Fits n l' k' → l' ≤ l → mark w₁ x ≡ 1 → stampOf w₁ x ≡ stamp l' k' → (tree N ws l' k' x ≡ true) × ((y : ℕ) → y < N → min 1 (count y (nodes ws l' k' x)) ≤ mark w y)
+      settled-other x l' k' bx d f' lt m e =
+          let same = stamped-other w i (stamp l k) inside u low x d in
+          S x l' k' bx f' (omega arith) (ap (λ (q : ℕ). min 1 q) (sym same) ∙ m) (ap (λ (q : ℕ). q % 8192) (sym same) ∙ e)
+
+      -- the node has a stamp above its children's levels
+      into : Settled n N ws l w₁
+      into x l' k' bx f' lt m e = elim (ℕ-discrete x i) [
+        | yes d ↦ absurd (omega (arith, own-stamp x d, f .most, f' .most))
+        | no d ↦ (
+            let U = settled-other x l' k' bx d f' (omega arith) m e in
+            (U .0, λ y by. omega (arith, stamped-mark w i (stamp l k) inside u low y, U .1 y by)))
       ]
+
+      room-left : Room N ws (left ws i) w₁
+      room-left x bx = omega (arith, stamped-links w i (stamp l k) inside u low x, stamped-linksTo w i (stamp l k) inside u low N ws x b, h x bx)
+
+      room-right : (A w₂ : List ℕ) → Adds N ws (left ws i) A w₁ w₂ → Room N ws (right ws i) w₂
+      room-right A w₂ p x bx = omega (arith, p .counts x bx, stamped-links w i (stamp l k) inside u low x, stamped-linksTo w i (stamp l k) inside u low N ws x b, h x bx)
+
+      -- the node, and then its children
+      module _ (A B w₂ w₃ : List ℕ) (p : Visited n N ws l (left ws i) A w₁ w₂) (q : Visited n N ws l (right ws i) B w₂ w₃) (t : tree N ws l k i ≡ true) (en : nodes ws l k i ≡ i ∷ (A ++ B)) where
+        first-adds : Adds N ws i (nodes ws l k i) w w₃
+        first-adds = rw en (record {
+          marks = λ x bx. three-marks (mark w x) (δ x i) (count x A) (count x B) (stamped-mark w i (stamp l k) inside u low x) (p .adds .marks x bx) (q .adds .marks x bx) (omega (arith, count-cons x i (A ++ B), count-append x A B));
+          counts = λ x bx. omega (arith, p .adds .counts x bx, q .adds .counts x bx, stamped-links w i (stamp l k) inside u low x, stamped-linksTo w i (stamp l k) inside u low N ws x b);
+        })
+
+        children-stay : Stays N l w₁ w₃
+        children-stay x bx = elim (q .stays x bx) [
+          | inl s₃ ↦ elim (p .stays x bx) [ inl s₂ ↦ inl (s₃ .0 ∙ s₂ .0, s₃ .1 ∙ s₂ .1) | inr s₂ ↦ inr (omega (arith, s₃ .0)) ]
+          | inr s₃ ↦ inr s₃
+        ]
+
+        first-stays : Stays N (suc l) w w₃
+        first-stays x bx = elim (children-stay x bx) [
+          | inl s ↦ elim (ℕ-discrete x i) [
+            | yes d ↦ inr (omega (arith, s .0, own-stamp x d, f .most))
+            | no d ↦ (let same = stamped-other w i (stamp l k) inside u low x d in inl (s .0 ∙ ap (λ (z : ℕ). z % 8192) same, s .1 ∙ ap (λ (z : ℕ). min 1 z) same))
+          ]
+          | inr s ↦ inr (omega arith)
+        ]
+
+        first-settled : Settled n N ws (suc l) w₃
+        first-settled x l' k' bx f' lt m e = elim (decLt l' l) [
+          | yes below ↦ q .settled x l' k' bx f' below m e
+          | no top ↦ elim (children-stay x bx) [
+            | inl s ↦ elim (ℕ-discrete x i) [
+              | yes d ↦ (
+                  let el : l' ≡ l = omega arith in
+                  let ek : k' ≡ k = omega (arith, s .0, own-stamp x d) in
+                  rw (d, el, ek) (t, λ y by. omega (arith, first-adds .marks y by)))
+              | no d ↦ (
+                  let U = settled-other x l' k' bx d f' (omega arith) (sym (s .1) ∙ m) (sym (s .0) ∙ e) in
+                  (U .0, λ y by. omega (arith, first-adds .marks y by, U .1 y by)))
+            ]
+            | inr s ↦ absurd (omega arith)
+          ]
+        ]
+
+        visited-first : (tree N ws l k i ≡ true) × Visited n N ws (suc l) i (nodes ws l k i) w w₃
+        visited-first = (t, record { adds = first-adds; stays = first-stays; settled = first-settled })
+
+  -- what the outcome p of a visit shows, if it succeeds
+  abbrev Shows : ℕ → ℕ → ℕ → List ℕ → List ℕ × Bool → Type 0
+  Shows l k i w p = p .1 ≡ true → (tree N ws l k i ≡ true) × Visited n N ws (suc l) i (nodes ws l k i) w (p .0)
+
+  -- by whether node i exists, was visited and has the shape
+  met-shows : (l k i : ℕ) (w : List ℕ) → Fits n l k → l ≤ 8 → N ≤ length w → Room N ws i w → Settled n N ws (suc l) w
+      → (i < N → getD w i 0 ≡ 0 → shaped ws l i ≡ true → Shows l k i w (below N ws l k i (stamped w i (stamp l k)))) → Shows l k i w (visit N ws l k i w)
+  met-shows l k i w f level r h S deep = elim (decLt i N) [
+    | yes b ↦ elim (ℕ-discrete (getD w i 0) 0) [
+      | yes u ↦ elim (decided (shaped ws l i)) [
+        | inl s ↦ rw (visit-below N ws k i w b u l s) (deep b u s)
+        | inr s ↦ rw (visit-shapeless N ws k i w b u l s) (λ t. absurd (true≢false (sym t)))
+      ]
+      | no u ↦ rw (visit-again N ws k i w b l u) (λ t. visited-again l k i w f level b r h S u (eqb-true (stampOf w i) (stamp l k) t))
+    ]
+    | no b ↦ rw (visit-off N ws k i w l (omega arith)) (λ t. absurd (true≢false (sym t)))
+  ]
+
+  pub visit-shows : (l k i : ℕ) (w : List ℕ) → Fits n l k → l ≤ 8 → N ≤ length w → Room N ws i w → Settled n N ws (suc l) w → Shows l k i w (visit N ws l k i w)
+  unfolding below
+  visit-shows zero k i w f level r h S = met-shows 0 k i w f level r h S (λ b u s t.
+      let e = both (eqb (left ws i) none) (eqb (right ws i) none) s in
+      let w₁ = stamped w i (stamp 0 k) in
+      let S₁ : Settled n N ws 0 w₁ = into 0 k i w f level b r h S u in
+      visited-first 0 k i w f level b r h S u [] [] w₁ w₁
+      (visited-none 0 (left ws i) w₁ (eqb-true (left ws i) none (e .0)) S₁)
+      (visited-none 0 (right ws i) w₁ (eqb-true (right ws i) none (e .1)) S₁)
+      (leaf-tree N ws k i b s)
+      (leaf-nodes ws k i))
+  visit-shows (suc l) k i w f level r h S = met-shows (suc l) k i w f level r h S (λ b u s.
+      let w₁ = stamped w i (stamp (suc l) k) in
+      let w₂ = onLeft N ws l k i w₁ .0 in
+      let r₁ : N ≤ length w₁ = omega (arith, length-set w i (stamp (suc l) k + 8192)) in
+      let r₂ : N ≤ length w₂ = omega (arith, visit-keeps N ws l (min k (2 ^ l)) (left ws i) w₁ .size) in
+      let L = visit-shows l (min k (2 ^ l)) (left ws i) w₁ (fits-left n l k f) (omega arith) r₁ (room-left (suc l) k i w f level b r h S u) (into (suc l) k i w f level b r h S u) in
+      elim (decided (onLeft N ws l k i w₁ .1)) [
+        | inl tl ↦ elim (ℕ-discrete (k - 2 ^ l) 0) [
+          | yes e ↦ rw (below-end N ws l k i w₁ tl e) (λ t.
+              visited-first (suc l) k i w f level b r h S u (nodes ws l (min k (2 ^ l)) (left ws i)) [] w₂ w₂
+              (L tl .1)
+              (visited-none (suc l) (right ws i) w₂ (eqb-true (right ws i) none t) (L tl .1 .settled))
+              (end-tree N ws k i b l s (L tl .0) e t)
+              (end-nodes ws k i l e))
+          | no e ↦ rw (below-right N ws l k i w₁ tl e) (λ t.
+              let R = visit-shows l (k - 2 ^ l) (right ws i) w₂ (fits-right n l k f e) (omega arith) r₂ (room-right (suc l) k i w f level b r h S u _ w₂ (L tl .1 .adds)) (L tl .1 .settled) t in
+              visited-first (suc l) k i w f level b r h S u (nodes ws l (min k (2 ^ l)) (left ws i)) (nodes ws l (k - 2 ^ l) (right ws i)) w₂ _
+              (L tl .1)
+              (R .1)
+              (inner-tree N ws k i b l s (L tl .0) e (R .0))
+              (inner-nodes ws k i l e))
+        ]
+        | inr tl ↦ rw (below-left N ws l k i w₁ tl) (λ t. absurd (true≢false (sym t)))
+      ])

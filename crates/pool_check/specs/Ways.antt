@@ -3,51 +3,71 @@ use mathlib.Core.Path.{_≡_, refl, _∙_}
 use mathlib.Core.Logic.{_≢_, inl, inr}
 use mathlib.Core.Bool.{Bool, true, false, cond, _&&_}
 use mathlib.Core.List.{List}
-use Prim.Native.Nat.{ℕ, zero, suc, _-_, _^_, _<_, min}
-use native.Mathlib.Decide.{ℕ-discrete}
+use Prim.Native.Nat.{ℕ, zero, suc, _+_, _-_, _%_, _^_, _≤_, _<_, min}
+use native.Mathlib.Omega.{arith}
+use native.Mathlib.Decide.{ℕ-discrete, decLt}
 use borrow.Author.Tests.{eq-eqb, ne-eqb}
 use lib.Dec.{eqb, ltb}
-use lib.ListN.{length, drop, set, length-set}
+use lib.ListN.{length, getD, drop, set, length-set}
 use lib.Seq.{drop-set-lt}
-use Rattle.words.specs.Basics.{none, all}
-use Rattle.words.specs.Tests.{decided, both, lt-of}
+use Rattle.words.specs.Basics.{none, plus, all}
+use Rattle.words.specs.Tests.{decided, ltb-of, nltb-of}
 use Rattle.sizes.specs.Sizes.{height}
 use Rattle.frames.specs.Frames.{frameAt}
 use Rattle.soundness.specs.Soundness.{lives}
 use Rattle.pool.specs.Pool.{left, right}
-use Rattle.pool_check.specs.Algorithm.{mark, fresh, visitedWord, visited, shaped, visit, visitPlace, visitPlaces, nodeRight, unvisited, takeFree, followFree, settle, runCheck}
+use Rattle.pool_check.specs.Algorithm.{stamp, shaped, stamped, linked, meet, visit, below, visitPlace, visitPlaces, nodeRight, unvisited, chainFrom, settle, runCheck}
 use Rattle.pool_check.specs.Answer.{inBounds}
 use Rattle.pool_check.specs.declared.PoolChecked.the-variants.{Bad, Good}
 
-module _ (N : ℕ) (ws : List ℕ) (k i c : ℕ) (w : List ℕ) where
-  pub visit-off : (l : ℕ) → ltb i N && shaped ws l i ≡ false → visit N ws l k i c w ≡ (w, false)
+module _ (N : ℕ) (ws : List ℕ) (k i : ℕ) (w : List ℕ) where
+  pub visit-off : (l : ℕ) → N ≤ i → visit N ws l k i w ≡ (w, false)
   unfolding visit
-  visit-off zero h = rw (h, visit)
-  visit-off (suc l) h = rw (h, visit)
+  visit-off zero h = rw (nltb-of h, visit, meet)
+  visit-off (suc l) h = rw (nltb-of h, visit, meet)
 
-  pub visit-leaf : ltb i N && shaped ws 0 i ≡ true → visit N ws 0 k i c w ≡ (visited w i c, true)
-  unfolding visit
-  visit-leaf h = rw (h, visit)
-
-  -- the visit of the left child
-  abbrev pub onLeft : ℕ → List ℕ × Bool
-  onLeft l = visit N ws l (min k (2 ^ l)) (left ws i) (fresh w i) (visited w i c)
-
-  module _ (l : ℕ) (h : ltb i N && shaped ws (suc l) i ≡ true) where
-    pub visit-left : onLeft l .1 ≡ false → visit N ws (suc l) k i c w ≡ (onLeft l .0, false)
+  module _ (h : i < N) where
+    pub visit-again : (l : ℕ) → getD w i 0 ≢ 0 → visit N ws l k i w ≡ (linked w i, eqb (getD w i 0 % 8192) (stamp l k))
     unfolding visit
-    visit-left t = rw (h, t, visit)
+    visit-again zero u = rw (ltb-of h, ne-eqb (getD w i 0) 0 u, visit, meet)
+    visit-again (suc l) u = rw (ltb-of h, ne-eqb (getD w i 0) 0 u, visit, meet)
 
-    pub visit-end : onLeft l .1 ≡ true → k - 2 ^ l ≡ 0 → visit N ws (suc l) k i c w ≡ (onLeft l .0, eqb (right ws i) none)
-    unfolding visit
-    visit-end t e = rw (h, t, eq-eqb (k - 2 ^ l) 0 e, visit)
+    module _ (u : getD w i 0 ≡ 0) where
+      pub visit-shapeless : (l : ℕ) → shaped ws l i ≡ false → visit N ws l k i w ≡ (stamped w i (stamp l k), false)
+      unfolding visit
+      visit-shapeless zero s = rw (ltb-of h, eq-eqb (getD w i 0) 0 u, s, visit, meet)
+      visit-shapeless (suc l) s = rw (ltb-of h, eq-eqb (getD w i 0) 0 u, s, visit, meet)
 
-    pub visit-right : onLeft l .1 ≡ true → k - 2 ^ l ≢ 0 → visit N ws (suc l) k i c w ≡ visit N ws l (k - 2 ^ l) (right ws i) (fresh w i) (onLeft l .0)
-    unfolding visit
-    visit-right t e = rw (h, t, ne-eqb (k - 2 ^ l) 0 e, visit)
+      -- the visit goes on below the node
+      pub visit-below : (l : ℕ) → shaped ws l i ≡ true → visit N ws l k i w ≡ below N ws l k i (stamped w i (stamp l k))
+      unfolding visit below
+      visit-below zero s = rw (ltb-of h, eq-eqb (getD w i 0) 0 u, s, visit, meet)
+      visit-below (suc l) s = rw (ltb-of h, eq-eqb (getD w i 0) 0 u, s, visit, meet)
+
+pub below-leaf : (N : ℕ) (ws : List ℕ) (l k i : ℕ) (w : List ℕ) → l ≡ 0 → below N ws l k i w ≡ (w, true)
+unfolding below
+below-leaf N ws zero k i w e = refl
+below-leaf N ws (suc l) k i w e = absurd (omega arith)
+
+-- the visit of the left child
+abbrev pub onLeft : ℕ → List ℕ → ℕ → ℕ → ℕ → List ℕ → List ℕ × Bool
+onLeft N ws l k i w = visit N ws l (min k (2 ^ l)) (left ws i) w
+
+module _ (N : ℕ) (ws : List ℕ) (l k i : ℕ) (w : List ℕ) where
+  pub below-left : onLeft N ws l k i w .1 ≡ false → below N ws (suc l) k i w ≡ (onLeft N ws l k i w .0, false)
+  unfolding below
+  below-left t = rw t
+
+  pub below-end : onLeft N ws l k i w .1 ≡ true → k - 2 ^ l ≡ 0 → below N ws (suc l) k i w ≡ (onLeft N ws l k i w .0, eqb (right ws i) none)
+  unfolding below
+  below-end t e = rw (t, eq-eqb (k - 2 ^ l) 0 e)
+
+  pub below-right : onLeft N ws l k i w .1 ≡ true → k - 2 ^ l ≢ 0 → below N ws (suc l) k i w ≡ visit N ws l (k - 2 ^ l) (right ws i) (onLeft N ws l k i w .0)
+  unfolding below
+  below-right t e = rw (t, ne-eqb (k - 2 ^ l) 0 e)
 
 module _ (n h N : ℕ) (fs ws : List ℕ) (p : ℕ) (w : List ℕ) where
-  pub place-live : lives fs p ≡ true → visitPlace n h N fs ws p w ≡ visit N ws h n (frameAt fs p .root) 1 w
+  pub place-live : lives fs p ≡ true → visitPlace n h N fs ws p w ≡ visit N ws h n (frameAt fs p .root) w
   unfolding visitPlace
   place-live e = rw (e, visitPlace)
 
@@ -55,34 +75,25 @@ module _ (n h N : ℕ) (fs ws : List ℕ) (p : ℕ) (w : List ℕ) where
   unfolding visitPlace
   place-free e = rw (e, visitPlace)
 
-module _ (N : ℕ) (w : List ℕ) (a : ℕ) where
-  pub take-yes : ltb a N && eqb (mark w a) 0 ≡ true → takeFree N w a ≡ (set w a 1, true)
-  unfolding takeFree
-  take-yes e = rw (e, takeFree)
-
-  pub take-no : ltb a N && eqb (mark w a) 0 ≡ false → takeFree N w a ≡ (w, false)
-  unfolding takeFree
-  take-no e = rw (e, takeFree)
-
 module _ (N : ℕ) (ws : List ℕ) (first : ℕ) (w : List ℕ) where
-  pub settle-off : all N (nodeRight ws w) ≡ false → settle N ws first w ≡ (w, Bad)
+  pub settle-off : all N (nodeRight ws w) ≡ false → settle N ws first w ≡ Bad
   unfolding settle
-  settle-off e = rw (e, settle)
+  settle-off e = rw e
 
-  pub settle-on : all N (nodeRight ws w) ≡ true → settle N ws first w ≡ (followFree N ws (unvisited N w) first w .0, cond (followFree N ws (unvisited N w) first w .1) (Good (unvisited N w)) Bad)
+  pub settle-on : all N (nodeRight ws w) ≡ true → settle N ws first w ≡ cond (chainFrom N ws w (unvisited N w) first) (Good (unvisited N w)) Bad
   unfolding settle
-  settle-on e = rw (e, settle)
+  settle-on e = rw e
 
 module _ (n N first : ℕ) (fs ws w : List ℕ) where
-  pub run-out : inBounds n N w ≡ false → runCheck n N first fs ws w ≡ (w, Bad)
+  pub run-out : inBounds n N ws w ≡ false → runCheck n N first fs ws w ≡ (w, Bad)
   unfolding runCheck
   run-out e = rw (e, runCheck)
 
-  pub run-off : inBounds n N w ≡ true → visitPlaces n (height n) N fs ws 64 w .1 ≡ false → runCheck n N first fs ws w ≡ (visitPlaces n (height n) N fs ws 64 w .0, Bad)
+  pub run-off : inBounds n N ws w ≡ true → visitPlaces n (height n) N fs ws 64 w .1 ≡ false → runCheck n N first fs ws w ≡ (visitPlaces n (height n) N fs ws 64 w .0, Bad)
   unfolding runCheck
   run-off e t = rw (e, t, runCheck)
 
-  pub run-on : inBounds n N w ≡ true → visitPlaces n (height n) N fs ws 64 w .1 ≡ true → runCheck n N first fs ws w ≡ settle N ws first (visitPlaces n (height n) N fs ws 64 w .0)
+  pub run-on : inBounds n N ws w ≡ true → visitPlaces n (height n) N fs ws 64 w .1 ≡ true → runCheck n N first fs ws w ≡ (visitPlaces n (height n) N fs ws 64 w .0, settle N ws first (visitPlaces n (height n) N fs ws 64 w .0))
   unfolding runCheck
   run-on e t = rw (e, t, runCheck)
 
@@ -100,21 +111,29 @@ keeps-trans p q = record { size = q .size ∙ p .size; rest = q .rest ∙ p .res
 pub keeps-set : (N : ℕ) (w : List ℕ) (i v : ℕ) → i < N → Keeps N w (set w i v)
 keeps-set N w i v h = record { size = length-set w i v; rest = drop-set-lt N w i v h }
 
-pub visit-keeps : (N : ℕ) (ws : List ℕ) (l k i c : ℕ) (w : List ℕ) → Keeps N w (visit N ws l k i c w .0)
-visit-keeps N ws zero k i c w = elim (decided (ltb i N && shaped ws 0 i)) [
-  | inl h ↦ rw (visit-leaf N ws k i c w h) (keeps-set N w i _ (lt-of (both (ltb i N) (shaped ws 0 i) h .0)))
-  | inr h ↦ rw (visit-off N ws k i c w 0 h) keeps-refl
-]
-visit-keeps N ws (suc l) k i c w = elim (decided (ltb i N && shaped ws (suc l) i)) [
-  | inl h ↦ (
-      let onto : Keeps N w (onLeft N ws k i c w l .0) =
-      keeps-trans (keeps-set N w i (visitedWord w i c) (lt-of (both (ltb i N) (shaped ws (suc l) i) h .0))) (visit-keeps N ws l (min k (2 ^ l)) (left ws i) (fresh w i) (visited w i c)) in
-      elim (decided (onLeft N ws k i c w l .1)) [
-        | inl t ↦ elim (ℕ-discrete (k - 2 ^ l) 0) [
-          | yes e ↦ rw (visit-end N ws k i c w l h t e) onto
-          | no e ↦ rw (visit-right N ws k i c w l h t e) (keeps-trans onto (visit-keeps N ws l (k - 2 ^ l) (right ws i) (fresh w i) (onLeft N ws k i c w l .0)))
-        ]
-        | inr t ↦ rw (visit-left N ws k i c w l h t) onto
-      ])
-  | inr h ↦ rw (visit-off N ws k i c w (suc l) h) keeps-refl
-]
+module _ (N : ℕ) (ws : List ℕ) (l k i : ℕ) (w : List ℕ) where
+  -- by whether node i exists, was visited and has the shape
+  met-keeps : Keeps N (stamped w i (stamp l k)) (below N ws l k i (stamped w i (stamp l k)) .0) → Keeps N w (visit N ws l k i w .0)
+  met-keeps deep = elim (decLt i N) [
+    | yes h ↦ elim (ℕ-discrete (getD w i 0) 0) [
+      | yes u ↦ (
+          let s : Keeps N w (stamped w i (stamp l k)) = keeps-set N w i (stamp l k + 8192) h in
+          elim (decided (shaped ws l i)) [ inl e ↦ rw (visit-below N ws k i w h u l e) (keeps-trans s deep) | inr e ↦ rw (visit-shapeless N ws k i w h u l e) s ])
+      | no u ↦ rw (visit-again N ws k i w h l u) (keeps-set N w i (plus (getD w i 0) 8192) h)
+    ]
+    | no h ↦ rw (visit-off N ws k i w l (omega arith)) keeps-refl
+  ]
+
+pub visit-keeps : (N : ℕ) (ws : List ℕ) (l k i : ℕ) (w : List ℕ) → Keeps N w (visit N ws l k i w .0)
+unfolding below
+visit-keeps N ws zero k i w = met-keeps N ws 0 k i w keeps-refl
+visit-keeps N ws (suc l) k i w =
+    let w₁ = stamped w i (stamp (suc l) k) in
+    let s : Keeps N w₁ (onLeft N ws l k i w₁ .0) = visit-keeps N ws l (min k (2 ^ l)) (left ws i) w₁ in
+    met-keeps N ws (suc l) k i w (elim (decided (onLeft N ws l k i w₁ .1)) [
+      | inl t ↦ elim (ℕ-discrete (k - 2 ^ l) 0) [
+        | yes e ↦ rw (below-end N ws l k i w₁ t e) s
+        | no e ↦ rw (below-right N ws l k i w₁ t e) (keeps-trans s (visit-keeps N ws l (k - 2 ^ l) (right ws i) (onLeft N ws l k i w₁ .0)))
+      ]
+      | inr t ↦ rw (below-left N ws l k i w₁ t) s
+    ])

@@ -1,83 +1,83 @@
 // The nodes when all trees are visited, and the free chain.
 ghost use mathlib.Core.Path.{_≡_};
 ghost use mathlib.Core.Bool.{cond};
+ghost use Prim.Native.Nat.{_+_, _*_, _≤_, _<_};
+ghost use lib.ListN.{length};
 ghost use Rattle.words.specs.Basics.{all};
-ghost use Rattle.pool_check.specs.Algorithm.{fresh, nodeRight, unvisited, takeFree, followFree};
+ghost use Rattle.pool_check.specs.Algorithm.{fresh, counted, nodeRight, unvisited, vacant, chainFrom};
 ghost use Rattle.pool_check.specs.declared.PoolChecked.the-variants.{Bad, Good};
 use super::PoolChecked;
 use pool::NONE;
-use pool::left_of;
-use pool::refcount_of;
-use pool::right_of;
-use pool::value_of;
 
 // 1 if node i was not visited, else 0.
-fn is_fresh(work: &[u32], i: u32) -> u32
+fn is_fresh(work: &[u32], i: usize) -> u32
+    requires { ⌜ i < length (now work) ⌝ }
     ensures { λ r. ⌜ r ≡ fresh (now (work .entry)) i ⌝ }
 {
-    1 - words::word(work, i as usize) % 2
+    if work[i] == 0 { 1 } else { 0 }
 }
 
-// Visited, with as many holders as links were counted; or not visited, and free.
-fn node_right(pool: &[u32], work: &[u32], i: u32) -> bool
+// The links counted to node i; none, if it was not visited.
+fn counted(work: &[u32], i: usize) -> u32
+    requires { ⌜ i < length (now work) ⌝ }
+    ensures { λ r. ⌜ r ≡ counted (now (work .entry)) i ⌝ }
+{
+    work[i] / 8192
+}
+
+// Are the links counted to node i its holders?
+fn node_right(pool: &[u32], work: &[u32], i: usize) -> bool
+    requires { ⌜ (4 * i < length (now pool)) × (i < length (now work)) ⌝ }
     ensures { λ r. ⌜ r ≡ nodeRight (now (pool .entry)) (now (work .entry)) i ⌝ }
 {
-    let word = words::word(work, i as usize);
-    let holders = refcount_of(pool, i);
-    if word % 2 == 1 {
-        return holders == word / 2;
-    }
-    if holders != 0 {
-        return false;
-    }
-    if right_of(pool, i) != 0 {
-        return false;
-    }
-    value_of(pool, i) == 0
+    pool[4 * i] == counted(work, i)
 }
 
 // All nodes are right; and how many were not visited.
 pub fn scan(pool: &[u32], work: &[u32], nodes: u32) -> PoolChecked
+    requires { ⌜ (4 * nodes ≤ length (now pool)) × (nodes ≤ length (now work)) ⌝ }
     ensures { λ r. ⌜ r ≡ cond (all nodes (nodeRight (now (pool .entry)) (now (work .entry)))) (Good (unvisited nodes (now (work .entry)))) Bad ⌝ }
 {
-    let mut i: u32 = 0;
+    let end = nodes as usize;
+    let mut i: usize = 0;
     let mut free: u32 = 0;
-    while i < nodes {
-        if !node_right(pool, work, i) {
-            return PoolChecked::Bad;
-        }
+    let mut right = true;
+    while i < end {
+        right = right & node_right(pool, work, i);
         free += is_fresh(work, i);
         i += 1;
     }
-    PoolChecked::Good(free)
+    if right {
+        PoolChecked::Good(free)
+    } else {
+        PoolChecked::Bad
+    }
 }
 
-// Is a a node that was not visited? It is now.
-fn take_free(work: &mut [u32], nodes: u32, a: u32) -> bool
-    ensures { λ r. ⌜ (now (work .exit) ≡ takeFree nodes (now (work .entry)) a .0) × (r ≡ takeFree nodes (now (work .entry)) a .1) ⌝ }
+// Was node i not visited, and has it no right child and no value?
+fn is_vacant(pool: &[u32], work: &[u32], i: usize) -> bool
+    requires { ⌜ (4 * i + 3 < length (now pool)) × (i < length (now work)) ⌝ }
+    ensures { λ r. ⌜ r ≡ vacant (now (pool .entry)) (now (work .entry)) i ⌝ }
 {
-    if a >= nodes {
-        return false;
-    }
-    if is_fresh(work, a) == 0 {
-        return false;
-    }
-    words::put(work, a as usize, 1);
-    true
+    (is_fresh(work, i) == 1) & ((pool[4 * i + 2] == 0) & (pool[4 * i + 3] == 0))
 }
 
-// Has the chain from node first on just so many nodes, each once and none of them visited?
-pub fn follow_free(pool: &[u32], work: &mut [u32], nodes: u32, count: u32, first: u32) -> bool
-    ensures { λ r. ⌜ (now (work .exit) ≡ followFree nodes (now (pool .entry)) count first (now (work .entry)) .0)
-        × (r ≡ followFree nodes (now (pool .entry)) count first (now (work .entry)) .1) ⌝ }
+// Has the chain from node first on just so many nodes, all of them vacant? No node is on such a chain twice: it would not end.
+pub fn follow_free(pool: &[u32], work: &[u32], nodes: u32, count: u32, first: u32) -> bool
+    requires { ⌜ (4 * nodes ≤ length (now pool)) × (nodes ≤ length (now work)) ⌝ }
+    ensures { λ r. ⌜ r ≡ chainFrom nodes (now (pool .entry)) (now (work .entry)) count first ⌝ }
 {
     let mut left = count;
     let mut a = first;
     while left > 0 {
-        if !take_free(work, nodes, a) {
+        if a >= nodes {
             return false;
         }
-        a = left_of(pool, a);
+        let at = a as usize;
+        if !is_vacant(pool, work, at) {
+            return false;
+        }
+        a = pool[4 * at + 1];
         left -= 1;
     }
     a == NONE

@@ -1,6 +1,9 @@
 // The pool part of document 01's soundness, decided in linear time on any words: cycles, wild links, huge counts.
-// Every function is total, and its contract is an equation with a definition of specs/, on all inputs.
+// A contract is an equation with a definition of specs/, on all inputs; only the functions of trees.rt require room for the
+// nodes, which run_check tests first.
 ghost use mathlib.Core.Path.{_≡_};
+ghost use Prim.Native.Nat.{_*_, _≤_};
+ghost use lib.ListN.{length};
 ghost use Rattle.soundness.specs.Soundness.{cleared};
 ghost use Rattle.pool_check.specs.Answer.{poolChecked};
 ghost use Rattle.pool_check.specs.Algorithm.{settle, runCheck};
@@ -22,9 +25,9 @@ pub enum PoolChecked {
 }
 
 // The nodes and the free chain, when the trees are visited.
-fn settle(pool: &[u32], work: &mut [u32], nodes: u32, first: u32) -> PoolChecked
-    ensures { λ r. ⌜ (now (work .exit) ≡ settle nodes (now (pool .entry)) first (now (work .entry)) .0)
-        × (r ≡ settle nodes (now (pool .entry)) first (now (work .entry)) .1) ⌝ }
+fn settle(pool: &[u32], work: &[u32], nodes: u32, first: u32) -> PoolChecked
+    requires { ⌜ (4 * nodes ≤ length (now pool)) × (nodes ≤ length (now work)) ⌝ }
+    ensures { λ r. ⌜ r ≡ settle nodes (now (pool .entry)) first (now (work .entry)) ⌝ }
 {
     let PoolChecked::Good(free) = scan(pool, work, nodes) else {
         return PoolChecked::Bad;
@@ -52,6 +55,9 @@ fn run_check(
         return PoolChecked::Bad;
     }
     if nodes > 16384 {
+        return PoolChecked::Bad;
+    }
+    if 4 * (nodes as usize) > pool.len() {
         return PoolChecked::Bad;
     }
     if (nodes as usize) > work.len() {

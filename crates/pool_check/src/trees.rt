@@ -1,76 +1,105 @@
-// The live frames' trees are visited: each node reached is marked, and the links to it are counted.
+// The live frames' trees are visited: each node reached is stamped, and the links to it are counted.
 ghost use mathlib.Core.Path.{_≡_};
-ghost use mathlib.Core.Bool.{_&&_};
-ghost use Prim.Native.Nat.{_^_, min};
-ghost use lib.Dec.{ltb};
-ghost use Rattle.pool_check.specs.Algorithm.{fresh, visited, shaped, visit, visitPlace, visitPlaces};
+ghost use Prim.Native.Nat.{_+_, _*_, _^_, _≤_, _<_, min};
+ghost use lib.ListN.{length};
+ghost use Rattle.pool_check.specs.Algorithm.{shaped, visit, below, Met, Roomy, visitPlace, visitPlaces};
 use pool::NONE;
-use pool::left_of;
-use pool::right_of;
-use pool::value_of;
 
-// Is i a node, with what a node of this level has, its children aside?
-fn is_shaped(pool: &[u32], nodes: u32, level: u32, i: u32) -> bool
-    ensures { λ r. ⌜ r ≡ ltb i nodes && shaped (now (pool .entry)) level i ⌝ }
+// What comes of a link to a node: it must not be, it is done, or the node is visited for the first time and has children.
+const REFUSED: u32 = 0;
+
+const DONE: u32 = 1;
+
+const FIRST: u32 = 2;
+
+// Has node i what a node of this level has, its children aside?
+fn is_shaped(pool: &[u32], level: u32, i: u32) -> bool
+    requires { ⌜ 4 * i + 4 ≤ length (now pool) ⌝ }
+    ensures { λ r. ⌜ r ≡ shaped (now (pool .entry)) level i ⌝ }
 {
-    if i >= nodes {
-        return false;
-    }
+    let at = 4 * (i as usize);
     if level != 0 {
-        return value_of(pool, i) == 0;
+        return pool[at + 3] == 0;
     }
-    if left_of(pool, i) != NONE {
+    if pool[at + 1] != NONE {
         return false;
     }
-    right_of(pool, i) == NONE
+    pool[at + 2] == NONE
 }
 
-// Node i is visited, by c links that count. Gives 1 if it was not visited before, else 0.
-fn visit_node(work: &mut [u32], i: u32, c: u32) -> u32
-    ensures { λ r. ⌜ (now (work .exit) ≡ visited (now (work .entry)) i c) × (r ≡ fresh (now (work .entry)) i) ⌝ }
+// A link to node i, which is to stand at this level over k splitters.
+fn meet(pool: &[u32], work: &mut [u32], nodes: u32, level: u32, k: u32, i: u32) -> u32
+    requires { ⌜ Roomy nodes (now pool) (now work) level k ⌝ }
+    ensures { λ r. ⌜ Met nodes (now (pool .entry)) level k i (now (work .entry)) (now (work .exit)) r ⌝ }
 {
+    if i >= nodes {
+        return REFUSED;
+    }
     let at = i as usize;
-    let word = words::word(work, at);
-    let fresh = 1 - word % 2;
-    let counted = words::add(word, words::add(c, c));
-    words::put(work, at, words::add(counted, fresh));
-    fresh
+    let word = work[at];
+    let stamp = 512 * level + k;
+    if word != 0 {
+        work[at] = words::add(word, 8192);
+        return if word % 8192 == stamp { DONE } else { REFUSED };
+    }
+    work[at] = stamp + 8192;
+    if !is_shaped(pool, level, i) {
+        return REFUSED;
+    }
+    if level == 0 { DONE } else { FIRST }
 }
 
 // Of k splitters, those under the left child of a node of level l + 1.
 fn left_part(k: u32, l: u32) -> u32
+    requires { ⌜ l < 32 ⌝ }
     ensures { λ r. ⌜ r ≡ min k (2 ^ l) ⌝ }
 {
-    if l >= 32 {
-        return k;
-    }
     let half: u32 = 1 << l;
     if k < half { k } else { half }
 }
 
-// Visits the tree of node i, of this level over k splitters; c is 1 if the link to i is to be counted. A node's own links are
-// counted when it is first visited. False where it is no such tree.
-fn visit(pool: &[u32], work: &mut [u32], nodes: u32, level: u32, k: u32, i: u32, c: u32) -> bool
-    ensures { λ r. ⌜ (now (work .exit) ≡ visit nodes (now (pool .entry)) level k i c (now (work .entry)) .0)
-        × (r ≡ visit nodes (now (pool .entry)) level k i c (now (work .entry)) .1) ⌝ }
+// What is below node i, which is visited for the first time, at this level over k splitters.
+fn walk(pool: &[u32], work: &mut [u32], nodes: u32, level: u32, k: u32, i: u32) -> bool
+    requires { ⌜ Roomy nodes (now pool) (now work) level k × (i < nodes) × (0 < level) ⌝ }
+    ensures { λ r. ⌜ (now (work .exit) ≡ below nodes (now (pool .entry)) level k i (now (work .entry)) .0)
+        × (r ≡ below nodes (now (pool .entry)) level k i (now (work .entry)) .1) ⌝ }
 {
-    if !is_shaped(pool, nodes, level, i) {
-        return false;
-    }
-    let fresh = visit_node(work, i, c);
-    if level == 0 {
-        return true;
-    }
+    let at = 4 * (i as usize);
     let l = level - 1;
     let part = left_part(k, l);
-    if !visit(pool, work, nodes, l, part, left_of(pool, i), fresh) {
+    let left = pool[at + 1];
+    let met = meet(pool, work, nodes, l, part, left);
+    if met == REFUSED {
         return false;
     }
+    if met == FIRST {
+        if !walk(pool, work, nodes, l, part, left) {
+            return false;
+        }
+    }
+    let right = pool[at + 2];
     let rest = k - part;
     if rest == 0 {
-        return right_of(pool, i) == NONE;
+        return right == NONE;
     }
-    visit(pool, work, nodes, l, rest, right_of(pool, i), fresh)
+    let met_right = meet(pool, work, nodes, l, rest, right);
+    if met_right != FIRST {
+        return met_right == DONE;
+    }
+    walk(pool, work, nodes, l, rest, right)
+}
+
+// A link to node i, which is to be the root of a tree of this level over k splitters.
+fn visit(pool: &[u32], work: &mut [u32], nodes: u32, level: u32, k: u32, i: u32) -> bool
+    requires { ⌜ Roomy nodes (now pool) (now work) level k ⌝ }
+    ensures { λ r. ⌜ (now (work .exit) ≡ visit nodes (now (pool .entry)) level k i (now (work .entry)) .0)
+        × (r ≡ visit nodes (now (pool .entry)) level k i (now (work .entry)) .1) ⌝ }
+{
+    let met = meet(pool, work, nodes, level, k, i);
+    if met != FIRST {
+        return met == DONE;
+    }
+    walk(pool, work, nodes, level, k, i)
 }
 
 // The tree of the frame at place p, if it lives.
@@ -83,6 +112,7 @@ fn visit_place(
     nodes: u32,
     p: u32,
 ) -> bool
+    requires { ⌜ Roomy nodes (now pool) (now work) height n ⌝ }
     ensures { λ r. ⌜ (now (work .exit) ≡ visitPlace n height nodes (now (frames .entry)) (now (pool .entry)) p (now (work .entry)) .0)
         × (r ≡ visitPlace n height nodes (now (frames .entry)) (now (pool .entry)) p (now (work .entry)) .1) ⌝ }
 {
@@ -90,7 +120,7 @@ fn visit_place(
     if f.live != 1 {
         return true;
     }
-    visit(pool, work, nodes, height, n, f.root, 1)
+    visit(pool, work, nodes, height, n, f.root)
 }
 
 // The trees of all live frames.
@@ -102,6 +132,7 @@ pub fn visit_places(
     height: u32,
     nodes: u32,
 ) -> bool
+    requires { ⌜ Roomy nodes (now pool) (now work) height n ⌝ }
     ensures { λ r. ⌜ (now (work .exit) ≡ visitPlaces n height nodes (now (frames .entry)) (now (pool .entry)) 64 (now (work .entry)) .0)
         × (r ≡ visitPlaces n height nodes (now (frames .entry)) (now (pool .entry)) 64 (now (work .entry)) .1) ⌝ }
 {

@@ -56,5 +56,10 @@ pub mod SoundSteps
 pub mod EmptyTape
 -- a work slice that is too short is left alone
 pub mod WorkSlice
+-- ---- the tape loop's invariant
+-- a sound core, kept by every step
+pub mod Kept
+-- what a sound core gives to code that indexes without a test
+pub mod Ready
 -- the lengths of a state's two tables never change
 pub mod Lengths

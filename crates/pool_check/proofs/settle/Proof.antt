@@ -1,29 +1,19 @@
 use mathlib.Core.Path.{sym, _∙_}
 use borrow.Author.Needs.{needs}
-use Rattle.pool_check.proofs.Laws.{parts, settle-wrong, settle-found, settle-lost}
+use Rattle.pool_check.proofs.Laws.{settle-wrong, settle-found, settle-lost}
 use Rattle.pool_check.proofs.settle.Statement.{statement}
 use Rattle.pool_check.proofs.settle.Tie as tie
 
 returns : tie.Need-returns
-returns c = parts (settle-wrong _ _ _ _ _ (c .before .before .scan .ensures) (c .enum-told .given .1))
+returns c = settle-wrong _ _ _ _ _ (c .before .before .scan .ensures) (c .enum-told .given .1)
 
 returns-2 : tie.Need-returns-2
-returns-2 c = rw (c .before .before .before .follow-free .ensures .0) (parts (settle-found _ _ _ _ _ (c .before .before .before .before .before .before .before .before .scan .ensures) _ (c .before .before .before .before .before .before .free .given .1) (sym (c .before .before .before .follow-free .ensures .1) ∙ c .if1 .taken)))
+returns-2 c = settle-found _ _ _ _ _ (c .before .before .before .before .before .scan .ensures) _ (c .before .before .before .free .given .1) (sym (c .before .follow-free .ensures) ∙ c .if1 .taken)
 
 returns-3 : tie.Need-returns-3
-returns-3 c = rw (c .before .before .before .follow-free .ensures .0) (parts (settle-lost _ _ _ _ _ (c .before .before .before .before .before .before .before .before .scan .ensures) _ (c .before .before .before .before .before .before .free .given .1) (sym (c .before .before .before .follow-free .ensures .1) ∙ c .if1 .left)))
+returns-3 c = settle-lost _ _ _ _ _ (c .before .before .before .before .before .scan .ensures) _ (c .before .before .before .free .given .1) (sym (c .before .follow-free .ensures) ∙ c .if1 .left)
 
 pub settle-spec : {M : Type 1} → statement M
 settle-spec =
     tie.close
-    (tie.spec
-    (λ c κs. search needs)
-    (λ c. search needs)
-    (λ c. search needs)
-    (λ c. search needs)
-    returns
-    (λ c κs. search needs)
-    (λ c. search needs)
-    returns-2
-    (λ c. search needs)
-    returns-3)
+    (tie.spec (λ c κs. search needs) (λ c. search needs) (λ c. search needs) returns (λ c κs. search needs) returns-2 returns-3)

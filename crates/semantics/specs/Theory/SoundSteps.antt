@@ -22,14 +22,14 @@ use Rattle.model.specs.Theory.DequeShape.{DequeInvariant}
 use Rattle.model.specs.Theory.Deques.{deques-turn}
 use Rattle.semantics.specs.declared.State.{State}
 use Rattle.semantics.specs.Core.{Core, actingIn, spawned, ended, robbed, waited, valued, wrote, stepOn, doneBy}
-use Rattle.semantics.specs.Entries.{numbersOf, coreOf}
-use Rattle.semantics.specs.Demands.{plainOf, SoundStep}
+use Rattle.semantics.specs.Entries.{numbersOf, coreOf, stateOf}
+use Rattle.semantics.specs.Demands.{plainOf, stepOf, SoundStep}
 use Rattle.semantics.specs.Theory.Relation.{Relates, rootOf, rootsOf}
 use Rattle.semantics.specs.Theory.Places.{length-perm, acting-frame, live-few, treeOf}
 use Rattle.semantics.specs.Theory.RelationFacts.{trees-perm}
 use Rattle.semantics.specs.Theory.Pools.{LiveTrees, live-laws, Beyond, spawn-beyond, return-beyond, write-beyond}
 use Rattle.semantics.specs.Theory.Refusals.{refused-alike}
-use Rattle.semantics.specs.Theory.Simulation.{simulates, numbers-kept}
+use Rattle.semantics.specs.Theory.Simulation.{Simulates, simulates, numbers-kept}
 use Rattle.semantics.specs.Theory.ToSound.{to-sound}
 use Rattle.semantics.specs.Theory.FromSoundRelates.{from-sound}
 
@@ -90,19 +90,41 @@ module _ (M : Machine) (c : Core) (r : Relates (LiveTrees (c .head .nodes) (M .s
 kept : (M : Machine) (st : Step) → FrameTree M → DequeInvariant M → FrameTree (step M st) × DequeInvariant (step M st)
 kept M st tree shape = step-kept (λ K. FrameTree K × DequeInvariant K) M (λ t h i. (tree-turn M t h (i .0), deques-turn M t h (i .0) (i .1))) st (tree, shape)
 
+abbrev counted : State → List ℕ → Core
+counted s ws = coreOf s ws (freeCount (numbersOf s) ws)
+
+module _ (s : State) (ws : List ℕ) (st : Step) (dlen : length (s .deques) ≡ 520) (flen : length (s .frames) ≡ 384) (e : sound (numbersOf s) (s .deques) (s .frames) ws ≡ true) where
+  simulated : Simulates (LiveTrees (s .nodes) (s .splitters)) (plainOf s ws) (counted s ws) st
+  simulated =
+      let F = from-sound (numbersOf s) (s .deques) (s .frames) ws e dlen flen in
+      let r = F .0 in
+      simulates (LiveTrees (s .nodes) (s .splitters)) (plainOf s ws) (counted s ws) r (live-laws (s .nodes) (s .splitters) (r .numbers .few-nodes) (r .numbers .some-splitter)) (F .1) (F .2) (F .3) (F .4) (F .5) st
+
+  -- what the step leaves relates to the plain machine's next
+  pub step-relates : let c = stepOf s ws st .core in
+      let M = step (plainOf s ws) st in
+      Relates (LiveTrees (c .head .nodes) (M .splitters)) M c
+  step-relates =
+      let M = step (plainOf s ws) st in
+      let c = stepOf s ws st .core in
+      subst (λ N. Relates (LiveTrees N (M .splitters)) M c) (sym (numbers-kept (counted s ws) st .nodes))
+      (subst (λ n. Relates (LiveTrees (s .nodes) n) M c) (sym (sizes-step (plainOf s ws) st .splitters)) (simulated .related))
+
+  -- it is sound, and has the free nodes that it says
+  pub step-sound : let c = stepOf s ws st .core in (sound (numbersOf (stateOf c)) (c .deques) (c .frames) (c .pool) ≡ true) × (freeCount (numbersOf (stateOf c)) (c .pool) ≡ c .head .spare)
+  step-sound =
+      let F = from-sound (numbersOf s) (s .deques) (s .frames) ws e dlen flen in
+      let k = kept (plainOf s ws) st (F .1) (F .2) in
+      to-sound (step (plainOf s ws) st) (stepOf s ws st .core) step-relates (k .0) (k .1)
+
 pub sound-step : (s : State) (ws : List ℕ) (st : Step) → length (s .deques) ≡ 520 → length (s .frames) ≡ 384 → sound (numbersOf s) (s .deques) (s .frames) ws ≡ true → SoundStep s ws st
 sound-step s ws st dlen flen e =
     let M = plainOf s ws in
-    let c = coreOf s ws (freeCount (numbersOf s) ws) in
+    let c = counted s ws in
     let F = from-sound (numbersOf s) (s .deques) (s .frames) ws e dlen flen in
-    let r = F .0 in
-    let S = simulates (LiveTrees (s .nodes) (s .splitters)) M c r (live-laws (s .nodes) (s .splitters) (r .numbers .few-nodes) (r .numbers .some-splitter)) (F .1) (F .2) (F .3) (F .4) (F .5) st in
-    let z = sizes-step M st in
-    let k = kept M st (F .1) (F .2) in
-    let r′ = subst (λ N. Relates (LiveTrees N ((step M st) .splitters)) (step M st) (stepOn c st .core)) (sym (numbers-kept c st .nodes))
-    (subst (λ n. Relates (LiveTrees (s .nodes) n) (step M st) (stepOn c st .core)) (sym (z .splitters)) (S .related)) in
-    let t = to-sound (step M st) (stepOn c st .core) r′ (k .0) (k .1) in
-    let b = step-beyond M c r (F .1) (F .2) (F .5) st in
+    let S = simulated s ws st dlen flen e in
+    let t = step-sound s ws st dlen flen e in
+    let b = step-beyond M c (F .0) (F .1) (F .2) (F .5) st in
     record {
       free = sym (F .5);
       same-first = S .answers .first;
@@ -110,7 +132,7 @@ sound-step s ws st dlen flen e =
         | inl q ↦ inl q
         | inr q ↦ inr (sym (S .answers .first) ∙ ap (λ p. p .0) (q .5), q .5 ∙ ap (λ j. (106, j)) (sym (t .1)))
       ];
-      refused = unchanged M c r (F .1) (F .2) (F .5) st;
+      refused = unchanged M c (F .0) (F .1) (F .2) (F .5) st;
       sound-after = t .0;
       same-length = b .0;
       beyond = b .1;

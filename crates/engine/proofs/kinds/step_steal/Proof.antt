@@ -5,19 +5,12 @@ use Rattle.engine.proofs.kinds.step_steal.Statement.{statement}
 use Rattle.engine.proofs.kinds.step_steal.Tie as tie
 
 returns : tie.Need-returns
-returns c = refused-out _ _ _ _ _ _ _ _ _ (c .before .before .verdict .given .1) (c .refused .ensures)
-    ∙ steal-by _ _ _ _ _ _ _ (c .before .before .before .before .steal-verdict .ensures)
+returns c =
+    refused-out _ _ _ _ _ _ _ _ _ (c .before .before .verdict .given .1) (c .refused .ensures) ∙ steal-by _ _ _ _ _ _ _ (c .before .before .before .before .steal-verdict .ensures)
 
 returns-2 : tie.Need-returns-2
 returns-2 c =
-    let at-steal-frame = c .before .before in
-    let at-frame-in = at-steal-frame .before .before in
-    let at-top-of = at-frame-in .before in
-    let at-enum-told = at-top-of .before .before .before in
-    let at-steal-verdict = at-enum-told .before .before in
-    passed-out _ _ _ _ (at-enum-told .enum-told .given .1)
-    (steal-acts _ _ _ _ _ _ _ _ _ (at-top-of .top-of .ensures) (at-frame-in .frame-in .ensures) (at-steal-frame .steal-frame .ensures))
-    ∙ steal-by _ _ _ _ _ _ _ (at-steal-verdict .steal-verdict .ensures)
+    passed-out _ _ _ _ (c .before .before .before .before .before .before .before .before .before .enum-told .given .1) (steal-acts _ _ _ _ _ _ _ _ _ _ _ (c .before .before .before .before .before .before .top-of .ensures) (c .before .before .before .before .before .frame-in .ensures) (c .before .before .before .steal-frame .ensures) (c .unchanged .ensures)) ∙ steal-by _ _ _ _ _ _ _ (c .before .before .before .before .before .before .before .before .before .before .before .steal-verdict .ensures)
 
 pub step-steal-spec : {M : Type 1} → statement M
-step-steal-spec = tie.close (tie.spec (λ c κs. search needs) (λ c. search needs) (λ c κs. search needs) (λ c. search needs) returns (λ c. search needs) (λ c κs. search needs) (λ c κs. search needs) (λ c κs. search needs) (λ c. search needs) (λ c. search needs) returns-2)
+step-steal-spec = tie.close (tie.spec (λ c κs. search needs) (λ c. search needs) (λ c κs. search needs) (λ c. search needs) returns (λ c. search needs) (λ c κs. search needs) (λ c κs. search needs) (λ c κs. search needs) (λ c κs. search needs) (λ c. search needs) (λ c. search needs) returns-2)

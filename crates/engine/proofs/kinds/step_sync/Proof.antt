@@ -5,13 +5,12 @@ use Rattle.engine.proofs.kinds.step_sync.Statement.{statement}
 use Rattle.engine.proofs.kinds.step_sync.Tie as tie
 
 returns : tie.Need-returns
-returns c = refused-out _ _ _ _ _ _ _ _ _ (c .before .before .verdict .given .1) (c .refused .ensures)
-    ∙ sync-by _ _ _ _ _ _ (c .before .before .before .before .acting-verdict .ensures)
+returns c =
+    refused-out _ _ _ _ _ _ _ _ _ (c .before .before .verdict .given .1) (c .refused .ensures) ∙ sync-by _ _ _ _ _ _ (c .before .before .before .before .acting-verdict .ensures)
 
 returns-2 : tie.Need-returns-2
-returns-2 c = passed-out _ _ _ _ (c .before .before .before .before .before .before .before .enum-told .given .1)
-    (sync-acts _ _ _ _ _ _ _ _ (c .before .before .before .before .sync-frame .ensures))
-    ∙ sync-by _ _ _ _ _ _ (c .before .before .before .before .before .before .before .before .before .acting-verdict .ensures)
+returns-2 c =
+    passed-out _ _ _ _ (c .before .before .before .before .before .before .before .before .enum-told .given .1) (sync-acts _ _ _ _ _ _ _ _ _ _ (c .before .before .before .before .before .sync-frame .ensures) (c .unchanged .ensures)) ∙ sync-by _ _ _ _ _ _ (c .before .before .before .before .before .before .before .before .before .before .acting-verdict .ensures)
 
 pub step-sync-spec : {M : Type 1} → statement M
-step-sync-spec = tie.close (tie.spec (λ c κs. search needs) (λ c. search needs) (λ c κs. search needs) (λ c. search needs) returns (λ c. search needs) (λ c κs. search needs) (λ c. search needs) (λ c. search needs) returns-2)
+step-sync-spec = tie.close (tie.spec (λ c κs. search needs) (λ c. search needs) (λ c κs. search needs) (λ c. search needs) returns (λ c. search needs) (λ c κs. search needs) (λ c κs. search needs) (λ c. search needs) (λ c. search needs) returns-2)

@@ -1,5 +1,4 @@
--- The invariant: the records that are left, run from here, leave what all of them leave from the start.
-use borrow.Author.Needs.{needs}
+-- The invariant: the core is sound, and the records that are left, run from here, leave what all of them leave from the start.
 use mathlib.Core.Path.{_≡_, refl, sym, ap, _∙_}
 use Prim.Native.Nat.{_≤_, _<_, _-_, _*_, _/_}
 use native.Mathlib.Omega.{arith}
@@ -7,65 +6,76 @@ use lib.ListN.{length}
 use Rattle.semantics.specs.declared.Answer.{Answer}
 use Rattle.semantics.specs.Answers.{answerWords}
 use Rattle.semantics.specs.Entries.{ran, runOn, recordsFrom, recordsOf}
-use Rattle.engine.specs.Promises.{core}
-use Rattle.engine.proofs.Turns.{turn, finish, begin}
+use Rattle.semantics.specs.Theory.Kept.{Kept}
+use Rattle.engine.specs.Promises.{core, renewed}
+use Rattle.engine.proofs.Turns.{turn-kept, finish, begin, ready-head}
+use borrow.Author.Needs.{needs}
 use Rattle.engine.proofs.records.run_tape.Statement.{statement}
 use Rattle.engine.proofs.records.run_tape.Tie as tie
 
 abbrev Inv-loop : tie.InvT-loop
-Inv-loop deques₀ frames₀ pool₀ tape answers₀ head₀ i₀ deques frames pool answers head i =
+Inv-loop h deques₀ frames₀ pool₀ tape answers₀ free₀ vacant₀ spare₀ i₀ deques frames pool answers free vacant spare i =
     (i ≤ length tape / 8) × (length deques ≡ length deques₀) × (length frames ≡ length frames₀) × (length pool ≡ length pool₀) × (length answers ≡ length answers₀)
-    × (runOn (ran (core head deques frames pool) answers) (i * 2) (recordsFrom (length tape / 8 - i) tape (i * 8)) ≡ runOn (ran (core head₀ deques₀ frames₀ pool₀) answers₀) 0 (recordsOf tape))
+    × Kept (core (renewed h free vacant spare) deques frames pool)
+    × (runOn (ran (core (renewed h free vacant spare) deques frames pool) answers) (i * 2) (recordsFrom (length tape / 8 - i) tape (i * 8)) ≡ runOn (ran (core h deques₀ frames₀ pool₀) answers₀) 0 (recordsOf tape))
 
 abbrev μ-loop : tie.MeasureT-loop
-μ-loop deques₀ frames₀ pool₀ tape answers₀ head₀ i₀ deques frames pool answers head i = length tape / 8 - i
+μ-loop h deques₀ frames₀ pool₀ tape answers₀ free₀ vacant₀ spare₀ i₀ deques frames pool answers free vacant spare i = length tape / 8 - i
 
 loop-holds : tie.Need-loop-holds Inv-loop μ-loop
-loop-holds c = (search needs, refl, refl, refl, refl, begin _ _ _)
+loop-holds c =
+    (search needs, refl, refl, refl, refl, c .before .before .before .before .before .pre .0, begin _ _ _)
+
+step-record-requires : tie.Need-step-record-requires Inv-loop μ-loop
+step-record-requires c κs =
+    let q : c .before .before .before .before .before .loop .i < length (c .before .before .before .before .before .before .before .before .before .before .before .args .tape .now) / 8 = c .before .before .before .before .loop-test .taken in
+    (ready-head _ _ _ _ _ (c .before .before .before .head-with .ensures) (c .before .before .before .before .before .loop .inv .5), omega arith)
+
+put-answer-requires : tie.Need-put-answer-requires Inv-loop μ-loop
+put-answer-requires c κs =
+    let q : c .before .before .before .before .before .before .before .before .before .before .before .before .before .before .before .before .loop .i < length (c .before .before .before .before .before .before .before .before .before .before .before .before .before .before .before .before .before .before .before .before .before .before .args .tape .now) / 8 = c .before .before .before .before .before .before .before .before .before .before .before .before .before .before .before .loop-test .taken in
+    omega (arith, c .before .before .before .before .before .before .before .before .before .before .before .before .before .before .before .before .before .before .before .before .before .before .pre .1, c .before .before .before .before .before .before .before .before .before .before .before .before .before .before .before .before .loop .inv .4)
 
 loop-again : tie.Need-loop-again Inv-loop μ-loop
 loop-again c =
-    let at-put-answer = c .before .before in
-    let at-first-word = at-put-answer .before in
-    let at-enum-told = at-first-word .before .before in
-    let at-step-record = at-enum-told .before .before .before .before .before .before .before .before .before in
-    let at-loop-test = at-step-record .before .before .before .before in
-    let at-loop = at-loop-test .before in
-    let start = at-loop .before .before .before .before .before .before in
-    let inv = at-loop .loop .inv in
-    let i = at-loop .loop .i in
-    let q : i < length (start .args .tape .now) / 8 = at-loop-test .loop-test .taken in (
+    let inv = c .before .before .before .before .before .before .before .before .before .before .before .before .before .before .before .before .before .before .before .loop .inv in
+    let i = c .before .before .before .before .before .before .before .before .before .before .before .before .before .before .before .before .before .before .before .loop .i in
+    let q : i < length (c .before .before .before .before .before .before .before .before .before .before .before .before .before .before .before .before .before .before .before .before .before .before .before .before .before .args .tape .now) / 8 = c .before .before .before .before .before .before .before .before .before .before .before .before .before .before .before .before .before .before .loop-test .taken in
+    let t = turn-kept (c .before .before .before .before .before .before .before .before .before .before .before .before .before .before .before .before .before .before .before .before .before .before .before .before .before .args .tape .now) (length (c .before .before .before .before .before .before .before .before .before .before .before .before .before .before .before .before .before .before .before .before .before .before .before .before .before .args .tape .now) / 8) (c .before .before .before .before .before .before .before .before .before .before .before .before .before .before .before .before .before .before .before .before .before .before .before .before .before .args .h) _ _ _ _ _ _ _ _ _ _ _ _ _ _ _ _ i _ _ (c .before .before .before .before .before .before .before .before .before .before .before .before .before .before .before .before .before .head-with .ensures) (inv .5) q (c .before .before .before .before .before .before .before .before .before .before .before .before .before .step-record .ensures)
+    (c .before .before .before .first-word .ensures) (sym (ap (λ (a : Answer). answerWords a .1) (c .before .before .before .before .before .enum-told .given .1))) (c .before .before .put-answer .ensures) in (
       omega arith,
-      at-step-record .step-record .kept .1 .0 ∙ inv .1,
-      at-step-record .step-record .kept .1 .1 .0 ∙ inv .2,
-      at-step-record .step-record .kept .1 .1 .1 .0 ∙ inv .3,
-      at-put-answer .put-answer .kept .0 ∙ inv .4,
-      turn _ _ _ _ _ i _ _ _ q (at-step-record .step-record .ensures) (at-first-word .first-word .ensures) (sym (ap (λ (a : Answer). answerWords a .1) (at-enum-told .enum-told .given .1))) (at-put-answer .put-answer .ensures) ∙ inv .5,
+      c .before .before .before .before .before .before .before .before .before .before .before .before .before .step-record .kept .1 .0 ∙ inv .1,
+      c .before .before .before .before .before .before .before .before .before .before .before .before .before .step-record .kept .1 .1 .0 ∙ inv .2,
+      c .before .before .before .before .before .before .before .before .before .before .before .before .before .step-record .kept .1 .1 .1 .0 ∙ inv .3,
+      c .before .before .put-answer .kept .0 ∙ inv .4,
+      t .0,
+      t .1 ∙ inv .6,
     )
+
+put-answer-requires-2 : tie.Need-put-answer-requires-2 Inv-loop μ-loop
+put-answer-requires-2 c κs =
+    let q : c .before .before .before .before .before .before .before .before .before .before .before .before .before .before .before .before .before .before .loop .i < length (c .before .before .before .before .before .before .before .before .before .before .before .before .before .before .before .before .before .before .before .before .before .before .before .before .args .tape .now) / 8 = c .before .before .before .before .before .before .before .before .before .before .before .before .before .before .before .before .before .loop-test .taken in
+    omega (arith, c .before .before .before .before .before .before .before .before .before .before .before .before .before .before .before .before .before .before .before .before .before .before .before .before .pre .1, c .before .before .before .before .before .before .before .before .before .before .before .before .before .before .before .before .before .before .loop .inv .4)
 
 loop-again-2 : tie.Need-loop-again-2 Inv-loop μ-loop
 loop-again-2 c =
-    let at-put-answer2 = c .before .before in
-    let at-done-number = at-put-answer2 .before in
-    let at-done-kind = at-done-number .before in
-    let at-answer = at-done-kind .before .before .before in
-    let at-step-record = at-answer .before .before .before .before .before .before .before .before .before in
-    let at-loop-test = at-step-record .before .before .before .before in
-    let at-loop = at-loop-test .before in
-    let start = at-loop .before .before .before .before .before .before in
-    let inv = at-loop .loop .inv in
-    let i = at-loop .loop .i in
-    let q : i < length (start .args .tape .now) / 8 = at-loop-test .loop-test .taken in (
+    let inv = c .before .before .before .before .before .before .before .before .before .before .before .before .before .before .before .before .before .before .before .before .before .loop .inv in
+    let i = c .before .before .before .before .before .before .before .before .before .before .before .before .before .before .before .before .before .before .before .before .before .loop .i in
+    let q : i < length (c .before .before .before .before .before .before .before .before .before .before .before .before .before .before .before .before .before .before .before .before .before .before .before .before .before .before .before .args .tape .now) / 8 = c .before .before .before .before .before .before .before .before .before .before .before .before .before .before .before .before .before .before .before .before .loop-test .taken in
+    let t = turn-kept (c .before .before .before .before .before .before .before .before .before .before .before .before .before .before .before .before .before .before .before .before .before .before .before .before .before .before .before .args .tape .now) (length (c .before .before .before .before .before .before .before .before .before .before .before .before .before .before .before .before .before .before .before .before .before .before .before .before .before .before .before .args .tape .now) / 8) (c .before .before .before .before .before .before .before .before .before .before .before .before .before .before .before .before .before .before .before .before .before .before .before .before .before .before .before .args .h) _ _ _ _ _ _ _ _ _ _ _ _ _ _ _ _ i _ _ (c .before .before .before .before .before .before .before .before .before .before .before .before .before .before .before .before .before .before .before .head-with .ensures) (inv .5) q (c .before .before .before .before .before .before .before .before .before .before .before .before .before .before .before .step-record .ensures)
+    (c .before .before .before .before .done-kind .ensures ∙ sym (ap (λ (a : Answer). answerWords a .0) (c .before .before .before .before .before .before .before .answer .given .1))) (c .before .before .before .done-number .ensures ∙ sym (ap (λ (a : Answer). answerWords a .1) (c .before .before .before .before .before .before .before .answer .given .1))) (c .before .before .put-answer2 .ensures) in (
       omega arith,
-      at-step-record .step-record .kept .1 .0 ∙ inv .1,
-      at-step-record .step-record .kept .1 .1 .0 ∙ inv .2,
-      at-step-record .step-record .kept .1 .1 .1 .0 ∙ inv .3,
-      at-put-answer2 .put-answer2 .kept .0 ∙ inv .4,
-      turn _ _ _ _ _ i _ _ _ q (at-step-record .step-record .ensures) (at-done-kind .done-kind .ensures ∙ sym (ap (λ (a : Answer). answerWords a .0) (at-answer .answer .given .1))) (at-done-number .done-number .ensures ∙ sym (ap (λ (a : Answer). answerWords a .1) (at-answer .answer .given .1))) (at-put-answer2 .put-answer2 .ensures) ∙ inv .5,
+      c .before .before .before .before .before .before .before .before .before .before .before .before .before .before .before .step-record .kept .1 .0 ∙ inv .1,
+      c .before .before .before .before .before .before .before .before .before .before .before .before .before .before .before .step-record .kept .1 .1 .0 ∙ inv .2,
+      c .before .before .before .before .before .before .before .before .before .before .before .before .before .before .before .step-record .kept .1 .1 .1 .0 ∙ inv .3,
+      c .before .before .put-answer2 .kept .0 ∙ inv .4,
+      t .0,
+      t .1 ∙ inv .6,
     )
 
 returns : tie.Need-returns Inv-loop μ-loop
-returns c = sym (finish _ _ _ (c .before .loop .i) _ _ (c .loop-test .left)) ∙ c .before .loop .inv .5
+returns c =
+    rw (c .head-with2 .ensures) (sym (finish _ _ _ (c .before .before .loop .i) _ _ (c .before .loop-test .left)) ∙ c .before .before .loop .inv .6)
 
 pub run-tape-spec : {M : Type 1} → statement M
-run-tape-spec = tie.close (tie.spec Inv-loop μ-loop loop-holds (λ c. search needs) (λ c. search needs) (λ c. search needs) (λ c κs. search needs) (λ c. search needs) (λ c. search needs) (λ c κs. search needs) (λ c κs. search needs) (λ c. search needs) loop-again (λ c κs. search needs) (λ c κs. search needs) (λ c κs. search needs) (λ c. search needs) loop-again-2 (λ c. search needs) (λ c. search needs) (λ c. search needs) (λ c. search needs) returns)
+run-tape-spec = tie.close (tie.spec Inv-loop μ-loop loop-holds (λ c. search needs) (λ c. search needs) (λ c. search needs) (λ c κs. search needs) step-record-requires (λ c. search needs) (λ c. search needs) (λ c κs. search needs) put-answer-requires (λ c. search needs) loop-again (λ c κs. search needs) (λ c κs. search needs) put-answer-requires-2 (λ c. search needs) loop-again-2 (λ c κs. search needs) (λ c. search needs) (λ c. search needs) (λ c. search needs) (λ c. search needs) returns)

@@ -1,10 +1,10 @@
--- After the two tests the record's 8 bytes are in the tape.
+-- The record's 8 bytes are in the tape.
 use mathlib.Core.Path.{_≡_, _∙_}
 use Prim.Native.Nat.{ℕ, _+_}
 use native.Mathlib.Omega.{arith}
 use lib.ListN.{length}
 use borrow.Author.Needs.{needs}
-use borrow.Author.Tests.{lt-ltb, le-ltb}
+use borrow.Author.Tests.{le-ltb}
 use Rattle.model.specs.Record.{recordOf, decodeAt}
 use Rattle.model.proofs.record.decode.Statement.{statement}
 use Rattle.model.proofs.record.decode.Tie as tie
@@ -14,44 +14,9 @@ same-fields ek ew ef ev = λ i. recordOf (ek i) (ew i) (ef i) (ev i)
 
 returns : tie.Need-returns
 unfolding decodeAt
-returns c = rw (lt-ltb (length (c .before .before .args .tape .now)) (c .before .before .args .at + 8) (omega arith))
-
-returns-2 : tie.Need-returns-2
-unfolding decodeAt
-returns-2 c = rw (lt-ltb (length (c .before .before .before .args .tape .now)) (c .before .before .before .args .at + 8) (omega arith))
-
-returns-3 : tie.Need-returns-3
-unfolding decodeAt
-returns-3 c =
-    let a = c .before .before .before .before .before .before .before .before .before .before .before .before .before .before .before .before .args in
-    rw (le-ltb (length (a .tape .now)) (a .at + 8) (omega arith))
-    (c .step-of .ensures ∙ same-fields (c .before .before .before .wide .ensures) (c .before .wide2 .ensures) (c .before .before .before .before .before .before .before .before .before .before .number16 .ensures) (c .before .before .before .before .before .number32 .ensures))
+returns c =
+    let a = c .before .before .before .before .before .before .before .before .before .before .before .before .before .before .args in
+    rw (le-ltb (length (a .tape .now)) (a .at + 8) (omega arith)) (c .step-of .ensures ∙ same-fields (c .before .before .before .wide .ensures) (c .before .wide2 .ensures) (c .before .before .before .before .before .before .before .before .before .before .number16 .ensures) (c .before .before .before .before .before .number32 .ensures))
 
 pub decode-spec : {M : Type 1} → statement M
-decode-spec =
-    tie.close
-    (tie.spec
-    returns
-    (λ c. search needs)
-    returns-2
-    (λ c. search needs)
-    (λ c. search needs)
-    (λ c. search needs)
-    (λ c. search needs)
-    (λ c κs. search needs)
-    (λ c. search needs)
-    (λ c. search needs)
-    (λ c. search needs)
-    (λ c. search needs)
-    (λ c. search needs)
-    (λ c. search needs)
-    (λ c. search needs)
-    (λ c. search needs)
-    (λ c κs. search needs)
-    (λ c. search needs)
-    (λ c κs. search needs)
-    (λ c. search needs)
-    (λ c. search needs)
-    (λ c κs. search needs)
-    (λ c κs. search needs)
-    returns-3)
+decode-spec = tie.close (tie.spec (λ c. search needs) (λ c. search needs) (λ c. search needs) (λ c. search needs) (λ c κs. search needs) (λ c. search needs) (λ c. search needs) (λ c. search needs) (λ c. search needs) (λ c. search needs) (λ c. search needs) (λ c. search needs) (λ c. search needs) (λ c κs. search needs) (λ c. search needs) (λ c κs. search needs) (λ c. search needs) (λ c. search needs) (λ c κs. search needs) (λ c κs. search needs) returns)

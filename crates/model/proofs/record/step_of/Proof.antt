@@ -1,69 +1,35 @@
 -- Each arm knows its kind, and the last one that it is none of them.
+use mathlib.Core.Path.{sym, _∙_}
 use borrow.Author.Needs.{needs}
-use borrow.Author.Tests.{ne-eqb}
-use Rattle.model.specs.Record.{recordOf}
+use Rattle.model.specs.Theory.Unused.{unused-invalid, spawn-used, return-used, steal-used, sync-used, read-used, write-used, no-kind}
 use Rattle.model.proofs.record.step_of.Statement.{statement}
 use Rattle.model.proofs.record.step_of.Tie as tie
 
-spawn-requires : tie.Need-valid-if-zero-requires
-spawn-requires c κs = search needs
+returns : tie.Need-returns
+returns c = unused-invalid (c .before .before .args .worker) (c .before .before .args .field) (c .before .before .args .value) (c .before .before .args .kind) (sym (c .before .misused .ensures) ∙ c .if1 .taken)
 
-return-requires : tie.Need-valid-if-zero-requires-2
-return-requires c κs = search needs
+returns-2 : tie.Need-returns-2
+returns-2 c = rw (c .match .keys1) (spawn-used (c .before .before .before .args .worker) (c .before .before .before .args .field) (c .before .before .before .args .value) (rw (← c .match .keys1) (sym (c .before .before .misused .ensures) ∙ c .before .if1 .left)))
 
-steal-requires : tie.Need-valid-if-zero-requires-3
-steal-requires c κs = search needs
+returns-3 : tie.Need-returns-3
+returns-3 c = rw (c .match .keys2) (return-used (c .before .before .before .args .worker) (c .before .before .before .args .field) (c .before .before .before .args .value) (rw (← c .match .keys2) (sym (c .before .before .misused .ensures) ∙ c .before .if1 .left)))
 
-sync-requires : tie.Need-valid-if-zero-requires-4
-sync-requires c κs = search needs
+returns-4 : tie.Need-returns-4
+returns-4 c = rw (c .match .keys3) (steal-used (c .before .before .before .args .worker) (c .before .before .before .args .field) (c .before .before .before .args .value) (rw (← c .match .keys3) (sym (c .before .before .misused .ensures) ∙ c .before .if1 .left)))
 
-read-requires : tie.Need-valid-if-zero-requires-5
-read-requires c κs = search needs
+returns-5 : tie.Need-returns-5
+returns-5 c = rw (c .match .keys4) (sync-used (c .before .before .before .args .worker) (c .before .before .before .args .field) (c .before .before .before .args .value) (rw (← c .match .keys4) (sym (c .before .before .misused .ensures) ∙ c .before .if1 .left)))
 
-spawn-returns : tie.Need-returns
-unfolding recordOf
-spawn-returns c = rw (c .before .match .keys1) (c .valid-if-zero .ensures)
+returns-6 : tie.Need-returns-6
+returns-6 c = rw (c .match .keys5) (read-used (c .before .before .before .args .worker) (c .before .before .before .args .field) (c .before .before .before .args .value) (rw (← c .match .keys5) (sym (c .before .before .misused .ensures) ∙ c .before .if1 .left)))
 
-return-returns : tie.Need-returns-2
-unfolding recordOf
-return-returns c = rw (c .before .match .keys2) (c .valid-if-zero2 .ensures)
+returns-7 : tie.Need-returns-7
+returns-7 c = rw (c .match .keys6) (write-used (c .before .before .before .args .worker) (c .before .before .before .args .field) (c .before .before .before .args .value))
 
-steal-returns : tie.Need-returns-3
-unfolding recordOf
-steal-returns c = rw (c .before .match .keys3) (c .valid-if-zero3 .ensures)
-
-sync-returns : tie.Need-returns-4
-unfolding recordOf
-sync-returns c = rw (c .before .match .keys4) (c .valid-if-zero4 .ensures)
-
-read-returns : tie.Need-returns-5
-unfolding recordOf
-read-returns c = rw (c .before .match .keys5) (c .valid-if-zero5 .ensures)
-
-write-returns : tie.Need-returns-6
-unfolding recordOf
-write-returns c = rw (c .match .keys6)
-
-other-returns : tie.Need-returns-7
-unfolding recordOf
-other-returns c =
-    let kind = c .before .args .kind in
+returns-8 : tie.Need-returns-8
+returns-8 c =
     let r = c .match .rest in
-    rw (ne-eqb kind 1 (r .0 .0 .0 .0 .0 .1), ne-eqb kind 2 (r .0 .0 .0 .0 .1), ne-eqb kind 3 (r .0 .0 .0 .1), ne-eqb kind 4 (r .0 .0 .1), ne-eqb kind 5 (r .0 .1), ne-eqb kind 6 (r .1))
+    no-kind (c .before .before .before .args .worker) (c .before .before .before .args .field) (c .before .before .before .args .value) (c .before .before .before .args .kind) (r .0 .0 .0 .0 .0 .1) (r .0 .0 .0 .0 .1) (r .0 .0 .0 .1) (r .0 .0 .1) (r .0 .1) (r .1)
 
 pub step-of-spec : {M : Type 1} → statement M
-step-of-spec =
-    tie.close
-    (tie.spec
-    spawn-requires
-    return-requires
-    steal-requires
-    sync-requires
-    read-requires
-    spawn-returns
-    return-returns
-    steal-returns
-    sync-returns
-    read-returns
-    write-returns
-    other-returns)
+step-of-spec = tie.close (tie.spec (λ c κs. search needs) returns returns-2 returns-3 returns-4 returns-5 returns-6 returns-7 returns-8)

@@ -1,0 +1,112 @@
+-- The unused fields of a record, tested before its kind.
+use mathlib.Core.Path.{_≡_, refl, sym, _∙_}
+use mathlib.Core.Bool.{Bool, true, false, cond, not, _&&_}
+use mathlib.Core.Logic.{_≢_}
+use Prim.Native.Nat.{ℕ}
+use native.Mathlib.Decide.{ℕ-discrete}
+use borrow.Author.Tests.{eq-eqb, ne-eqb}
+use lib.Dec.{eqb}
+use Rattle.words.specs.Tests.{true≢false}
+use Rattle.model.specs.declared.Step.{Step}
+use Rattle.model.specs.declared.Step.the-variants.{Spawn, Return, Steal, Sync, Read, Write}
+use Rattle.model.specs.declared.Decoded.{Decoded}
+use Rattle.model.specs.declared.Decoded.the-variants.{Valid, Invalid}
+use Rattle.model.specs.Record.{validIf, recordOf}
+
+-- is a field that this kind does not use other than zero?
+unfoldable pub unusedSet : ℕ → ℕ → ℕ → Bool
+unusedSet kind field value =
+    cond (eqb kind 5) (not (eqb value 0))
+    (cond (eqb kind 6) false (cond (not (eqb value 0)) true (cond (eqb kind 3) false (not (eqb field 0)))))
+
+-- ---- one field or two, as tests
+
+both-bad : (a b : Bool) (s : Step) → cond (not b) true (not a) ≡ true → Invalid ≡ validIf (a && b) s
+both-bad true true s e = absurd (true≢false (sym e))
+both-bad true false s e = refl
+both-bad false b s e = refl
+
+both-good : (a b : Bool) (s : Step) → cond (not b) true (not a) ≡ false → Valid s ≡ validIf (a && b) s
+both-good true true s e = refl
+both-good true false s e = absurd (true≢false e)
+both-good false true s e = absurd (true≢false e)
+both-good false false s e = absurd (true≢false e)
+
+one-bad : (b : Bool) (s : Step) → cond (not b) true false ≡ true → Invalid ≡ validIf b s
+one-bad true s e = absurd (true≢false (sym e))
+one-bad false s e = refl
+
+one-good : (b : Bool) (s : Step) → cond (not b) true false ≡ false → Valid s ≡ validIf b s
+one-good true s e = refl
+one-good false s e = absurd (true≢false e)
+
+not-bad : (b : Bool) (s : Step) → not b ≡ true → Invalid ≡ validIf b s
+not-bad true s e = absurd (true≢false (sym e))
+not-bad false s e = refl
+
+not-good : (b : Bool) (s : Step) → not b ≡ false → Valid s ≡ validIf b s
+not-good true s e = refl
+not-good false s e = absurd (true≢false e)
+
+-- ---- the kinds
+
+module _ (w f v : ℕ) where
+  pub spawn-used : unusedSet 1 f v ≡ false → Valid (Spawn w) ≡ recordOf 1 w f v
+  unfolding recordOf unusedSet
+  spawn-used e = both-good (eqb f 0) (eqb v 0) (Spawn w) e
+
+  pub return-used : unusedSet 2 f v ≡ false → Valid (Return w) ≡ recordOf 2 w f v
+  unfolding recordOf unusedSet
+  return-used e = both-good (eqb f 0) (eqb v 0) (Return w) e
+
+  pub steal-used : unusedSet 3 f v ≡ false → Valid (Steal w f) ≡ recordOf 3 w f v
+  unfolding recordOf unusedSet
+  steal-used e = one-good (eqb v 0) (Steal w f) e
+
+  pub sync-used : unusedSet 4 f v ≡ false → Valid (Sync w) ≡ recordOf 4 w f v
+  unfolding recordOf unusedSet
+  sync-used e = both-good (eqb f 0) (eqb v 0) (Sync w) e
+
+  pub read-used : unusedSet 5 f v ≡ false → Valid (Read w f) ≡ recordOf 5 w f v
+  unfolding recordOf unusedSet
+  read-used e = not-good (eqb v 0) (Read w f) e
+
+  pub write-used : Valid (Write w f v) ≡ recordOf 6 w f v
+  unfolding recordOf
+  write-used = refl
+
+  pub no-kind : (k : ℕ) → k ≢ 1 → k ≢ 2 → k ≢ 3 → k ≢ 4 → k ≢ 5 → k ≢ 6 → Invalid ≡ recordOf k w f v
+  unfolding recordOf
+  no-kind k h1 h2 h3 h4 h5 h6 = rw (ne-eqb k 1 h1, ne-eqb k 2 h2, ne-eqb k 3 h3, ne-eqb k 4 h4, ne-eqb k 5 h5, ne-eqb k 6 h6)
+
+  known : (k : ℕ) → unusedSet k f v ≡ true → (k ≡ 1 → Invalid ≡ recordOf 1 w f v) × (k ≡ 2 → Invalid ≡ recordOf 2 w f v) × (k ≡ 3 → Invalid ≡ recordOf 3 w f v)
+      × (k ≡ 4 → Invalid ≡ recordOf 4 w f v) × (k ≡ 5 → Invalid ≡ recordOf 5 w f v) × (k ≡ 6 → Invalid ≡ recordOf 6 w f v)
+  unfolding recordOf unusedSet
+  known k e = (
+    λ h. both-bad (eqb f 0) (eqb v 0) (Spawn w) (rw h at e),
+    λ h. both-bad (eqb f 0) (eqb v 0) (Return w) (rw h at e),
+    λ h. one-bad (eqb v 0) (Steal w f) (rw h at e),
+    λ h. both-bad (eqb f 0) (eqb v 0) (Sync w) (rw h at e),
+    λ h. not-bad (eqb v 0) (Read w f) (rw h at e),
+    λ h. absurd (true≢false (sym (rw h at e))),
+  )
+
+  pub unused-invalid : (k : ℕ) → unusedSet k f v ≡ true → Invalid ≡ recordOf k w f v
+  unused-invalid k e =
+      let q = known k e in
+      elim (ℕ-discrete k 1) [
+        | yes h ↦ rw h (q .0 h)
+        | no h1 ↦ elim (ℕ-discrete k 2) [
+          | yes h ↦ rw h (q .1 h)
+          | no h2 ↦ elim (ℕ-discrete k 3) [
+            | yes h ↦ rw h (q .2 h)
+            | no h3 ↦ elim (ℕ-discrete k 4) [
+              | yes h ↦ rw h (q .3 h)
+              | no h4 ↦ elim (ℕ-discrete k 5) [
+                | yes h ↦ rw h (q .4 h)
+                | no h5 ↦ elim (ℕ-discrete k 6) [ yes h ↦ rw h (q .5 h) | no h6 ↦ no-kind k h1 h2 h3 h4 h5 h6 ]
+              ]
+            ]
+          ]
+        ]
+      ]

@@ -1,0 +1,155 @@
+-- What a sound core gives to code that indexes the deques, the frame table and the pool without a test.
+use mathlib.Core.Path.{_≡_, sym, ap, _∙_, subst}
+use mathlib.Core.Logic.{_⊎_, inl, inr}
+use mathlib.Core.Bool.{cond}
+use mathlib.Core.List.{List, [], _∷_}
+use Prim.Native.Nat.{ℕ, suc, _-_, _≤_, _<_}
+use native.Mathlib.Omega.{arith}
+use native.Mathlib.Decide.{ℕ-discrete}
+use lib.ListN.{length}
+use borrow.Author.Tests.{eq-eqb}
+use Rattle.words.specs.Basics.{none, Chain, below, δ, count}
+use Rattle.words.specs.Chains.{chain-start}
+use Rattle.words.specs.Counting.{δ-same, δ-other, δ-le, count-cons, sum-ge}
+use Rattle.words.specs.Tests.{ltb-of}
+use Rattle.sizes.specs.Sizes.{height, width, treeNodes}
+use Rattle.sizes.specs.Heights.{height-covers, height-le}
+use Rattle.sizes.specs.Widths.{width-pos}
+use Rattle.pool.specs.Links.{Link, LinksIn, PathIn}
+use Rattle.pool.specs.Theory.Operations.{Live}
+use Rattle.pool.specs.Theory.Soundness.{linkLevel, linkSize, sound-live}
+use Rattle.pool.specs.Theory.LiveLinks.{live-links, live-free, live-path}
+use Rattle.frames.specs.Frames.{frameAt}
+use Rattle.frames.specs.Deques.{size, place, bottom}
+use Rattle.frames.specs.Theory.Lists.{dequeList, list-length}
+use Rattle.frames.specs.Theory.Places.{nextFree}
+use Rattle.soundness.specs.Soundness.{lives, rootsBelow, liveRoots, freeNodes}
+use Rattle.semantics.specs.Core.{Core, actingIn}
+use Rattle.semantics.specs.Entries.{numbersOf, stateOf}
+use Rattle.semantics.specs.Theory.FreeLists.{and-of, once-short}
+use Rattle.semantics.specs.Theory.Facts.{Lives, FramesFacts, SoundFacts}
+use Rattle.semantics.specs.Theory.Sentences.{sound-facts}
+use Rattle.semantics.specs.Theory.PoolSentences.{pool-fact}
+use Rattle.semantics.specs.Theory.FromSoundPlaces.{count-In, below-of, roots-below, deque-live}
+use Rattle.semantics.specs.Theory.Kept.{Kept}
+
+pub record Ready (c : Core) : Type 0 where
+  pub few-workers : c .head .workers ≤ 8
+  pub few-splitters : c .head .splitters ≤ 256
+  pub low : c .head .height ≤ 8
+  pub some-node : 0 < c .head .nodes
+  pub long-deques : length (c .deques) ≡ 520
+  pub long-frames : length (c .frames) ≡ 384
+  pub links : LinksIn (c .head .nodes) (c .pool)
+  pub free : Link (c .head .nodes) (c .head .free)
+  pub vacant : (c .head .vacant < 64) ⊎ (c .head .vacant ≡ none)
+  pub sizes : (w : ℕ) → w < 8 → size (c .deques) w ≤ 64
+  pub places : (w k : ℕ) → w < 8 → k < size (c .deques) w → place (c .deques) w k < 64
+  -- a place is free, so fewer than 64 frames live
+  pub room : (w : ℕ) → w < 8 → c .head .vacant < 64 → size (c .deques) w < 64
+  pub root : (w : ℕ) → w < 8 → 0 < size (c .deques) w → actingIn c w .root < c .head .nodes
+  pub parent : (w : ℕ) → w < 8 → 0 < size (c .deques) w → (actingIn c w .parent < 64) ⊎ (actingIn c w .parent ≡ none)
+  pub path : (w x : ℕ) → w < 8 → 0 < size (c .deques) w → x < c .head .splitters → PathIn (c .head .nodes) (c .pool) (c .head .height) (actingIn c w .root) x
+
+-- a tree has a node
+some-tree : (n : ℕ) → 0 < n → 0 < treeNodes n
+unfolding treeNodes
+some-tree n p = omega (arith, sum-ge (suc (height n)) 0 (width n) (omega arith), width-pos n 0 p)
+
+-- ---- frames and deques
+
+module _ {workers first : ℕ} {ds fs : List ℕ} (F : FramesFacts workers first ds fs) (few : workers ≤ 8) where
+  -- a frame stands at most once in a deque, and only if it lives
+  deque-once : (w : ℕ) → w < 8 → (p : ℕ) → p < 64 → count p (dequeList ds w) ≤ 1
+  deque-once w b p h = elim (ℕ-discrete (frameAt fs p .live) 1) [
+    | yes l ↦ (let g = sum-ge 8 w (λ v. count p (dequeList ds v)) b in elim (F .placed p h l) [ inl r ↦ omega (arith, g, r .0) | inr r ↦ omega (arith, g, r .0) ])
+    | no l ↦ elim (ℕ-discrete (count p (dequeList ds w)) 0) [ yes z ↦ omega arith | no z ↦ absurd (l (deque-live F few w p b (count-In p (dequeList ds w) (omega arith)) .1)) ]
+  ]
+
+  -- the first free place is in no deque
+  first-out : first < 64 → (w : ℕ) → w < 8 → count first (dequeList ds w) ≡ 0
+  first-out h w b = elim (ℕ-discrete (count first (dequeList ds w)) 0) [
+    | yes z ↦ z
+    | no z ↦ (let l = deque-live F few w first b (count-In first (dequeList ds w) (omega arith)) .1 in elim (F .places .each first h) [
+      | inl r ↦ absurd (listed (F .places .gs) (F .places .chain) (r .1))
+      | inr r ↦ absurd (omega (arith, l, ap (λ f. f .live) (r .0 .1)))
+    ])
+  ]
+    where
+      listed : (gs : List ℕ) → Chain (nextFree fs) 64 first gs → count first gs ≡ 0 → ⊥
+      listed [] c o = omega (arith, c)
+      listed (g ∷ gs) c o = omega (arith, count-cons first g gs, ap (δ first) (c .0), δ-same first)
+
+  -- with it they are at most 64
+  deque-room : first < 64 → (w : ℕ) → w < 8 → size ds w < 64
+  deque-room h w b =
+      let L = dequeList ds w in
+      let short = once-short (λ x. x) 64 (first ∷ L) (and-of _ (below 64 L) (ltb-of h) (below-of 64 L (λ p m. deque-live F few w p b m .0)))
+      (λ p i. elim (ℕ-discrete p first) [
+        | yes e ↦ omega (arith, count-cons p first L, ap (λ q. count q L) e, first-out h w b, δ-le p first)
+        | no e ↦ omega (arith, count-cons p first L, δ-other p first e, deque-once w b p i)
+      ]) in
+      omega (arith, short, list-length ds w)
+
+  -- the bottom frame of a deque
+  bottom-lives : (w : ℕ) → w < 8 → 0 < size ds w → (bottom ds w < 64) × Lives fs (bottom ds w)
+  unfolding bottom
+  bottom-lives w b h = F .hold-live w b (size ds w - 1) (omega arith)
+
+  live-parent : (p : ℕ) → p < 64 → Lives fs p → (frameAt fs p .parent < 64) ⊎ (frameAt fs p .parent ≡ none)
+  live-parent p b l = elim (ℕ-discrete (frameAt fs p .depth) 0) [
+    | yes e ↦ elim (F .one-main) [ inl h ↦ absurd (h .0 p b l) | inr m ↦ inr (ap (λ q. frameAt fs q .parent) (m .only p b l e) ∙ m .orphan) ]
+    | no e ↦ inl (F .parents p b l e .0)
+  ]
+
+-- a live frame's root is one of the roots
+root-counted : (fs : List ℕ) (c p : ℕ) → p < c → Lives fs p → 0 < count (frameAt fs p .root) (rootsBelow fs c)
+root-counted fs c p b l =
+    let i = frameAt fs p .root in
+    let one : cond (lives fs p) (δ i (frameAt fs p .root)) 0 ≡ 1 = rw (eq-eqb (frameAt fs p .live) 1 l) (δ-same i) in
+    omega (arith, roots-below i c fs, sum-ge c p (λ q. cond (lives fs q) (δ i (frameAt fs q .root)) 0) b, one)
+
+-- ---- the whole
+
+module _ (c : Core) (K : Kept c) where
+  S : SoundFacts (numbersOf (stateOf c)) (c .deques) (c .frames) (c .pool)
+  S = sound-facts (numbersOf (stateOf c)) (c .deques) (c .frames) (c .pool) (K .is-sound)
+
+  small : c .head .nodes ≤ none
+  small = omega (arith, S .numbers .few-nodes)
+
+  trees : Live (c .head .nodes) (height (c .head .splitters)) (c .head .splitters) (linkLevel (height (c .head .splitters)) (c .pool)) (linkSize (height (c .head .splitters)) (c .pool)) (c .pool) (c .head .free)
+      (freeNodes (c .head .nodes) (c .pool) (c .head .free)) (liveRoots (c .frames))
+  trees =
+      let n = c .head .splitters in
+      sound-live (c .head .nodes) (height n) n small (S .numbers .some-splitter) (height-covers n)
+      (pool-fact n (c .head .nodes) (c .pool) (c .head .free) (liveRoots (c .frames)) (S .numbers .room) (S .pool))
+
+  acting-root : (w : ℕ) → w < 8 → 0 < size (c .deques) w → 0 < count (actingIn c w .root) (liveRoots (c .frames))
+  acting-root w b h = (let r = bottom-lives (S .frames) (S .numbers .few-workers) w b h in root-counted (c .frames) 64 (bottom (c .deques) w) (r .0) (r .1))
+
+  pub kept-ready : Ready c
+  kept-ready =
+      let n = c .head .splitters in
+      let N = c .head .nodes in
+      let F = S .frames in
+      let few = S .numbers .few-workers in
+      record {
+        few-workers = few;
+        few-splitters = S .numbers .few-splitters;
+        low = omega (arith, K .tall, height-le n 8 (omega (arith, S .numbers .few-splitters)));
+        some-node = omega (arith, S .numbers .enough, some-tree n (S .numbers .some-splitter));
+        long-deques = K .long-deques;
+        long-frames = K .long-frames;
+        links = live-links N (height n) n small (height-covers n) trees;
+        free = live-free N (height n) n small (height-covers n) trees;
+        vacant = chain-start 64 (nextFree (c .frames)) (c .head .vacant) (F .places .gs) (F .places .chain);
+        sizes = F .within;
+        places = λ w k b h. F .hold-live w b k h .0;
+        room = λ w b h. deque-room F few h w b;
+        root = λ w b h. trees .roots (actingIn c w .root) (acting-root w b h) .inside;
+        parent = λ w b h. (let r = bottom-lives F few w b h in live-parent F few (bottom (c .deques) w) (r .0) (r .1));
+        path = λ w x b h i.
+            subst (λ (t : ℕ). PathIn N (c .pool) t (actingIn c w .root) x) (sym (K .tall))
+            (live-path N (height n) n small (height-covers n) trees (actingIn c w .root) x (acting-root w b h) i);
+      }
