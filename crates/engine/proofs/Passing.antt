@@ -1,26 +1,32 @@
 -- What is known of the indices when a step's tests have passed in a ready core.
 use mathlib.Core.Path.{_≡_, refl, sym, ap, _∙_, subst}
-use mathlib.Core.Logic.{inl}
-use mathlib.Core.Bool.{Bool, true, false, not}
+use mathlib.Core.Logic.{_⊎_, inl, inr}
+use mathlib.Core.Bool.{Bool, true, false, not, _||_}
 use mathlib.Core.List.{List, [], _∷_}
 use Prim.Native.Nat.{ℕ, _*_, _-_, _≤_, _<_}
 use native.Mathlib.Omega.{arith}
 use lib.Dec.{eqb, ltb}
 use lib.ListN.{length}
-use borrow.Author.Tests.{eqb-false, not-false}
-use Rattle.words.specs.Tests.{lt-of}
+use borrow.Author.Tests.{eqb-true, eqb-false, not-false}
+use Rattle.words.specs.Tests.{neither, lt-of, ge-of}
+use Rattle.words.specs.Basics.{none}
 use Rattle.pool.specs.Links.{Link, LinksIn, PathIn}
 use Rattle.frames.specs.declared.Frame.{Frame}
 use Rattle.frames.specs.Frames.{frameAt}
 use Rattle.frames.specs.Deques.{size, place, bottom}
+use Rattle.frames.specs.Ranges.{Acts}
 use Rattle.semantics.specs.declared.Head.{Head}
 use Rattle.semantics.specs.declared.Refusal.{Refusal}
-use Rattle.semantics.specs.declared.Refusal.the-variants.{NoWorker, MainReturned, WorkerIdle, NoSplitter}
-use Rattle.semantics.specs.Core.{actingTests, allIdle}
+use Rattle.semantics.specs.declared.Refusal.the-variants.{NoWorker, MainReturned, WorkerIdle, ThiefBusy, NoVictim, FramesFull, NoSplitter}
+use Rattle.semantics.specs.Core.{actingTests, stealTests, allIdle}
 use Rattle.semantics.specs.Theory.Ready.{Ready}
 use Rattle.engine.specs.declared.Verdict.{Verdict}
 use Rattle.engine.specs.declared.Verdict.the-variants.{Pass, Refuse}
 use Rattle.engine.specs.Promises.{core, verdict, orRefuse}
+
+-- what the tests ask
+pub tests-ask : {h : Head} {ds fs ws : List ℕ} → Ready (core h ds fs ws) → (length ds ≡ 520) × (h .workers ≤ 8)
+tests-ask r = (r .long-deques, r .few-workers)
 
 -- three tests
 pass-three : (a b c : Bool) (q r s : Refusal) → Pass ≡ verdict ((a, q) ∷ (b, r) ∷ (c, s) ∷ []) → (a ≡ false) × (c ≡ false)
@@ -28,6 +34,26 @@ pass-three true b c q r s e = let z : _≡_ {A = ℕ} 0 1 = cc in absurd (omega 
 pass-three false true c q r s e = let z : _≡_ {A = ℕ} 0 1 = cc in absurd (omega arith)
 pass-three false false true q r s e = let z : _≡_ {A = ℕ} 0 1 = cc in absurd (omega arith)
 pass-three false false false q r s e = (refl, refl)
+
+-- four tests
+pass-four : (a b c d : Bool) (q r s t : Refusal) → Pass ≡ verdict ((a, q) ∷ (b, r) ∷ (c, s) ∷ (d, t) ∷ []) → (a ≡ false) × (c ≡ false) × (d ≡ false)
+pass-four true b c d q r s t e = let z : _≡_ {A = ℕ} 0 1 = cc in absurd (omega arith)
+pass-four false true c d q r s t e = let z : _≡_ {A = ℕ} 0 1 = cc in absurd (omega arith)
+pass-four false false true d q r s t e = let z : _≡_ {A = ℕ} 0 1 = cc in absurd (omega arith)
+pass-four false false false true q r s t e = let z : _≡_ {A = ℕ} 0 1 = cc in absurd (omega arith)
+pass-four false false false false q r s t e = (refl, refl, refl)
+
+-- a steal: the thief is idle, and the victim has two frames
+pub steal-asks : (h : Head) (ds fs ws : List ℕ) (w v : ℕ) → Ready (core h ds fs ws) → (u : Verdict) → u ≡ verdict (stealTests (core h ds [] []) w v) → u ≡ Pass
+    → (length ds ≡ 520) × (w < 8) × (v < 8) × (size ds w ≡ 0) × (2 ≤ size ds v) × (size ds v ≤ 64)
+steal-asks h ds fs ws w v ready u eu pass =
+    let t = pass-four (not (ltb w (h .workers))) (allIdle (core h ds [] [])) (not (eqb (size ds w) 0)) (not (ltb v (h .workers)) || ltb (size ds v) 2) NoWorker MainReturned ThiefBusy NoVictim (sym pass ∙ eu) in
+    let d = neither (not (ltb v (h .workers))) (ltb (size ds v) 2) (t .2) in
+    let lw : w < h .workers = lt-of (not-false (ltb w (h .workers)) (t .0)) in
+    let lv : v < h .workers = lt-of (not-false (ltb v (h .workers)) (d .0)) in
+    let w8 : w < 8 = omega (arith, ready .few-workers) in
+    let v8 : v < 8 = omega (arith, ready .few-workers) in
+    (ready .long-deques, w8, v8, eqb-true (size ds w) 0 (not-false (eqb (size ds w) 0) (t .1)), ge-of (d .1), ready .sizes v v8)
 
 -- a test more
 pub pass-more : (u v : Verdict) (b : Bool) (r : Refusal) → v ≡ orRefuse u b r → v ≡ Pass → (u ≡ Pass) × (b ≡ false)
@@ -75,3 +101,26 @@ module _ (h : Head) (ds fs ws : List ℕ) (w : ℕ) (ready : Ready (core h ds fs
 
     pub write-asks : LinksIn (h .nodes) ws × (0 < h .nodes) × (h .height ≤ 32) × Link (h .nodes) (h .free) × Link (h .nodes) root
     write-asks = (ready .links, ready .some-node, omega (arith, ready .low), ready .free, root-link)
+
+  -- ---- the acting frame, for the steps of the frames' crate
+  module _ (p : ℕ) (f : Frame) (ep : p ≡ bottom ds w) (ef : f ≡ frameAt fs p) where
+    pub acts : Acts ds fs w p f
+    acts = record {
+      long-deques = ready .long-deques;
+      long-frames = ready .long-frames;
+      worker = acting-worker;
+      some = acting-some;
+      most = ready .sizes w acting-worker;
+      acting = ep;
+      within = acting-in p ep;
+      is = ef;
+    }
+
+    pub spawn-asks : (v : Verdict) → v ≡ orRefuse u (eqb (h .vacant) none) FramesFull → v ≡ Pass → Acts ds fs w p f × (size ds w < 64) × (h .vacant < 64)
+    spawn-asks v ev pv =
+        let n : h .vacant ≡ none → ⊥ = eqb-false (h .vacant) none (pass-more u v _ _ ev pv .1) in
+        let l : h .vacant < 64 = elim (ready .vacant) [ inl a ↦ a | inr b ↦ absurd (n b) ] in
+        (acts, ready .room w acting-worker l, l)
+
+    pub return-asks : Acts ds fs w p f × ((f .parent < 64) ⊎ (f .parent ≡ none))
+    return-asks = (acts, subst (λ (g : Frame). (g .parent < 64) ⊎ (g .parent ≡ none)) (sym (ef ∙ ap (frameAt fs) ep)) (ready .parent w acting-worker acting-some))

@@ -1,8 +1,9 @@
 -- The ways out of the six kinds of steps, over plain variables.
-use mathlib.Core.Path.{_≡_, refl}
+use mathlib.Core.Path.{_≡_, refl, ap, _∙_}
 use mathlib.Core.Bool.{Bool, true, false, not}
 use mathlib.Core.List.{List, [], _∷_, _++_}
 use Prim.Native.Nat.{ℕ}
+use borrow.Author.Tests.{eq-eqb, ne-eqb}
 use lib.Dec.{eqb, ltb, leb}
 use Rattle.words.specs.Basics.{none, plus}
 use Rattle.pool.specs.Pool.{readAt, retain, release, write}
@@ -85,6 +86,27 @@ module _ (h : Head) (ds fs ws : List ℕ) (w : ℕ) where
         let o : ℕ = frameAt fs (bottom ds w) .outstanding in
         let eo : v ≡ orRefuse u (not (eqb o 0)) ChildLives = rw (← ep, ← ef) e in
         judged-more c (actingTests c w) _ _ u v (ended c w) eu eo
+
+    -- a return: refused as a step, for a live child, or done
+    pub return-refused : (h′ : Head) (a : Answer) (q : Refusal) → u ≡ Refuse q → (h′ ≡ h) × (a ≡ Refused q) → did h′ ds fs ws a ≡ stepOn (core h ds fs ws) (Return w)
+    return-refused h′ a q e o =
+        let b : Bool = not (eqb (frameAt fs (bottom ds w) .outstanding) 0) in
+        let v : Verdict = orRefuse u b ChildLives in
+        let ev : v ≡ Refuse q = ap (λ (t : Verdict). orRefuse t b ChildLives) e in
+        refused-out h h′ ds fs ws (ended c w) v q a ev o ∙ return-by v (bottom ds w) (frameAt fs (bottom ds w)) refl refl refl
+
+    module _ (p : ℕ) (f : Frame) (ep : p ≡ bottom ds w) (ef : f ≡ frameAt fs p) (pass : u ≡ Pass) where
+      pub return-child : (h′ : Head) (a : Answer) → (f .outstanding ≡ 0 → ⊥) → (h′ ≡ h) × (a ≡ Refused ChildLives) → did h′ ds fs ws a ≡ stepOn (core h ds fs ws) (Return w)
+      return-child h′ a n o =
+          let v : Verdict = orRefuse u (not (eqb (f .outstanding) 0)) ChildLives in
+          let ev : v ≡ Refuse ChildLives = rw (pass, ne-eqb (f .outstanding) 0 n) in
+          refused-out h h′ ds fs ws (ended c w) v ChildLives a ev o ∙ return-by v p f ep ef refl
+
+      pub return-done : (d : Did) → f .outstanding ≡ 0 → d ≡ ended (core h ds fs ws) w → d ≡ stepOn (core h ds fs ws) (Return w)
+      return-done d z e =
+          let v : Verdict = orRefuse u (not (eqb (f .outstanding) 0)) ChildLives in
+          let ev : v ≡ Pass = rw (pass, eq-eqb (f .outstanding) 0 z) in
+          passed-out c (ended c w) d v ev e ∙ return-by v p f ep ef refl
 
     pub sync-by : by u (core h ds fs ws) (waited (core h ds fs ws) w) ≡ stepOn (core h ds fs ws) (Sync w)
     unfolding stepOn

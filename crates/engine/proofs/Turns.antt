@@ -51,7 +51,7 @@ module _ (tape : List ℕ) (n : ℕ) where
       → x ≡ answerWords r .0 → y ≡ answerWords r .1 → a′ ≡ set (set a (i * 2) x) (i * 2 + 1) y
       → Kept (core (renewed h free′ vacant′ spare′) ds′ fs′ ws′)
       × (runOn (ran (core (renewed h free′ vacant′ spare′) ds′ fs′ ws′) a′) ((i + 1) * 2) (recordsFrom (n - (i + 1)) tape ((i + 1) * 8))
-        ≡ runOn (ran (core (renewed h free vacant spare) ds fs ws) a) (i * 2) (recordsFrom (n - i) tape (i * 8)))
+      ≡ runOn (ran (core (renewed h free vacant spare) ds fs ws) a) (i * 2) (recordsFrom (n - i) tape (i * 8)))
   turn-kept h head ds fs ws ds′ fs′ ws′ a a′ free vacant spare free′ vacant′ spare′ r i x y eh K l eo ex ey ea =
       let c : Core = core (renewed h free vacant spare) ds fs ws in
       let o : Did = did (renewed h free′ vacant′ spare′) ds′ fs′ ws′ r in

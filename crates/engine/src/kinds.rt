@@ -13,7 +13,7 @@ use crate::refusals::or_refuse;
 use crate::refusals::steal_verdict;
 use frames::NONE;
 use frames::acting_place;
-use frames::bottom_of;
+use frames::frame_at;
 use frames::frame_in;
 use frames::return_frame;
 use frames::root_at;
@@ -63,9 +63,10 @@ pub fn step_spawn(h: Head, deques: &mut [u32], frames: &mut [u32], pool: &mut [u
     if let Verdict::Refuse(refusal) = verdict {
         return refused(h, refusal);
     }
-    let f = frame_in(frames, bottom_of(deques, w));
+    let p = acting_place(deques, w);
+    let f = frame_at(frames, p);
     retain(pool, h.nodes, f.root);
-    let vacant = spawn_frame(deques, frames, h.vacant, w);
+    let vacant = spawn_frame(deques, frames, h.vacant, w, p, f);
     Out {
         free: h.free,
         vacant,
@@ -74,29 +75,23 @@ pub fn step_spawn(h: Head, deques: &mut [u32], frames: &mut [u32], pool: &mut [u
     }
 }
 
-pub fn step_return(
-    h: Head,
-    deques: &mut [u32],
-    frames: &mut [u32],
-    pool: &mut [u32],
-    w: u32,
-) -> Out
+pub fn step_return(h: Head, deques: &mut [u32], frames: &mut [u32], pool: &mut [u32], w: u32) -> Out
     requires { ⌜ Ready (core h (now deques) (now frames) (now pool)) ⌝ }
     ensures { λ r. ⌜ did (headAfter h r) (now (deques .exit)) (now (frames .exit)) (now (pool .exit)) (r .answer)
         ≡ stepOn (core h (now (deques .entry)) (now (frames .entry)) (now (pool .entry))) (Return w) ⌝ }
 {
-    let f = frame_in(frames, bottom_of(deques, w));
-    let verdict = or_refuse(
-        acting_verdict(h, deques, w),
-        f.outstanding != 0,
-        Refusal::ChildLives,
-    );
+    let verdict = acting_verdict(h, deques, w);
     if let Verdict::Refuse(refusal) = verdict {
         return refused(h, refusal);
     }
+    let p = acting_place(deques, w);
+    let f = frame_at(frames, p);
+    if f.outstanding != 0 {
+        return refused(h, Refusal::ChildLives);
+    }
     let mut spare = h.spare;
     let free = release(pool, h.nodes, &mut spare, h.free, f.root, h.height);
-    let ended = return_frame(deques, frames, h.vacant, w);
+    let ended = return_frame(deques, frames, h.vacant, w, p, f);
     let outcome = ended.outcome;
     Out {
         free,
@@ -114,6 +109,7 @@ pub fn step_steal(
     w: u32,
     v: u32,
 ) -> Out
+    requires { ⌜ Ready (core h (now deques) (now frames) (now pool)) ⌝ }
     ensures { λ r. ⌜ did (headAfter h r) (now (deques .exit)) (now (frames .exit)) (now (pool .exit)) (r .answer)
         ≡ stepOn (core h (now (deques .entry)) (now (frames .entry)) (now (pool .entry))) (Steal w v) ⌝ }
 {
@@ -127,6 +123,7 @@ pub fn step_steal(
 }
 
 pub fn step_sync(h: Head, deques: &mut [u32], frames: &mut [u32], pool: &mut [u32], w: u32) -> Out
+    requires { ⌜ Ready (core h (now deques) (now frames) (now pool)) ⌝ }
     ensures { λ r. ⌜ did (headAfter h r) (now (deques .exit)) (now (frames .exit)) (now (pool .exit)) (r .answer)
         ≡ stepOn (core h (now (deques .entry)) (now (frames .entry)) (now (pool .entry))) (Sync w) ⌝ }
 {
@@ -134,7 +131,8 @@ pub fn step_sync(h: Head, deques: &mut [u32], frames: &mut [u32], pool: &mut [u3
     if let Verdict::Refuse(refusal) = verdict {
         return refused(h, refusal);
     }
-    let outcome = sync_frame(deques, frames, w);
+    let p = acting_place(deques, w);
+    let outcome = sync_frame(deques, frames, w, p, frame_at(frames, p));
     unchanged(h, Answer::Accepted(Done::Waited(outcome)))
 }
 

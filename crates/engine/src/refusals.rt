@@ -2,13 +2,16 @@
 ghost use mathlib.Core.Path.{_≡_};
 ghost use mathlib.Core.Bool.{not, _||_};
 ghost use mathlib.Core.List.{[]};
+ghost use Prim.Native.Nat.{_≤_};
 ghost use lib.Dec.{eqb, ltb};
+ghost use lib.ListN.{length};
 ghost use Rattle.words.specs.Basics.{all};
 ghost use Rattle.frames.specs.Deques.{size};
 ghost use Rattle.semantics.specs.Core.{actingTests, stealTests};
 ghost use Rattle.engine.specs.Promises.{core, verdict, orRefuse};
 use crate::Verdict;
 use frames::deque_size;
+use frames::size_at;
 use semantics::Head;
 use semantics::Refusal;
 
@@ -28,12 +31,13 @@ fn all_idle(workers: u32, deques: &[u32]) -> bool
 
 // 8, 9 and 10: of a step that is not a steal.
 pub fn acting_verdict(h: Head, deques: &[u32], w: u32) -> Verdict
+    requires { ⌜ (length (now deques) ≡ 520) × (h .workers ≤ 8) ⌝ }
     ensures { λ r. ⌜ r ≡ verdict (actingTests (core h (now (deques .entry)) [] []) w) ⌝ }
 {
     if w >= h.workers {
         return Verdict::Refuse(Refusal::NoWorker);
     }
-    if deque_size(deques, w) != 0 {
+    if size_at(deques, w) != 0 {
         return Verdict::Pass;
     }
     if all_idle(h.workers, deques) {
@@ -58,22 +62,24 @@ pub fn or_refuse(verdict: Verdict, test: bool, refusal: Refusal) -> Verdict
 
 // Does v not exist, or has it fewer than two frames?
 fn no_victim(workers: u32, deques: &[u32], v: u32) -> bool
+    requires { ⌜ (length (now deques) ≡ 520) × (workers ≤ 8) ⌝ }
     ensures { λ r. ⌜ r ≡ (not (ltb v workers) || ltb (size (now (deques .entry)) v) 2) ⌝ }
 {
     if v >= workers {
         return true;
     }
-    deque_size(deques, v) < 2
+    size_at(deques, v) < 2
 }
 
 // 8, 9, 11 and 12: of a steal.
 pub fn steal_verdict(h: Head, deques: &[u32], w: u32, v: u32) -> Verdict
+    requires { ⌜ (length (now deques) ≡ 520) × (h .workers ≤ 8) ⌝ }
     ensures { λ r. ⌜ r ≡ verdict (stealTests (core h (now (deques .entry)) [] []) w v) ⌝ }
 {
     if w >= h.workers {
         return Verdict::Refuse(Refusal::NoWorker);
     }
-    if deque_size(deques, w) != 0 {
+    if size_at(deques, w) != 0 {
         return Verdict::Refuse(Refusal::ThiefBusy);
     }
     if !no_victim(h.workers, deques, v) {

@@ -1,6 +1,7 @@
 -- A law for each way out of a step's function, over plain variables.
 use mathlib.Core.Path.{_≡_, sym, ap, _∙_}
 use mathlib.Core.Bool.{true, false, cond}
+use mathlib.Core.Logic.{_⊎_, inl, inr}
 use mathlib.Core.List.{List}
 use Prim.Native.Nat.{ℕ}
 use lib.Dec.{eqb}
@@ -18,6 +19,11 @@ use Rattle.frames.specs.Promises.{table, IsReturn, IsParentAfter, IsSync
 
 pub resumes-if : (left : ℕ) (f : Frame) → left ≡ 0 → f .suspended ≡ 1 → eqb (f .outstanding) 0 ≡ resumes left f
 resumes-if left f e s = rw (eq-eqb left 0 e, eq-eqb (f .suspended) 1 s)
+
+-- one of the two, and not the second
+pub one-of : {A B : Type 0} → A ⊎ B → (B → ⊥) → A
+one-of (inl a) n = a
+one-of (inr b) n = absurd (n b)
 
 module _ (ds fs : List ℕ) (w : ℕ) where
   module _ (q left : ℕ) (f : Frame) (fs′ : List ℕ) (el : left ≡ size ds w) where

@@ -3,4 +3,6 @@ pub mod Frames
 pub mod Deques
 pub mod Steps
 pub mod Promises
+-- what the functions that index without a test ask
+pub mod Ranges
 pub mod Theory

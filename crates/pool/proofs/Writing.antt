@@ -1,25 +1,15 @@
 -- A write as the code runs it: a turn of its loop, and its ends. Over plain variables.
-use mathlib.Core.Path.{_≡_, refl, sym, _∙_, subst}
-use mathlib.Core.Logic.{inl, inr}
-use mathlib.Core.Bool.{Bool, false, _||_}
+use mathlib.Core.Path.{_≡_, refl, subst}
+use mathlib.Core.Logic.{inr}
 use mathlib.Core.List.{List}
 use Prim.Native.Nat.{ℕ, _-_, _<_}
 use native.Mathlib.Omega.{arith}
-use borrow.Author.Tests.{eqb-false}
-use lib.Dec.{eqb}
 use Rattle.words.specs.Basics.{none}
-use Rattle.words.specs.Tests.{neither}
 use Rattle.sizes.specs.Sizes.{bit}
 use Rattle.pool.specs.Pool.{left, child, sibling, setNode, release, pathNode, copyPath, write}
 use Rattle.pool.specs.Links.{Link, LinksIn, WriteEnds}
-use Rattle.pool.specs.Theory.Links.{link-in, links-setNode, child-link, sibling-link, links-pathNode}
+use Rattle.pool.specs.Theory.Links.{links-setNode, child-link, sibling-link, links-pathNode}
 use Rattle.pool.proofs.Laws.{Released, path-step, write-by}
-
--- neither the free list nor the old path has ended
-pub goes-on : {N i old : ℕ} {r : Bool} → r ≡ (eqb i none || eqb old none) → r ≡ false → Link N i → Link N old → (i < N) × (old < N)
-goes-on {N} {i} {old} e f p q =
-    let n = neither (eqb i none) (eqb old none) (sym e ∙ f) in
-    (link-in p (eqb-false i none (n .0)), link-in q (eqb-false old none (n .1)))
 
 pub turn : (N l : ℕ) (ws : List ℕ) (i old x v : ℕ) {next down : ℕ} {w : List ℕ} → LinksIn N ws → i < N → old < N → 0 < l →
     next ≡ left ws i → down ≡ child ws old (bit (l - 1) x) → w ≡ pathNode ws i (bit (l - 1) x) next (sibling ws old (bit (l - 1) x)) →

@@ -1,9 +1,7 @@
 // The walk to a splitter's leaf, and a write: a new path beside the old siblings, then the release of the old root. No index
 // is tested: the contracts ask that links are in range.
-ghost use mathlib.Core.Bool.{_||_};
 ghost use mathlib.Core.Path.{_≡_};
 ghost use Prim.Native.Nat.{_*_, _<_, _≤_};
-ghost use lib.Dec.{eqb};
 ghost use lib.ListN.{length};
 ghost use Rattle.words.specs.Basics.{none};
 ghost use Rattle.sizes.specs.Sizes.{bit};
@@ -63,13 +61,6 @@ fn copy_node(pool: &mut [u32], nodes: u32, i: u32, old: u32, l: u32, x: u32, nex
     retain(pool, nodes, kept);
 }
 
-// True where the free list or the old path ends too early.
-fn ends(i: u32, old: u32) -> bool
-    ensures { λ r. ⌜ r ≡ (eqb i none || eqb old none) ⌝ }
-{
-    (i == NONE) | (old == NONE)
-}
-
 // The end of a write: the leaf i with v, then the release of the old root. `left` nodes are free after the path.
 fn write_end(
     pool: &mut [u32],
@@ -116,7 +107,10 @@ pub fn write_path(
     let mut i = free;
     let mut old = root;
     while l > 0 {
-        if ends(i, old) {
+        if i == NONE {
+            return write_rest(pool, height, l, i, old, left, root, x, v);
+        }
+        if old == NONE {
             return write_rest(pool, height, l, i, old, left, root, x, v);
         }
         l -= 1;

@@ -10,6 +10,14 @@ step-return-requires : tie.Need-step-return-requires
 step-return-requires c κs =
     c .before .before .before .before .before .before .before .before .before .pre
 
+step-steal-requires : tie.Need-step-steal-requires
+step-steal-requires c κs =
+    c .before .before .before .before .before .before .before .before .before .pre
+
+step-sync-requires : tie.Need-step-sync-requires
+step-sync-requires c κs =
+    c .before .before .before .before .before .before .before .before .before .pre
+
 step-read-requires : tie.Need-step-read-requires
 step-read-requires c κs =
     c .before .before .before .before .before .before .before .before .before .pre
@@ -43,4 +51,4 @@ returns-6 c =
     rw (c .before .before .before .before .before .before .before .before .before .before .before .step6 .given .1) (c .before .before .before .before .before .before .step-write .ensures)
 
 pub take-step-spec : {M : Type 1} → statement M
-take-step-spec = tie.close (tie.spec (λ c. search needs) step-spawn-requires (λ c. search needs) step-return-requires (λ c. search needs) (λ c κs. search needs) (λ c. search needs) (λ c κs. search needs) (λ c. search needs) step-read-requires (λ c. search needs) step-write-requires (λ c. search needs) (λ c. search needs) (λ c. search needs) returns (λ c. search needs) (λ c. search needs) (λ c. search needs) returns-2 (λ c. search needs) (λ c. search needs) (λ c. search needs) returns-3 (λ c. search needs) (λ c. search needs) (λ c. search needs) returns-4 (λ c. search needs) (λ c. search needs) (λ c. search needs) returns-5 (λ c. search needs) (λ c. search needs) (λ c. search needs) returns-6)
+take-step-spec = tie.close (tie.spec (λ c. search needs) step-spawn-requires (λ c. search needs) step-return-requires (λ c. search needs) step-steal-requires (λ c. search needs) step-sync-requires (λ c. search needs) step-read-requires (λ c. search needs) step-write-requires (λ c. search needs) (λ c. search needs) (λ c. search needs) returns (λ c. search needs) (λ c. search needs) (λ c. search needs) returns-2 (λ c. search needs) (λ c. search needs) (λ c. search needs) returns-3 (λ c. search needs) (λ c. search needs) (λ c. search needs) returns-4 (λ c. search needs) (λ c. search needs) (λ c. search needs) returns-5 (λ c. search needs) (λ c. search needs) (λ c. search needs) returns-6)

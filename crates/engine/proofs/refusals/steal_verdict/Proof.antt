@@ -9,26 +9,26 @@ returns : tie.Need-returns
 returns c = steal-no-worker (c .before .before .before .args .h) _ _ _ (c .if1 .taken)
 
 returns-2 : tie.Need-returns-2
-returns-2 c = steal-busy (c .before .before .before .before .before .args .h) _ _ _ (c .before .before .if1 .left) _ (c .before .deque-size .ensures) (c .if2 .taken)
+returns-2 c = steal-busy (c .before .before .before .before .before .args .h) _ _ _ (c .before .before .if1 .left) _ (c .before .size-at .ensures) (c .if2 .taken)
 
 returns-3 : tie.Need-returns-3
 returns-3 c =
     let at-no-victim = c .before in
     let at-if2 = at-no-victim .before in
-    let at-deque-size = at-if2 .before in
-    let at-if1 = at-deque-size .before in
+    let at-size-at = at-if2 .before in
+    let at-if1 = at-size-at .before in
     let start = at-if1 .before .before .before in
-    steal-passes (start .args .h) _ _ _ (at-if1 .if1 .left) _ (at-deque-size .deque-size .ensures) (at-if2 .if2 .left) _ (at-no-victim .no-victim .ensures) (not-true _ (c .if3 .taken))
+    steal-passes (start .args .h) _ _ _ (at-if1 .if1 .left) _ (at-size-at .size-at .ensures) (at-if2 .if2 .left) _ (at-no-victim .no-victim .ensures) (not-true _ (c .if3 .taken))
 
 returns-4 : tie.Need-returns-4
 returns-4 c =
     let at-all-idle = c .before in
     let at-no-victim = at-all-idle .before .before in
     let at-if2 = at-no-victim .before in
-    let at-deque-size = at-if2 .before in
-    let at-if1 = at-deque-size .before in
+    let at-size-at = at-if2 .before in
+    let at-if1 = at-size-at .before in
     let start = at-if1 .before .before .before in
-    steal-main-returned (start .args .h) _ _ _ (at-if1 .if1 .left) _ (at-deque-size .deque-size .ensures) (at-if2 .if2 .left) _ (at-no-victim .no-victim .ensures) (sym (at-all-idle .all-idle .ensures) ∙ c .if4 .taken)
+    steal-main-returned (start .args .h) _ _ _ (at-if1 .if1 .left) _ (at-size-at .size-at .ensures) (at-if2 .if2 .left) _ (at-no-victim .no-victim .ensures) (sym (at-all-idle .all-idle .ensures) ∙ c .if4 .taken)
 
 returns-5 : tie.Need-returns-5
 returns-5 c =
@@ -36,10 +36,10 @@ returns-5 c =
     let at-if3 = at-all-idle .before in
     let at-no-victim = at-if3 .before in
     let at-if2 = at-no-victim .before in
-    let at-deque-size = at-if2 .before in
-    let at-if1 = at-deque-size .before in
+    let at-size-at = at-if2 .before in
+    let at-if1 = at-size-at .before in
     let start = at-if1 .before .before .before in
-    steal-no-victim (start .args .h) _ _ _ (at-if1 .if1 .left) _ (at-deque-size .deque-size .ensures) (at-if2 .if2 .left) _ (at-no-victim .no-victim .ensures) (not-false _ (at-if3 .if3 .left)) (sym (at-all-idle .all-idle .ensures) ∙ c .if4 .left)
+    steal-no-victim (start .args .h) _ _ _ (at-if1 .if1 .left) _ (at-size-at .size-at .ensures) (at-if2 .if2 .left) _ (at-no-victim .no-victim .ensures) (not-false _ (at-if3 .if3 .left)) (sym (at-all-idle .all-idle .ensures) ∙ c .if4 .left)
 
 pub steal-verdict-spec : {M : Type 1} → statement M
 steal-verdict-spec = tie.close (tie.spec returns (λ c κs. search needs) returns-2 (λ c κs. search needs) returns-3 (λ c κs. search needs) returns-4 returns-5)

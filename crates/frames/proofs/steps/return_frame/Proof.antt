@@ -1,84 +1,50 @@
-use Rattle.frames.proofs.Ends.{finished, returned-to}
+use mathlib.Core.Path.{_∙_}
+use Rattle.frames.specs.Theory.Fast.{length-pop, size-pop}
+use Rattle.frames.specs.Theory.Records.{length-setFrame}
+use Rattle.frames.proofs.Ends.{one-of, finished, returned-to}
 use borrow.Author.Needs.{needs}
 use Rattle.frames.proofs.steps.return_frame.Statement.{statement}
 use Rattle.frames.proofs.steps.return_frame.Tie as tie
 
-bottom-of-requires : tie.Need-bottom-of-requires
-bottom-of-requires c κs = search needs
-
-frame-in-requires : tie.Need-frame-in-requires
-frame-in-requires c κs = search needs
-
-frame-in-requires-2 : tie.Need-frame-in-requires-2
-frame-in-requires-2 c κs = search needs
-
-without-child-requires : tie.Need-without-child-requires
-without-child-requires c κs = search needs
-
-pop-frame-requires : tie.Need-pop-frame-requires
-pop-frame-requires c κs = search needs
-
-free-place-requires : tie.Need-free-place-requires
-free-place-requires c κs = search needs
-
-store-frame-requires : tie.Need-store-frame-requires
-store-frame-requires c κs = search needs
-
-same-length : tie.Need-same-length
-same-length c = search needs
-
-same-length-2 : tie.Need-same-length-2
-same-length-2 c = search needs
-
 returns : tie.Need-returns
 returns c =
-    let at-store-frame = c .before .before .before in
-    let at-free-place = at-store-frame .before in
-    let at-pop-frame = at-free-place .before .before .before .before in
-    let at-frame-in = at-pop-frame .before .before .before .before .before in
-    let at-bottom-of = at-frame-in .before .before in
-    finished _ _ _ _ _ _ (at-bottom-of .bottom-of .ensures) (at-frame-in .frame-in .ensures)
-    _ _ _ (at-free-place .free-place .ensures) (at-pop-frame .pop-frame .ensures) (at-store-frame .store-frame .ensures) (c .if1 .taken)
+    finished _ _ _ _ _ _ (c .before .before .before .before .before .before .before .before .before .before .before .before .pre .0 .acting) (c .before .before .before .before .before .before .before .before .before .before .before .before .pre .0 .is)
+    _ _ _ (c .before .before .before .free-place .ensures) (c .before .before .before .before .before .before .before .before .pop-off .ensures) (c .before .before .put-frame .ensures) (c .before .before .before .before .before .if1 .taken)
+
+frame-at-requires : tie.Need-frame-at-requires
+frame-at-requires c κs = (c .before .before .before .before .before .before .before .before .pre .0 .long-frames, one-of (c .before .before .before .before .before .before .before .before .pre .1) (c .before .if1 .left))
 
 return-to-requires : tie.Need-return-to-requires
-return-to-requires c κs = search needs
-
-same-length-3 : tie.Need-same-length-3
-same-length-3 c = search needs
-
-same-length-4 : tie.Need-same-length-4
-same-length-4 c = search needs
+return-to-requires c κs =
+    let a = c .before .before .before .before .before .before .before .before .before .before .before .before .before .before .before .before .before .pre .0 in (
+      rw (c .before .before .before .before .before .before .before .before .before .before .before .before .before .pop-off .ensures) (length-pop _ _ ∙ a .long-deques),
+      rw (c .before .before .before .before .put-frame2 .ensures) (length-setFrame _ _ _ ∙ a .long-frames),
+      a .worker,
+      one-of (c .before .before .before .before .before .before .before .before .before .before .before .before .before .before .before .before .before .pre .1) (c .before .before .before .before .before .before .before .before .before .before .if1 .left),
+      rw (c .before .before .before .before .before .before .before .before .before .before .before .before .before .pop-off .ensures) (size-pop _ _ (a .long-deques) (a .worker) (a .most) (a .some)),
+    )
 
 returns-2 : tie.Need-returns-2
 returns-2 c =
-    let at-return-to = c .before .before .before .before in
-    let at-if1 = at-return-to .before .before .before in
-    let at-store-frame = at-if1 .before .before .before in
-    let at-free-place = at-store-frame .before in
-    let at-pop-frame = at-free-place .before .before .before .before in
-    let at-without-child = at-pop-frame .before .before in
-    let at-frame-in2 = at-without-child .before in
-    let at-frame-in = at-frame-in2 .before .before in
-    let at-bottom-of = at-frame-in .before .before in
-    returned-to _ _ _ _ _ _ (at-bottom-of .bottom-of .ensures) (at-frame-in .frame-in .ensures)
-    _ _ _ (at-free-place .free-place .ensures) (at-pop-frame .pop-frame .ensures) (at-store-frame .store-frame .ensures)
-    _ _ _ _ _ (at-if1 .if1 .left) (at-frame-in2 .frame-in2 .ensures) (at-without-child .without-child .ensures) (at-return-to .return-to .ensures)
+    returned-to _ _ _ _ _ _ (c .before .before .before .before .before .before .before .before .before .before .before .before .before .before .before .before .before .before .before .before .before .before .pre .0 .acting) (c .before .before .before .before .before .before .before .before .before .before .before .before .before .before .before .before .before .before .before .before .before .before .pre .0 .is)
+    _ _ _ (c .before .before .before .before .before .before .before .before .before .before .free-place2 .ensures) (c .before .before .before .before .before .before .before .before .before .before .before .before .before .before .before .before .before .before .pop-off .ensures) (c .before .before .before .before .before .before .before .before .before .put-frame2 .ensures)
+    _ _ _ _ _ (c .before .before .before .before .before .before .before .before .before .before .before .before .before .before .before .if1 .left) (c .before .before .before .before .before .before .before .before .before .before .before .before .before .frame-at .ensures) (c .before .before .before .before .before .before .before .before .before .before .before .before .without-child .ensures) (c .before .before .before .before .return-to .ensures)
 
 pub return-frame-spec : {M : Type 1} → statement M
 return-frame-spec =
     tie.close
     (tie.spec
-    bottom-of-requires
-    frame-in-requires
-    frame-in-requires-2
-    without-child-requires
-    pop-frame-requires
-    free-place-requires
-    store-frame-requires
-    same-length
-    same-length-2
+    (λ c κs. search needs)
+    (λ c κs. search needs)
+    (λ c κs. search needs)
+    (λ c. search needs)
+    (λ c. search needs)
     returns
+    frame-at-requires
+    (λ c κs. search needs)
+    (λ c κs. search needs)
+    (λ c κs. search needs)
     return-to-requires
-    same-length-3
-    same-length-4
+    (λ c. search needs)
+    (λ c. search needs)
     returns-2)

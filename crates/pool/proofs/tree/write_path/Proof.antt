@@ -8,7 +8,7 @@ use Rattle.pool.specs.Pool.{copyPath}
 use Rattle.pool.specs.Links.{Link, LinksIn}
 use Rattle.pool.specs.Theory.Links.{link-in}
 use Rattle.pool.proofs.Laws.{path-end}
-use Rattle.pool.proofs.Writing.{goes-on, turn, written}
+use Rattle.pool.proofs.Writing.{turn, written}
 use Rattle.pool.proofs.tree.write_path.Statement.{statement}
 use Rattle.pool.proofs.tree.write_path.Tie as tie
 
@@ -21,113 +21,60 @@ abbrev μ-loop : tie.MeasureT-loop
 
 loop-holds : tie.Need-loop-holds Inv-loop μ-loop
 loop-holds c =
-    let p1 = c .before .before .before in
-    (p1 .pre .2, p1 .pre .0, p1 .pre .3, p1 .pre .4, refl, refl)
+    (c .before .before .before .pre .2, c .before .before .before .pre .0, c .before .before .before .pre .3, c .before .before .before .pre .4, refl, refl)
 
 same-length : tie.Need-same-length Inv-loop μ-loop
 same-length c =
-    let p1 = c .before .before in
-    let p2 = p1 .before .before .before .before .before in
-    p1 .write-rest .kept .0 ∙ p2 .loop .inv .5
+    c .before .before .write-rest .kept .0 ∙ c .before .before .before .before .before .before .loop .inv .5
 
 returns : tie.Need-returns Inv-loop μ-loop
 returns c =
-    let p1 = c .before .before in
-    let p2 = p1 .before .before .before .before .before in
-    let p3 = p2 .before in
-    let p4 = p3 .before in
-    written _ _ _ _ _ _ _ _ (p2 .loop .inv .4) (p4 .sub .ensures) (p3 .sub2 .ensures) (p1 .write-rest .ensures)
-
-next-in-requires : tie.Need-next-in-requires Inv-loop μ-loop
-next-in-requires c κs =
-    let p1 = c .before in
-    let p2 = p1 .before in
-    let p3 = p2 .before .before in
-    (p3 .loop .inv .1 .room, goes-on (p2 .ends .ensures) (p1 .if1 .left) (p3 .loop .inv .2) (p3 .loop .inv .3) .0)
-
-child-in-requires : tie.Need-child-in-requires Inv-loop μ-loop
-child-in-requires c κs =
-    let p1 = c .before .before .before in
-    let p2 = p1 .before in
-    let p3 = p2 .before in
-    let p4 = p3 .before in
-    (p4 .loop .inv .1 .room, goes-on (p2 .ends .ensures) (p1 .if1 .left) (p4 .loop .inv .2) (p4 .loop .inv .3) .1, omega (arith, p4 .loop .inv .0, p3 .loop-test .taken))
-
-copy-node-requires : tie.Need-copy-node-requires Inv-loop μ-loop
-copy-node-requires c κs =
-    let p1 = c .before .before .before .before .before in
-    let p2 = p1 .before in
-    let p3 = p2 .before in
-    let p4 = p3 .before in
-    let g = goes-on (p2 .ends .ensures) (p1 .if1 .left) (p4 .loop .inv .2) (p4 .loop .inv .3) in
-    (p4 .loop .inv .1, g .0, g .1, omega (arith, p4 .loop .inv .0, p3 .loop-test .taken))
-
-loop-again : tie.Need-loop-again Inv-loop μ-loop
-loop-again c =
-    let p1 = c .before .before in
-    let p2 = p1 .before .before in
-    let p3 = p2 .before .before in
-    let p4 = p3 .before .before in
-    let p5 = p4 .before in
-    let p6 = p5 .before in
-    let p7 = p6 .before in
-    let p8 = p7 .before .before .before .before in
-    let g = goes-on (p5 .ends .ensures) (p4 .if1 .left) (p7 .loop .inv .2) (p7 .loop .inv .3) in
-    let t = turn _ _ _ _ _ _ (p8 .args .v) (p7 .loop .inv .1) (g .0) (g .1) (p6 .loop-test .taken) (p3 .next-in .ensures) (p2 .child-in .ensures) (p1 .copy-node .ensures) in
-    (omega (arith, p7 .loop .inv .0), t .0, t .1, t .2, t .3 ∙ p7 .loop .inv .4, p1 .copy-node .kept .0 ∙ p7 .loop .inv .5)
+    written _ _ _ _ _ _ _ _ (c .before .before .before .before .before .before .loop .inv .4) (c .before .before .before .before .before .before .before .before .sub .ensures) (c .before .before .before .before .before .before .before .sub2 .ensures) (c .before .before .write-rest .ensures)
 
 same-length-2 : tie.Need-same-length-2 Inv-loop μ-loop
-same-length-2 c = c .before .before .write-rest2 .kept .0 ∙ c .before .before .before .before .before .before .loop .inv .5
+same-length-2 c =
+    c .before .before .write-rest2 .kept .0 ∙ c .before .before .before .before .before .before .before .loop .inv .5
 
 returns-2 : tie.Need-returns-2 Inv-loop μ-loop
 returns-2 c =
-    let p1 = c .before .before in
-    let p2 = p1 .before .before .before .before in
-    let p3 = p2 .before in
-    let p4 = p3 .before in
-    written _ _ _ _ _ _ _ _ (p2 .loop .inv .4) (p4 .sub .ensures) (p3 .sub2 .ensures) (p1 .write-rest2 .ensures)
+    written _ _ _ _ _ _ _ _ (c .before .before .before .before .before .before .before .loop .inv .4) (c .before .before .before .before .before .before .before .before .before .sub .ensures) (c .before .before .before .before .before .before .before .before .sub2 .ensures) (c .before .before .write-rest2 .ensures)
 
-write-end-requires : tie.Need-write-end-requires Inv-loop μ-loop
-write-end-requires c κs =
-    let p1 = c .before in
-    let p2 = p1 .before .before in
-    let p3 = p2 .before .before .before .before in
-    (p2 .loop .inv .1, link-in (p2 .loop .inv .2) (p1 .if2 .left), p3 .pre .4)
+next-in-requires : tie.Need-next-in-requires Inv-loop μ-loop
+next-in-requires c κs =
+    (c .before .before .before .before .loop .inv .1 .room, link-in (c .before .before .before .before .loop .inv .2) (c .before .before .if1 .left))
+
+child-in-requires : tie.Need-child-in-requires Inv-loop μ-loop
+child-in-requires c κs =
+    (c .before .before .before .before .before .before .loop .inv .1 .room, link-in (c .before .before .before .before .before .before .loop .inv .3) (c .before .before .before .if2 .left), omega (arith, c .before .before .before .before .before .before .loop .inv .0, c .before .before .before .before .before .loop-test .taken))
+
+copy-node-requires : tie.Need-copy-node-requires Inv-loop μ-loop
+copy-node-requires c κs =
+    (c .before .before .before .before .before .before .before .before .loop .inv .1, link-in (c .before .before .before .before .before .before .before .before .loop .inv .2) (c .before .before .before .before .before .before .if1 .left), link-in (c .before .before .before .before .before .before .before .before .loop .inv .3) (c .before .before .before .before .before .if2 .left), omega (arith, c .before .before .before .before .before .before .before .before .loop .inv .0, c .before .before .before .before .before .before .before .loop-test .taken))
+
+loop-again : tie.Need-loop-again Inv-loop μ-loop
+loop-again c =
+    let t = turn _ _ _ _ _ _ (c .before .before .before .before .before .before .before .before .before .before .before .before .before .before .before .args .v) (c .before .before .before .before .before .before .before .before .before .before .before .loop .inv .1) (link-in (c .before .before .before .before .before .before .before .before .before .before .before .loop .inv .2) (c .before .before .before .before .before .before .before .before .before .if1 .left)) (link-in (c .before .before .before .before .before .before .before .before .before .before .before .loop .inv .3) (c .before .before .before .before .before .before .before .before .if2 .left)) (c .before .before .before .before .before .before .before .before .before .before .loop-test .taken) (c .before .before .before .before .before .before .next-in .ensures) (c .before .before .before .before .child-in .ensures) (c .before .before .copy-node .ensures) in
+    (omega (arith, c .before .before .before .before .before .before .before .before .before .before .before .loop .inv .0), t .0, t .1, t .2, t .3 ∙ c .before .before .before .before .before .before .before .before .before .before .before .loop .inv .4, c .before .before .copy-node .kept .0 ∙ c .before .before .before .before .before .before .before .before .before .before .before .loop .inv .5)
 
 same-length-3 : tie.Need-same-length-3 Inv-loop μ-loop
-same-length-3 c = c .before .before .write-end .kept .0 ∙ c .before .before .before .before .before .before .loop .inv .5
+same-length-3 c =
+    c .before .before .write-rest3 .kept .0 ∙ c .before .before .before .before .before .before .loop .inv .5
 
 returns-3 : tie.Need-returns-3 Inv-loop μ-loop
 returns-3 c =
-    let p1 = c .before .before in
-    let p2 = p1 .before .before .before in
-    let p3 = p2 .before in
-    let p4 = p3 .before in
-    let p5 = p4 .before in
-    written _ _ _ _ _ _ _ _ (path-end _ _ _ _ _ _ (p2 .loop-test .left) ∙ p3 .loop .inv .4) (p5 .sub .ensures) (p4 .sub2 .ensures) (p1 .write-end .ensures)
+    written _ _ _ _ _ _ _ _ (c .before .before .before .before .before .before .loop .inv .4) (c .before .before .before .before .before .before .before .before .sub .ensures) (c .before .before .before .before .before .before .before .sub2 .ensures) (c .before .before .write-rest3 .ensures)
+
+write-end-requires : tie.Need-write-end-requires Inv-loop μ-loop
+write-end-requires c κs =
+    (c .before .before .before .loop .inv .1, link-in (c .before .before .before .loop .inv .2) (c .before .if3 .left), c .before .before .before .before .before .before .before .pre .4)
+
+same-length-4 : tie.Need-same-length-4 Inv-loop μ-loop
+same-length-4 c =
+    c .before .before .write-end .kept .0 ∙ c .before .before .before .before .before .before .loop .inv .5
+
+returns-4 : tie.Need-returns-4 Inv-loop μ-loop
+returns-4 c =
+    written _ _ _ _ _ _ _ _ (path-end _ _ _ _ _ _ (c .before .before .before .before .before .loop-test .left) ∙ c .before .before .before .before .before .before .loop .inv .4) (c .before .before .before .before .before .before .before .before .sub .ensures) (c .before .before .before .before .before .before .before .sub2 .ensures) (c .before .before .write-end .ensures)
 
 pub write-path-spec : {M : Type 1} → statement M
-write-path-spec =
-    tie.close
-    (tie.spec
-    Inv-loop
-    μ-loop
-    (λ c κs. search needs)
-    (λ c κs. search needs)
-    loop-holds
-    (λ c κs. search needs)
-    (λ c κs. search needs)
-    same-length
-    returns
-    (λ c. omega arith)
-    next-in-requires
-    child-in-requires
-    copy-node-requires
-    (λ c. omega arith)
-    loop-again
-    (λ c κs. search needs)
-    same-length-2
-    returns-2
-    write-end-requires
-    same-length-3
-    returns-3)
+write-path-spec = tie.close (tie.spec Inv-loop μ-loop (λ c κs. search needs) (λ c κs. search needs) loop-holds (λ c κs. search needs) same-length returns (λ c κs. search needs) same-length-2 returns-2 (λ c. omega arith) next-in-requires child-in-requires copy-node-requires (λ c. omega arith) loop-again (λ c κs. search needs) same-length-3 returns-3 write-end-requires same-length-4 returns-4)
