@@ -95,26 +95,6 @@ fn step_at(state: State, spare: u32, pool: &mut [u32], step: Step) -> Stepped
     }
 }
 
-// The tape, at a sound state with so many free nodes.
-fn tape_at(state: State, spare: u32, pool: &mut [u32], bytes: &[u8], answers: &mut [u32]) -> State
-    requires { ⌜ Kept (coreOf state (now pool) spare) × (2 * (length (now bytes) / 8) ≤ length (now answers)) ⌝ }
-    ensures { λ r. ⌜ (r ≡ stateOf (runOn (ran (coreOf state (now (pool .entry)) spare) (now (answers .entry))) 0 (recordsOf (now (bytes .entry))) .core))
-        × (now (pool .exit) ≡ runOn (ran (coreOf state (now (pool .entry)) spare) (now (answers .entry))) 0 (recordsOf (now (bytes .entry))) .core .pool)
-        × (now (answers .exit) ≡ runOn (ran (coreOf state (now (pool .entry)) spare) (now (answers .entry))) 0 (recordsOf (now (bytes .entry))) .answers) ⌝ }
-{
-    let mut deques = state.deques;
-    let mut frames = state.frames;
-    let h = run_tape(
-        head_of(state, spare),
-        &mut deques,
-        &mut frames,
-        pool,
-        bytes,
-        answers,
-    );
-    state_of(h, deques, frames)
-}
-
 // "A step entered from outside checks soundness first"
 pub fn step(state: State, pool: &mut [u32], work: &mut [u32], step: Step) -> Stepped
     ensures { λ r. ⌜ IsStep state (now (pool .entry)) (now (work .entry)) step (r .state) (now (pool .exit)) (now (work .exit)) (r .answer) ⌝ }
@@ -157,7 +137,9 @@ pub fn tape(
             call: Call::Denied(Refusal::Tape),
         };
     }
-    let checked = check_state(state, pool, work);
+    let mut deques = state.deques;
+    let mut frames = state.frames;
+    let checked = check(numbers_of(state), &deques, &frames, pool, work);
     match checked {
         Checked::NoRoom => Taped {
             state,
@@ -167,9 +149,19 @@ pub fn tape(
             state,
             call: Call::Denied(Refusal::Unsound),
         },
-        Checked::Sound(spare) => Taped {
-            state: tape_at(state, spare, pool, bytes, answers),
-            call: Call::Taken,
-        },
+        Checked::Sound(spare) => {
+            let h = run_tape(
+                head_of(state, spare),
+                &mut deques,
+                &mut frames,
+                pool,
+                bytes,
+                answers,
+            );
+            Taped {
+                state: state_of(h, deques, frames),
+                call: Call::Taken,
+            }
+        }
     }
 }
