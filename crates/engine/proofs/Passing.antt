@@ -13,7 +13,7 @@ use Rattle.words.specs.Basics.{none}
 use Rattle.pool.specs.Links.{Link, LinksIn, PathIn}
 use Rattle.frames.specs.declared.Frame.{Frame}
 use Rattle.frames.specs.Frames.{frameAt}
-use Rattle.frames.specs.Deques.{size, place, bottom}
+use Rattle.frames.specs.Deques.{size, place, bottom, top}
 use Rattle.frames.specs.Ranges.{Acts}
 use Rattle.semantics.specs.declared.Head.{Head}
 use Rattle.semantics.specs.declared.Refusal.{Refusal}
@@ -54,6 +54,13 @@ steal-asks h ds fs ws w v ready u eu pass =
     let w8 : w < 8 = omega (arith, ready .few-workers) in
     let v8 : v < 8 = omega (arith, ready .few-workers) in
     (ready .long-deques, w8, v8, eqb-true (size ds w) 0 (not-false (eqb (size ds w) 0) (t .1)), ge-of (d .1), ready .sizes v v8)
+
+pub top-asks : (h : Head) (ds fs ws : List ℕ) (w v : ℕ) → Ready (core h ds fs ws) → (u : Verdict) → u ≡ verdict (stealTests (core h ds [] []) w v) → u ≡ Pass
+    → (p : ℕ) → p ≡ top ds v → (length fs ≡ 384) × (p < 64)
+unfolding top
+top-asks h ds fs ws w v ready u eu pass p e =
+    let a = steal-asks h ds fs ws w v ready u eu pass in
+    (ready .long-frames, subst (λ (k : ℕ). k < 64) (sym e) (ready .places v 0 (a .2) (omega (arith, a .4))))
 
 -- a test more
 pub pass-more : (u v : Verdict) (b : Bool) (r : Refusal) → v ≡ orRefuse u b r → v ≡ Pass → (u ≡ Pass) × (b ≡ false)

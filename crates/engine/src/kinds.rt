@@ -14,14 +14,13 @@ use crate::refusals::steal_verdict;
 use frames::NONE;
 use frames::acting_place;
 use frames::frame_at;
-use frames::frame_in;
 use frames::return_frame;
 use frames::root_at;
 use frames::set_root;
 use frames::spawn_frame;
 use frames::steal_frame;
 use frames::sync_frame;
-use frames::top_of;
+use frames::top_at;
 use pool::read_at;
 use pool::release;
 use pool::retain;
@@ -117,7 +116,7 @@ pub fn step_steal(
     if let Verdict::Refuse(refusal) = verdict {
         return refused(h, refusal);
     }
-    let f = frame_in(frames, top_of(deques, v));
+    let f = frame_at(frames, top_at(deques, v));
     steal_frame(deques, w, v);
     unchanged(h, Answer::Accepted(Done::Stolen(f.depth)))
 }

@@ -3,7 +3,7 @@ ghost use mathlib.Core.Path.{_≡_};
 ghost use mathlib.Core.Bool.{cond};
 ghost use lib.Dec.{eqb};
 ghost use Rattle.words.specs.Basics.{none};
-ghost use Rattle.frames.specs.Frames.{frameAt, setFrame, childOf, withChild, withoutChild, withSuspended, withRoot, freePlace, mainFrame, initPlaces, initFrames};
+ghost use Rattle.frames.specs.Frames.{frameAt, setFrame, childOf, withChild, withoutChild, withSuspended, freePlace, mainFrame, initPlaces, initFrames};
 use super::Frame;
 use super::NONE;
 
@@ -73,15 +73,6 @@ pub fn with_suspended(f: Frame, s: u32) -> Frame
 {
     let mut g = f;
     g.suspended = s;
-    g
-}
-
-// With another tree.
-pub fn with_root(f: Frame, root: u32) -> Frame
-    ensures { λ r. ⌜ r ≡ withRoot f root ⌝ }
-{
-    let mut g = f;
-    g.root = root;
     g
 }
 

@@ -13,7 +13,6 @@ pub use node::refcount_of;
 pub use node::right_of;
 pub use node::set_node;
 pub use node::set_refcount;
-pub use node::value_of;
 pub use refs::FreeList;
 pub use refs::release;
 pub use refs::retain;

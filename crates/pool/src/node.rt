@@ -2,7 +2,7 @@
 ghost use mathlib.Core.Path.{_≡_};
 ghost use Prim.Native.Nat.{_*_, _<_, _≤_};
 ghost use lib.ListN.{length};
-ghost use Rattle.pool.specs.Pool.{refcount, left, right, value, setNode, setRefcount};
+ghost use Rattle.pool.specs.Pool.{refcount, left, right, setNode, setRefcount};
 use words::put;
 use words::word;
 
@@ -24,12 +24,6 @@ pub fn right_of(pool: &[u32], i: u32) -> u32
     ensures { λ r. ⌜ r ≡ right (now (pool .entry)) i ⌝ }
 {
     word(pool, 4 * (i as usize) + 2)
-}
-
-pub fn value_of(pool: &[u32], i: u32) -> u32
-    ensures { λ r. ⌜ r ≡ value (now (pool .entry)) i ⌝ }
-{
-    word(pool, 4 * (i as usize) + 3)
 }
 
 pub fn set_refcount(pool: &mut [u32], i: u32, c: u32)
