@@ -107,7 +107,8 @@ uint64_t splitter_step(uint32_t *state, size_t state_len, uint32_t *pool, size_t
 uint32_t splitter_tape(uint32_t *state, size_t state_len, uint32_t *pool, size_t pool_len, uint32_t *work, size_t work_len,
                        const uint8_t *tape, size_t tape_len, uint32_t *answers, size_t answers_len);
 
-/* T(n): the nodes that one full view of n splitters takes, the least that a pool can have. */
+/* T(n): the nodes that one full view of n splitters takes, the least that a pool can have. The sum over the tree's levels for any n, 0 for 0;
+ * a start takes 1 to SPLITTER_MAX_SPLITTERS splitters. */
 uint64_t splitter_tree_nodes(uint32_t n);
 
 /* The two halves of splitter_step's result: the first answer word, and the second. */
