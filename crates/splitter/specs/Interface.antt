@@ -12,7 +12,7 @@ use Rattle.model.specs.declared.Decoded.{Decoded}
 use Rattle.model.specs.Record.{recordOf}
 use Rattle.semantics.specs.declared.State.{State}
 use Rattle.semantics.specs.declared.Refusal.{Refusal}
-use Rattle.semantics.specs.declared.Refusal.the-variants.{Work, Record}
+use Rattle.semantics.specs.declared.Refusal.the-variants.{Work}
 use Rattle.semantics.specs.declared.Answer.{Answer}
 use Rattle.semantics.specs.declared.Answer.the-variants.{Refused}
 use Rattle.semantics.specs.declared.Call.{Call}
@@ -65,12 +65,6 @@ abbrev pub bothWords : ℕ × ℕ → ℕ
 bothWords w = w .0 + 2 ^ 32 * w .1
 
 -- ---- a step by the fields of a record: 5 and 6 refuse the call, then 7 the record
-
--- of a record that is no step
-abbrev pub recordRefusal : Checked → Refusal
-recordRefusal NoRoom = Work
-recordRefusal Checked.Unsound = Refusal.Unsound
-recordRefusal (Sound k) = Record
 
 abbrev pub recordChecked : Checked → State → List ℕ → List ℕ → Decoded → Entered
 recordChecked NoRoom s ws work d = record { state = s; pool = ws; work = work; answer = Refused Work }

@@ -8,11 +8,19 @@ use Rattle.soundness.specs.Soundness.{checked, cleared}
 use Rattle.model.specs.declared.Step.{Step}
 use Rattle.model.specs.declared.Decoded.the-variants.{Valid, Invalid}
 use Rattle.semantics.specs.declared.State.{State}
+use Rattle.semantics.specs.declared.Refusal.{Refusal}
+use Rattle.semantics.specs.declared.Refusal.the-variants.{Work, Record}
 use Rattle.semantics.specs.declared.Answer.{Answer}
 use Rattle.semantics.specs.declared.Answer.the-variants.{Refused}
 use Rattle.semantics.specs.Entries.{Entered, numbersOf, enter, stepChecked}
 use Rattle.semantics.specs.Theory.WorkSlice.{no-room-keeps}
-use Rattle.splitter.specs.Interface.{recordRefusal, recordChecked, enterRecord}
+use Rattle.splitter.specs.Interface.{recordChecked, enterRecord}
+
+-- of a record that is no step
+abbrev recordRefusal : Checked → Refusal
+recordRefusal NoRoom = Work
+recordRefusal Checked.Unsound = Refusal.Unsound
+recordRefusal (Sound k) = Record
 
 module _ (s : State) (ws ks : List ℕ) where
   same-check : (k : Checked) (st : Step) → recordChecked k s ws ks (Valid st) ≡ stepChecked k s ws ks st
