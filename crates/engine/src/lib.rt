@@ -1,5 +1,5 @@
-// The engine: a step, a record and a tape over lent words, and the entries of a host. Every function is total; each contract is
-// an equation with a definition of the crate semantics, on all inputs.
+// The engine: the entries of a host, and below them a step, a record and a tape over lent words. Each contract is an equation with a
+// definition of the crate semantics. The entries have no requires; what is below them requires a sound core, which the check shows.
 mod answers;
 mod begin;
 mod checking;
@@ -17,15 +17,6 @@ pub use checking::check;
 pub use entries::check_state;
 pub use entries::step;
 pub use entries::tape;
-pub use kinds::step_read;
-pub use kinds::step_return;
-pub use kinds::step_spawn;
-pub use kinds::step_steal;
-pub use kinds::step_sync;
-pub use kinds::step_write;
-pub use records::run_tape;
-pub use records::step_record;
-pub use records::take_step;
 use semantics::Answer;
 use semantics::Call;
 use semantics::Refusal;

@@ -1,5 +1,5 @@
 // The pool part of document 01's soundness, decided in linear time on any words: cycles, wild links, huge counts.
-// A contract is an equation with a definition of specs/, on all inputs; only the functions of trees.rt require room for the
+// A contract is an equation with a definition of specs/, on all inputs; only the functions below run_check require room for the
 // nodes, which run_check tests first.
 ghost use mathlib.Core.Path.{_≡_};
 ghost use Prim.Native.Nat.{_*_, _≤_};
