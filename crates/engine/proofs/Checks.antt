@@ -26,7 +26,7 @@ use Rattle.semantics.specs.declared.Answer.{Answer}
 use Rattle.semantics.specs.declared.Answer.the-variants.{Refused}
 use Rattle.semantics.specs.declared.Call.{Call}
 use Rattle.semantics.specs.declared.Call.the-variants.{Taken, Denied}
-use Rattle.semantics.specs.Core.{did, stepOn}
+use Rattle.semantics.specs.Core.{stepResult, stepOn}
 use Rattle.semantics.specs.Entries.{Entered, Played, numbersOf, headOf, coreOf, stateOf, enter, stepChecked, play, tapeChecked, unfitTape, ran, runOn, recordsOf}
 use Rattle.semantics.specs.Theory.WorkSlice.{checked-room, no-room-keeps}
 use Rattle.semantics.specs.Theory.Kept.{Kept, kept-start}
@@ -125,10 +125,10 @@ pub fit-answers : (bytes rs : List ℕ) (b : Bool) → b ≡ unfitTape bytes rs 
 fit-answers bytes rs b e f = ge-of (neither (not (eqb (length bytes % 8) 0)) (ltb (length rs) (2 * (length bytes / 8))) (sym e ∙ f) .1)
 
 module _ (s : State) (free : ℕ) (ws : List ℕ) (hd h′ : Head) (ds′ fs′ ws′ : List ℕ) (s′ : State) (eh : hd ≡ headOf s free) (es : s′ ≡ stateOf (core h′ ds′ fs′ [])) where
-  pub stepped : (st : Step) (a : Answer) → did h′ ds′ fs′ ws′ a ≡ stepOn (core hd (s .deques) (s .frames) ws) st
+  pub stepped : (st : Step) (a : Answer) → stepResult h′ ds′ fs′ ws′ a ≡ stepOn (core hd (s .deques) (s .frames) ws) st
       → (s′ ≡ stateOf (stepOn (coreOf s ws free) st .core)) × (ws′ ≡ stepOn (coreOf s ws free) st .core .pool) × (a ≡ stepOn (coreOf s ws free) st .answer)
   stepped st a eo =
-      let o : did h′ ds′ fs′ ws′ a ≡ stepOn (coreOf s ws free) st = eo ∙ ap (λ g. stepOn (core g (s .deques) (s .frames) ws) st) eh in
+      let o : stepResult h′ ds′ fs′ ws′ a ≡ stepOn (coreOf s ws free) st = eo ∙ ap (λ g. stepOn (core g (s .deques) (s .frames) ws) st) eh in
       (es ∙ ap (λ d. stateOf (d .core)) o, ap (λ d. d .core .pool) o, ap (λ d. d .answer) o)
 
   pub taped : (ds : List Decoded) (rs rs′ : List ℕ) → ran (core h′ ds′ fs′ ws′) rs′ ≡ runOn (ran (core hd (s .deques) (s .frames) ws) rs) 0 ds

@@ -26,7 +26,7 @@ use Rattle.engine.specs.Promises.{core, verdict, orRefuse}
 
 -- what the tests ask
 pub tests-ask : {h : Head} {ds fs ws : List ℕ} → Ready (core h ds fs ws) → (length ds ≡ 520) × (h .workers ≤ 8)
-tests-ask r = (r .long-deques, r .few-workers)
+tests-ask r = (r .long-deques, r .workers-le)
 
 -- three tests
 pass-three : (a b c : Bool) (q r s : Refusal) → Pass ≡ verdict ((a, q) ∷ (b, r) ∷ (c, s) ∷ []) → (a ≡ false) × (c ≡ false)
@@ -51,8 +51,8 @@ steal-asks h ds fs ws w v ready u eu pass =
     let d = neither (not (ltb v (h .workers))) (ltb (size ds v) 2) (t .2) in
     let lw : w < h .workers = lt-of (not-false (ltb w (h .workers)) (t .0)) in
     let lv : v < h .workers = lt-of (not-false (ltb v (h .workers)) (d .0)) in
-    let w8 : w < 8 = omega (arith, ready .few-workers) in
-    let v8 : v < 8 = omega (arith, ready .few-workers) in
+    let w8 : w < 8 = omega (arith, ready .workers-le) in
+    let v8 : v < 8 = omega (arith, ready .workers-le) in
     (ready .long-deques, w8, v8, eqb-true (size ds w) 0 (not-false (eqb (size ds w) 0) (t .1)), ge-of (d .1), ready .sizes v v8)
 
 pub top-asks : (h : Head) (ds fs ws : List ℕ) (w v : ℕ) → Ready (core h ds fs ws) → (u : Verdict) → u ≡ verdict (stealTests (core h ds [] []) w v) → u ≡ Pass
@@ -74,7 +74,7 @@ module _ (h : Head) (ds fs ws : List ℕ) (w : ℕ) (ready : Ready (core h ds fs
 
   -- the worker exists and has a frame
   pub acting-worker : w < 8
-  acting-worker = let l : w < h .workers = lt-of (not-false (ltb w (h .workers)) (tests .0)) in omega (arith, ready .few-workers)
+  acting-worker = let l : w < h .workers = lt-of (not-false (ltb w (h .workers)) (tests .0)) in omega (arith, ready .workers-le)
 
   pub acting-some : 0 < size ds w
   acting-some = let n : size ds w ≡ 0 → ⊥ = eqb-false (size ds w) 0 (tests .1) in omega (arith, n)
@@ -107,7 +107,7 @@ module _ (h : Head) (ds fs ws : List ℕ) (w : ℕ) (ready : Ready (core h ds fs
     )
 
     pub write-asks : LinksIn (h .nodes) ws × (0 < h .nodes) × (h .height ≤ 32) × Link (h .nodes) (h .free) × Link (h .nodes) root
-    write-asks = (ready .links, ready .some-node, omega (arith, ready .low), ready .free, root-link)
+    write-asks = (ready .links, ready .nodes-positive, omega (arith, ready .low), ready .free, root-link)
 
   -- ---- the acting frame, for the steps of the frames' crate
   module _ (p : ℕ) (f : Frame) (ep : p ≡ bottom ds w) (ef : f ≡ frameAt fs p) where

@@ -8,7 +8,7 @@ use Rattle.model.specs.Record.{decodeAt}
 use Rattle.semantics.specs.Answers.{answerWords}
 use Rattle.semantics.specs.declared.Head.{Head}
 use Rattle.semantics.specs.declared.Answer.{Answer}
-use Rattle.semantics.specs.Core.{Core, Did, did}
+use Rattle.semantics.specs.Core.{Core, StepResult, stepResult}
 use Rattle.semantics.specs.Entries.{Ran, ran, runOn, recordOn, recordsFrom, putAnswer}
 use Rattle.semantics.specs.Theory.Kept.{Kept, kept-record}
 use Rattle.semantics.specs.Theory.Ready.{Ready, kept-ready}
@@ -16,7 +16,7 @@ use Rattle.engine.specs.Promises.{core, renewed}
 
 -- where the loop begins, what is left when a record has been run, and when none is left
 module _ (tape : List ℕ) (n : ℕ) where
-  pub turn : (c : Core) (a a′ : List ℕ) (i x y : ℕ) (o : Did) → i < n → o ≡ recordOn c (decodeAt tape (i * 8))
+  pub turn : (c : Core) (a a′ : List ℕ) (i x y : ℕ) (o : StepResult) → i < n → o ≡ recordOn c (decodeAt tape (i * 8))
       → x ≡ answerWords (o .answer) .0 → y ≡ answerWords (o .answer) .1 → a′ ≡ set (set a (i * 2) x) (i * 2 + 1) y
       → runOn (ran (o .core) a′) ((i + 1) * 2) (recordsFrom (n - (i + 1)) tape ((i + 1) * 8)) ≡ runOn (ran c a) (i * 2) (recordsFrom (n - i) tape (i * 8))
   unfolding recordsFrom runOn
@@ -31,7 +31,7 @@ module _ (tape : List ℕ) (n : ℕ) where
       (ea ∙ ap (λ (j : ℕ). set (set a k x) j y) e1 ∙ ap (λ (v : ℕ). set (set a k v) (suc k) y) ex ∙ ap (λ (v : ℕ). set (set a k (answerWords (o .answer) .0)) (suc k) v) ey)
       ∙ ap (λ (j : ℕ). runOn (ran (o .core) (putAnswer a k (o .answer))) j (recordsFrom m tape ((i + 1) * 8))) e2
       ∙ ap (λ (j : ℕ). runOn (ran (o .core) (putAnswer a k (o .answer))) (k + 2) (recordsFrom m tape j)) e8
-      ∙ ap (λ (q : Did). runOn (ran (q .core) (putAnswer a k (q .answer))) (k + 2) (recordsFrom m tape (i * 8 + 8))) eo
+      ∙ ap (λ (q : StepResult). runOn (ran (q .core) (putAnswer a k (q .answer))) (k + 2) (recordsFrom m tape (i * 8 + 8))) eo
       ∙ ap (λ (z : ℕ). runOn (ran c a) k (recordsFrom z tape (i * 8))) (sym em)
 
   pub finish : (r : Ran) (i k j : ℕ) → n ≤ i → runOn r k (recordsFrom (n - i) tape j) ≡ r
@@ -47,16 +47,16 @@ module _ (tape : List ℕ) (n : ℕ) where
 
   -- a record, from a sound core: what is left, and that the core is sound again
   pub turn-kept : (h head : Head) (ds fs ws ds′ fs′ ws′ a a′ : List ℕ) (free vacant spare free′ vacant′ spare′ : ℕ) (r : Answer) (i x y : ℕ) → head ≡ renewed h free vacant spare
-      → Kept (core (renewed h free vacant spare) ds fs ws) → i < n → did (renewed head free′ vacant′ spare′) ds′ fs′ ws′ r ≡ recordOn (core head ds fs ws) (decodeAt tape (i * 8))
+      → Kept (core (renewed h free vacant spare) ds fs ws) → i < n → stepResult (renewed head free′ vacant′ spare′) ds′ fs′ ws′ r ≡ recordOn (core head ds fs ws) (decodeAt tape (i * 8))
       → x ≡ answerWords r .0 → y ≡ answerWords r .1 → a′ ≡ set (set a (i * 2) x) (i * 2 + 1) y
       → Kept (core (renewed h free′ vacant′ spare′) ds′ fs′ ws′)
       × (runOn (ran (core (renewed h free′ vacant′ spare′) ds′ fs′ ws′) a′) ((i + 1) * 2) (recordsFrom (n - (i + 1)) tape ((i + 1) * 8))
       ≡ runOn (ran (core (renewed h free vacant spare) ds fs ws) a) (i * 2) (recordsFrom (n - i) tape (i * 8)))
   turn-kept h head ds fs ws ds′ fs′ ws′ a a′ free vacant spare free′ vacant′ spare′ r i x y eh K l eo ex ey ea =
       let c : Core = core (renewed h free vacant spare) ds fs ws in
-      let o : Did = did (renewed h free′ vacant′ spare′) ds′ fs′ ws′ r in
-      let e : o ≡ recordOn c (decodeAt tape (i * 8)) = subst (λ (g : Head). did (renewed g free′ vacant′ spare′) ds′ fs′ ws′ r ≡ recordOn (core g ds fs ws) (decodeAt tape (i * 8))) eh eo in
-      (subst (λ (q : Did). Kept (q .core)) (sym e) (kept-record c K (decodeAt tape (i * 8))), turn c a a′ i x y o l e ex ey ea)
+      let o : StepResult = stepResult (renewed h free′ vacant′ spare′) ds′ fs′ ws′ r in
+      let e : o ≡ recordOn c (decodeAt tape (i * 8)) = subst (λ (g : Head). stepResult (renewed g free′ vacant′ spare′) ds′ fs′ ws′ r ≡ recordOn (core g ds fs ws) (decodeAt tape (i * 8))) eh eo in
+      (subst (λ (q : StepResult). Kept (q .core)) (sym e) (kept-record c K (decodeAt tape (i * 8))), turn c a a′ i x y o l e ex ey ea)
 
 -- the numbers are those of a sound core
 pub ready-head : (h head : Head) (ds fs ws : List ℕ) → head ≡ h → Kept (core h ds fs ws) → Ready (core head ds fs ws)

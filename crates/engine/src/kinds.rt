@@ -2,7 +2,7 @@
 // and changes nothing, or acts. The core is ready (it is sound), so that reads and writes test no index.
 ghost use mathlib.Core.Path.{_≡_};
 ghost use Rattle.model.specs.declared.Step.the-variants.{Spawn, Return, Steal, Sync, Read, Write};
-ghost use Rattle.semantics.specs.Core.{did, stepOn};
+ghost use Rattle.semantics.specs.Core.{stepResult, stepOn};
 ghost use Rattle.semantics.specs.Theory.Ready.{Ready};
 ghost use Rattle.semantics.specs.declared.Answer.the-variants.{Accepted, Refused};
 ghost use Rattle.engine.specs.Promises.{core, headAfter};
@@ -51,7 +51,7 @@ pub fn refused(h: Head, refusal: Refusal) -> Out
 
 pub fn step_spawn(h: Head, deques: &mut [u32], frames: &mut [u32], pool: &mut [u32], w: u32) -> Out
     requires { ⌜ Ready (core h (now deques) (now frames) (now pool)) ⌝ }
-    ensures { λ r. ⌜ did (headAfter h r) (now (deques .exit)) (now (frames .exit)) (now (pool .exit)) (r .answer)
+    ensures { λ r. ⌜ stepResult (headAfter h r) (now (deques .exit)) (now (frames .exit)) (now (pool .exit)) (r .answer)
         ≡ stepOn (core h (now (deques .entry)) (now (frames .entry)) (now (pool .entry))) (Spawn w) ⌝ }
 {
     let verdict = or_refuse(
@@ -76,7 +76,7 @@ pub fn step_spawn(h: Head, deques: &mut [u32], frames: &mut [u32], pool: &mut [u
 
 pub fn step_return(h: Head, deques: &mut [u32], frames: &mut [u32], pool: &mut [u32], w: u32) -> Out
     requires { ⌜ Ready (core h (now deques) (now frames) (now pool)) ⌝ }
-    ensures { λ r. ⌜ did (headAfter h r) (now (deques .exit)) (now (frames .exit)) (now (pool .exit)) (r .answer)
+    ensures { λ r. ⌜ stepResult (headAfter h r) (now (deques .exit)) (now (frames .exit)) (now (pool .exit)) (r .answer)
         ≡ stepOn (core h (now (deques .entry)) (now (frames .entry)) (now (pool .entry))) (Return w) ⌝ }
 {
     let verdict = acting_verdict(h, deques, w);
@@ -109,7 +109,7 @@ pub fn step_steal(
     v: u32,
 ) -> Out
     requires { ⌜ Ready (core h (now deques) (now frames) (now pool)) ⌝ }
-    ensures { λ r. ⌜ did (headAfter h r) (now (deques .exit)) (now (frames .exit)) (now (pool .exit)) (r .answer)
+    ensures { λ r. ⌜ stepResult (headAfter h r) (now (deques .exit)) (now (frames .exit)) (now (pool .exit)) (r .answer)
         ≡ stepOn (core h (now (deques .entry)) (now (frames .entry)) (now (pool .entry))) (Steal w v) ⌝ }
 {
     let verdict = steal_verdict(h, deques, w, v);
@@ -123,7 +123,7 @@ pub fn step_steal(
 
 pub fn step_sync(h: Head, deques: &mut [u32], frames: &mut [u32], pool: &mut [u32], w: u32) -> Out
     requires { ⌜ Ready (core h (now deques) (now frames) (now pool)) ⌝ }
-    ensures { λ r. ⌜ did (headAfter h r) (now (deques .exit)) (now (frames .exit)) (now (pool .exit)) (r .answer)
+    ensures { λ r. ⌜ stepResult (headAfter h r) (now (deques .exit)) (now (frames .exit)) (now (pool .exit)) (r .answer)
         ≡ stepOn (core h (now (deques .entry)) (now (frames .entry)) (now (pool .entry))) (Sync w) ⌝ }
 {
     let verdict = acting_verdict(h, deques, w);
@@ -144,7 +144,7 @@ pub fn step_read(
     x: u32,
 ) -> Out
     requires { ⌜ Ready (core h (now deques) (now frames) (now pool)) ⌝ }
-    ensures { λ r. ⌜ did (headAfter h r) (now (deques .exit)) (now (frames .exit)) (now (pool .exit)) (r .answer)
+    ensures { λ r. ⌜ stepResult (headAfter h r) (now (deques .exit)) (now (frames .exit)) (now (pool .exit)) (r .answer)
         ≡ stepOn (core h (now (deques .entry)) (now (frames .entry)) (now (pool .entry))) (Read w x) ⌝ }
 {
     let verdict = or_refuse(
@@ -170,7 +170,7 @@ pub fn step_write(
     v: u32,
 ) -> Out
     requires { ⌜ Ready (core h (now deques) (now frames) (now pool)) ⌝ }
-    ensures { λ r. ⌜ did (headAfter h r) (now (deques .exit)) (now (frames .exit)) (now (pool .exit)) (r .answer)
+    ensures { λ r. ⌜ stepResult (headAfter h r) (now (deques .exit)) (now (frames .exit)) (now (pool .exit)) (r .answer)
         ≡ stepOn (core h (now (deques .entry)) (now (frames .entry)) (now (pool .entry))) (Write w x v) ⌝ }
 {
     let within = or_refuse(

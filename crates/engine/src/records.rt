@@ -3,7 +3,7 @@ ghost use mathlib.Core.Path.{_≡_};
 ghost use Prim.Native.Nat.{_+_, _*_, _/_, _≤_, _<_};
 ghost use lib.ListN.{length, set};
 ghost use Rattle.model.specs.Record.{decodeAt};
-ghost use Rattle.semantics.specs.Core.{did, stepOn};
+ghost use Rattle.semantics.specs.Core.{stepResult, stepOn};
 ghost use Rattle.semantics.specs.Entries.{recordOn, recordsOf, ran, runOn};
 ghost use Rattle.semantics.specs.Theory.Kept.{Kept};
 ghost use Rattle.semantics.specs.Theory.Ready.{Ready};
@@ -34,7 +34,7 @@ pub fn take_step(
     step: Step,
 ) -> Out
     requires { ⌜ Ready (core h (now deques) (now frames) (now pool)) ⌝ }
-    ensures { λ r. ⌜ did (headAfter h r) (now (deques .exit)) (now (frames .exit)) (now (pool .exit)) (r .answer)
+    ensures { λ r. ⌜ stepResult (headAfter h r) (now (deques .exit)) (now (frames .exit)) (now (pool .exit)) (r .answer)
         ≡ stepOn (core h (now (deques .entry)) (now (frames .entry)) (now (pool .entry))) step ⌝ }
 {
     match step {
@@ -57,7 +57,7 @@ pub fn step_record(
     at: usize,
 ) -> Out
     requires { ⌜ Ready (core h (now deques) (now frames) (now pool)) × (at + 8 ≤ length (now tape)) ⌝ }
-    ensures { λ r. ⌜ did (headAfter h r) (now (deques .exit)) (now (frames .exit)) (now (pool .exit)) (r .answer)
+    ensures { λ r. ⌜ stepResult (headAfter h r) (now (deques .exit)) (now (frames .exit)) (now (pool .exit)) (r .answer)
         ≡ recordOn (core h (now (deques .entry)) (now (frames .entry)) (now (pool .entry))) (decodeAt (now (tape .entry)) at) ⌝ }
 {
     let decoded = decode(tape, at);

@@ -1,4 +1,5 @@
--- Frames, Deques and Steps have the definitions, Promises the contracts that are more than one equation; Theory has the laws.
+-- Widths, Frames, Deques and Steps have the definitions, Promises the contracts that are more than one equation; Theory has the laws.
+pub mod Widths
 pub mod Frames
 pub mod Deques
 pub mod Steps

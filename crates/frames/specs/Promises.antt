@@ -9,7 +9,7 @@ use Rattle.frames.specs.Deques.{size}
 use Rattle.frames.specs.Steps.{Table, return, returned, returnedTo, parentAfter, sync, synced}
 
 abbrev pub table : List ℕ → List ℕ → ℕ → Table
-table ds fs free = record { deques = ds; frames = fs; free = free }
+table ds fs free = record { deques = ds; frames = fs; «free_place» = free }
 
 -- the table t, and t′ with the outcome o after the return of worker w's frame
 pub record IsReturn (t : Table) (w : ℕ) (t′ : Table) (o : Returned) : Type 0 where

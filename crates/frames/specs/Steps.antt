@@ -17,7 +17,7 @@ use Rattle.frames.specs.Deques.{size, bottom, top, push, pop, dropTop}
 pub record Table : Type 0 where
   pub deques : List ℕ
   pub frames : List ℕ
-  pub free : ℕ
+  pub «free_place» : ℕ
 
 -- the frame that worker w executes
 abbrev pub acting : Table → ℕ → Frame
@@ -30,9 +30,9 @@ spawn t w =
     let p : ℕ = bottom (t .deques) w in
     let f : Frame = frameAt (t .frames) p in
     record {
-      deques = push (t .deques) w (t .free);
-      frames = setFrame (setFrame (t .frames) p (withChild f)) (t .free) (childOf f p);
-      free = frameAt (t .frames) (t .free) .parent;
+      deques = push (t .deques) w (t .«free_place»);
+      frames = setFrame (setFrame (t .frames) p (withChild f)) (t .«free_place») (childOf f p);
+      «free_place» = frameAt (t .frames) (t .«free_place») .parent;
     }
 
 -- ---- return: "the bottom frame ends"
@@ -50,14 +50,14 @@ returnedTo left parent = cond (eqb left 0) (cond (resumes left parent) Resumed I
 abbrev pub ended : Table → ℕ → Table
 ended t w =
     let p : ℕ = bottom (t .deques) w in
-    record { deques = pop (t .deques) w; frames = setFrame (t .frames) p (freePlace (t .free)); free = p }
+    record { deques = pop (t .deques) w; frames = setFrame (t .frames) p (freePlace (t .«free_place»)); «free_place» = p }
 
 -- the parent at place q, whose record is f, has a live child less; perhaps it resumes
 abbrev pub parentAfter : Table → ℕ → ℕ → Frame → Table
 parentAfter t w q f =
     cond (resumes (size (t .deques) w) f)
-    (record { deques = push (t .deques) w q; frames = setFrame (t .frames) q (withSuspended f 0); free = t .free })
-    (record { deques = t .deques; frames = setFrame (t .frames) q f; free = t .free })
+    (record { deques = push (t .deques) w q; frames = setFrame (t .frames) q (withSuspended f 0); «free_place» = t .«free_place» })
+    (record { deques = t .deques; frames = setFrame (t .frames) q f; «free_place» = t .«free_place» })
 
 -- the parent's place and record, as the return finds them
 abbrev pub parentPlace : Table → ℕ → ℕ
@@ -75,7 +75,7 @@ returned t w = cond (eqb (parentPlace t w) none) Finished (returnedTo (size (pop
 -- ---- steal: "an idle worker takes the top frame of a victim"
 
 unfoldable pub steal : Table → ℕ → ℕ → Table
-steal t w v = record { deques = push (dropTop (t .deques) v) w (top (t .deques) v); frames = t .frames; free = t .free }
+steal t w v = record { deques = push (dropTop (t .deques) v) w (top (t .deques) v); frames = t .frames; «free_place» = t .«free_place» }
 
 -- the stolen frame
 abbrev pub stolen : Table → ℕ → Frame
@@ -87,7 +87,7 @@ unfoldable pub sync : Table → ℕ → Table
 sync t w =
     let p : ℕ = bottom (t .deques) w in
     cond (eqb (acting t w .outstanding) 0) t
-    (record { deques = pop (t .deques) w; frames = setFrame (t .frames) p (withSuspended (acting t w) 1); free = t .free })
+    (record { deques = pop (t .deques) w; frames = setFrame (t .frames) p (withSuspended (acting t w) 1); «free_place» = t .«free_place» })
 
 unfoldable pub synced : Table → ℕ → Synced
 synced t w = cond (eqb (acting t w .outstanding) 0) Passed Suspended

@@ -56,7 +56,7 @@ pub enum Returned {
 
 // What a return leaves: the first free place, which is the ended frame's, and how it went on.
 pub struct Ended {
-    pub free: u32,
+    pub free_place: u32,
     pub outcome: Returned,
 }
 

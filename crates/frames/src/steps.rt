@@ -90,21 +90,24 @@ pub fn return_frame(
     f: Frame,
 ) -> Ended
     requires { ⌜ Acts (now deques) (now frames) w p f × ((f .parent < 64) ⊎ (f .parent ≡ none)) ⌝ }
-    ensures { λ r. ⌜ IsReturn (table (now (deques .entry)) (now (frames .entry)) free) w (table (now (deques .exit)) (now (frames .exit)) (r .free)) (r .outcome) ⌝ }
+    ensures { λ r. ⌜ IsReturn (table (now (deques .entry)) (now (frames .entry)) free) w (table (now (deques .exit)) (now (frames .exit)) (r .«free_place»)) (r .outcome) ⌝ }
 {
     pop_off(deques, w);
     let q = f.parent;
     if q == NONE {
         put_frame(frames, p, free_place(free));
         return Ended {
-            free: p,
+            free_place: p,
             outcome: Returned::Finished,
         };
     }
     let parent = without_child(frame_at(frames, q));
     put_frame(frames, p, free_place(free));
     let outcome = return_to(deques, frames, w, q, parent);
-    Ended { free: p, outcome }
+    Ended {
+        free_place: p,
+        outcome,
+    }
 }
 
 // Worker w takes the top frame of worker v.

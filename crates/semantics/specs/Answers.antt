@@ -1,10 +1,10 @@
 -- Document 01's words for the answers. Definitions only.
-use Prim.Native.Nat.{ℕ}
+use Prim.Native.Nat.{ℕ, _+_, _*_, _/_, _%_, _^_}
 use Rattle.frames.specs.Steps.{returnedNumber, syncedNumber}
 use Rattle.semantics.specs.declared.Done.{Done}
 use Rattle.semantics.specs.declared.Done.the-variants.{Spawned, Ended, Stolen, Waited, Value, Written}
 use Rattle.semantics.specs.declared.Refusal.{Refusal}
-use Rattle.semantics.specs.declared.Refusal.the-variants.{Values, Workers, Nodes, Tape, Work, Unsound, Record, NoWorker, MainReturned, WorkerIdle, ThiefBusy, NoVictim, FramesFull, ChildLives, NoSplitter, PoolFull}
+use Rattle.semantics.specs.declared.Refusal.the-variants.{Values, Workers, Nodes, Tape, Work, Unsound, Record, NoWorker, MainReturned, WorkerIdle, ThiefBusy, NoVictim, FramesFull, ChildLives, NoSplitter, PoolFull, Lengths}
 use Rattle.semantics.specs.declared.Answer.{Answer}
 use Rattle.semantics.specs.declared.Answer.the-variants.{Accepted, Refused}
 
@@ -26,6 +26,8 @@ refusalNumber FramesFull = 13
 refusalNumber ChildLives = 14
 refusalNumber NoSplitter = 15
 refusalNumber PoolFull = 16
+-- the entries' own: a lent part of the state has another length
+refusalNumber Lengths = 99
 
 -- "100 plus the kind, then a number: spawn the child's depth, steal the stolen frame's depth, return and sync the outcome,
 -- read the value, write the free nodes left"
@@ -41,3 +43,11 @@ doneWords (Written k) = (106, k)
 abbrev pub answerWords : Answer → ℕ × ℕ
 answerWords (Accepted d) = doneWords d
 answerWords (Refused r) = (refusalNumber r, 0)
+
+-- a step's result in one number: the first answer word in the low half, the second in the high half
+abbrev pub bothWords : ℕ × ℕ → ℕ
+bothWords w = w .0 + 2 ^ 32 * w .1
+
+-- the two words in it
+abbrev pub wordsIn : ℕ → ℕ × ℕ
+wordsIn r = (r % 2 ^ 32, r / 2 ^ 32)

@@ -10,6 +10,7 @@ use Rattle.frames.specs.declared.Frame.{Frame}
 use Rattle.frames.specs.Frames.{setFrame, withRoot}
 use Rattle.frames.specs.Deques.{size, bottom}
 use Rattle.frames.specs.Steps.{Table, acting, spawn, return, returned, steal, stolen, sync, synced}
+use Rattle.soundness.specs.Numbers.{setFreeNode, setFreePlace}
 use Rattle.model.specs.declared.Step.{Step}
 use Rattle.model.specs.declared.Step.the-variants.{Spawn, Return, Steal, Sync, Read, Write}
 use Rattle.semantics.specs.declared.Head.{Head}
@@ -27,15 +28,15 @@ pub record Core : Type 0 where
   pub pool : List ℕ
 
 -- a core and the answer of the step that led to it
-pub record Did : Type 0 where
+pub record StepResult : Type 0 where
   pub core : Core
   pub answer : Answer
 
-abbrev pub did : Head → List ℕ → List ℕ → List ℕ → Answer → Did
-did h ds fs ws a = record { core = record { head = h; deques = ds; frames = fs; pool = ws }; answer = a }
+abbrev pub stepResult : Head → List ℕ → List ℕ → List ℕ → Answer → StepResult
+stepResult h ds fs ws a = record { core = record { head = h; deques = ds; frames = fs; pool = ws }; answer = a }
 
 abbrev pub tableOf : Core → Table
-tableOf c = record { deques = c .deques; frames = c .frames; free = c .head .vacant }
+tableOf c = record { deques = c .deques; frames = c .frames; «free_place» = c .head .numbers .«free_place» }
 
 -- the frame that worker w executes
 abbrev pub actingIn : Core → ℕ → Frame
@@ -44,14 +45,12 @@ actingIn c w = acting (tableOf c) w
 -- ---- numbers
 
 -- with another first free place
-abbrev pub withVacant : Head → ℕ → Head
-withVacant h p =
-    record { workers = h .workers; splitters = h .splitters; nodes = h .nodes; free = h .free; vacant = p; height = h .height; spare = h .spare }
+abbrev pub withFreePlace : Head → ℕ → Head
+withFreePlace h p = record { numbers = setFreePlace (h .numbers) p; height = h .height; «free_count» = h .«free_count» }
 
 -- with another first free node and number of free nodes
-abbrev pub withFree : Head → ℕ → ℕ → Head
-withFree h f k =
-    record { workers = h .workers; splitters = h .splitters; nodes = h .nodes; free = f; vacant = h .vacant; height = h .height; spare = k }
+abbrev pub withFreeNodes : Head → ℕ → ℕ → Head
+withFreeNodes h f k = record { numbers = setFreeNode (h .numbers) f; height = h .height; «free_count» = k }
 
 -- ---- refusals
 
@@ -59,14 +58,14 @@ abbrev pub idle : Core → ℕ → Bool
 idle c w = eqb (size (c .deques) w) 0
 
 abbrev pub noWorker : Core → ℕ → Bool
-noWorker c w = not (ltb w (c .head .workers))
+noWorker c w = not (ltb w (c .head .numbers .workers))
 
 -- "Main has returned": in a sound state a frame that lives is in a deque, or a frame below it is
 abbrev pub allIdle : Core → Bool
-allIdle c = all (c .head .workers) (idle c)
+allIdle c = all (c .head .numbers .workers) (idle c)
 
 -- the first test that holds refuses, and nothing changes
-abbrev pub judged : List (Bool × Refusal) → Core → Did → Did
+abbrev pub judged : List (Bool × Refusal) → Core → StepResult → StepResult
 judged [] c d = d
 judged (t ∷ ts) c d = cond (t .0) (record { core = c; answer = Refused (t .1) }) (judged ts c d)
 
@@ -76,46 +75,46 @@ actingTests c w = (noWorker c w, NoWorker) ∷ (allIdle c, MainReturned) ∷ (id
 
 -- ---- the six kinds
 
-unfoldable pub spawned : Core → ℕ → Did
-spawned c w =
+unfoldable pub spawnOn : Core → ℕ → StepResult
+spawnOn c w =
     let t : Table = spawn (tableOf c) w in
-    did (withVacant (c .head) (t .free)) (t .deques) (t .frames) (retain (c .pool) (actingIn c w .root)) (Accepted (Spawned (plus (actingIn c w .depth) 1)))
+    stepResult (withFreePlace (c .head) (t .«free_place»)) (t .deques) (t .frames) (retain (c .pool) (actingIn c w .root)) (Accepted (Spawned (plus (actingIn c w .depth) 1)))
 
-unfoldable pub ended : Core → ℕ → Did
-ended c w =
+unfoldable pub returnOn : Core → ℕ → StepResult
+returnOn c w =
     let t : Table = return (tableOf c) w in
-    let p : List ℕ × ℕ × ℕ = release (c .head .height) (c .pool) (c .head .free) (c .head .spare) (actingIn c w .root) in
-    did (withFree (withVacant (c .head) (t .free)) (p .1) (p .2)) (t .deques) (t .frames) (p .0) (Accepted (Ended (returned (tableOf c) w)))
+    let p : List ℕ × ℕ × ℕ = release (c .head .height) (c .pool) (c .head .numbers .«free_node») (c .head .«free_count») (actingIn c w .root) in
+    stepResult (withFreeNodes (withFreePlace (c .head) (t .«free_place»)) (p .1) (p .2)) (t .deques) (t .frames) (p .0) (Accepted (Ended (returned (tableOf c) w)))
 
-unfoldable pub robbed : Core → ℕ → ℕ → Did
-robbed c w v =
+unfoldable pub stealOn : Core → ℕ → ℕ → StepResult
+stealOn c w v =
     let t : Table = steal (tableOf c) w v in
-    did (c .head) (t .deques) (c .frames) (c .pool) (Accepted (Stolen (stolen (tableOf c) v .depth)))
+    stepResult (c .head) (t .deques) (c .frames) (c .pool) (Accepted (Stolen (stolen (tableOf c) v .depth)))
 
-unfoldable pub waited : Core → ℕ → Did
-waited c w =
+unfoldable pub syncOn : Core → ℕ → StepResult
+syncOn c w =
     let t : Table = sync (tableOf c) w in
-    did (c .head) (t .deques) (t .frames) (c .pool) (Accepted (Waited (synced (tableOf c) w)))
+    stepResult (c .head) (t .deques) (t .frames) (c .pool) (Accepted (Waited (synced (tableOf c) w)))
 
-unfoldable pub valued : Core → ℕ → ℕ → Did
-valued c w x = record { core = c; answer = Accepted (Value (readAt (c .head .height) (c .pool) (actingIn c w .root) x)) }
+unfoldable pub readOn : Core → ℕ → ℕ → StepResult
+readOn c w x = record { core = c; answer = Accepted (Value (readAt (c .head .height) (c .pool) (actingIn c w .root) x)) }
 
-unfoldable pub wrote : Core → ℕ → ℕ → ℕ → Did
-wrote c w x v =
-    let p : List ℕ × ℕ × ℕ = write (c .head .height) (c .pool) (c .head .free) (c .head .spare) (actingIn c w .root) x v in
-    did (withFree (c .head) (p .1) (p .2)) (c .deques) (setFrame (c .frames) (bottom (c .deques) w) (withRoot (actingIn c w) (c .head .free))) (p .0)
+unfoldable pub writeOn : Core → ℕ → ℕ → ℕ → StepResult
+writeOn c w x v =
+    let p : List ℕ × ℕ × ℕ = write (c .head .height) (c .pool) (c .head .numbers .«free_node») (c .head .«free_count») (actingIn c w .root) x v in
+    stepResult (withFreeNodes (c .head) (p .1) (p .2)) (c .deques) (setFrame (c .frames) (bottom (c .deques) w) (withRoot (actingIn c w) (c .head .numbers .«free_node»))) (p .0)
     (Accepted (Written (p .2)))
 
 -- ---- a step
 
 -- refusals 13 to 16, of the kind alone
 abbrev pub kindTests : Core → Step → List (Bool × Refusal)
-kindTests c (Spawn w) = (eqb (c .head .vacant) none, FramesFull) ∷ []
+kindTests c (Spawn w) = (eqb (c .head .numbers .«free_place») none, FramesFull) ∷ []
 kindTests c (Return w) = (not (eqb (actingIn c w .outstanding) 0), ChildLives) ∷ []
 kindTests c (Steal w v) = []
 kindTests c (Sync w) = []
-kindTests c (Read w x) = (not (ltb x (c .head .splitters)), NoSplitter) ∷ []
-kindTests c (Write w x v) = (not (ltb x (c .head .splitters)), NoSplitter) ∷ (leb (c .head .spare) (c .head .height), PoolFull) ∷ []
+kindTests c (Read w x) = (not (ltb x (c .head .numbers .splitters)), NoSplitter) ∷ []
+kindTests c (Write w x v) = (not (ltb x (c .head .numbers .splitters)), NoSplitter) ∷ (leb (c .head .«free_count») (c .head .height), PoolFull) ∷ []
 
 -- refusals 8, 9, 11 and 12
 abbrev pub stealTests : Core → ℕ → ℕ → List (Bool × Refusal)
@@ -131,13 +130,13 @@ testsOf c (Read w x) = actingTests c w ++ kindTests c (Read w x)
 testsOf c (Write w x v) = actingTests c w ++ kindTests c (Write w x v)
 
 -- what it does if none holds
-abbrev pub doneBy : Core → Step → Did
-doneBy c (Spawn w) = spawned c w
-doneBy c (Return w) = ended c w
-doneBy c (Steal w v) = robbed c w v
-doneBy c (Sync w) = waited c w
-doneBy c (Read w x) = valued c w x
-doneBy c (Write w x v) = wrote c w x v
+abbrev pub doneBy : Core → Step → StepResult
+doneBy c (Spawn w) = spawnOn c w
+doneBy c (Return w) = returnOn c w
+doneBy c (Steal w v) = stealOn c w v
+doneBy c (Sync w) = syncOn c w
+doneBy c (Read w x) = readOn c w x
+doneBy c (Write w x v) = writeOn c w x v
 
-unfoldable pub stepOn : Core → Step → Did
+unfoldable pub stepOn : Core → Step → StepResult
 stepOn c st = judged (testsOf c st) c (doneBy c st)

@@ -13,7 +13,6 @@ use Rattle.frames.specs.Theory.Lists.{dequeList}
 use Rattle.soundness.specs.declared.Numbers.{Numbers}
 use Rattle.soundness.specs.Soundness.{lives, inDeques, freeCount}
 use Rattle.model.specs.Machine.{Name, Frame, Machine, inUse}
-use Rattle.semantics.specs.Core.{Core}
 
 -- ---- names: a frame has its parent's name with its own place after it, counted from 1
 
@@ -64,23 +63,4 @@ machineOf s ds fs ws =
       nodes = inUse (s .splitters) (framesOf (s .splitters) fs ws (livePlaces (s .workers) ds fs)) + freeCount s ws;
       deques = map (framesOf (s .splitters) fs ws) (runningPlaces (s .workers) ds);
       suspended = framesOf (s .splitters) fs ws (waitingPlaces ds fs);
-    }
-
--- the engine's words, with the free nodes counted
-abbrev pub coreWith : Numbers → List ℕ → List ℕ → List ℕ → Core
-coreWith s ds fs ws =
-    record {
-      head =
-          record {
-            workers = s .workers;
-            splitters = s .splitters;
-            nodes = s .nodes;
-            free = s .free;
-            vacant = s .vacant;
-            height = height (s .splitters);
-            spare = freeCount s ws;
-          };
-      deques = ds;
-      frames = fs;
-      pool = ws;
     }

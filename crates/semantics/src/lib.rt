@@ -1,30 +1,13 @@
-// The types of the entries: the state that a host keeps, answers and refusals.
+// The types of answers and refusals, and the numbers that steps work on.
 use frames::Returned;
 use frames::Synced;
-
-// The state that a host keeps between calls, in the order of document 02's image: its numbers, for each of 8 workers a deque
-// length and 64 places from the top, and 64 frame records.
-pub struct State {
-    pub workers: u32,
-    pub splitters: u32,
-    pub nodes: u32,
-    // the first free node, or none
-    pub free: u32,
-    // the first free frame place, or none
-    pub vacant: u32,
-    pub deques: [u32; 520],
-    pub frames: [u32; 384],
-}
+use soundness::Numbers;
 
 // The state's numbers while steps run, with the tree's height and the number of free nodes.
 pub struct Head {
-    pub workers: u32,
-    pub splitters: u32,
-    pub nodes: u32,
-    pub free: u32,
-    pub vacant: u32,
+    pub numbers: Numbers,
     pub height: u32,
-    pub spare: u32,
+    pub free_count: u32,
 }
 
 // What an accepted step answers.
@@ -41,7 +24,7 @@ pub enum Done {
     Written(u32),
 }
 
-// Document 01's refusals, 1 to 16.
+// Document 01's refusals, 1 to 16, and the entries' own, 99.
 pub enum Refusal {
     Values,
     Workers,
@@ -59,16 +42,12 @@ pub enum Refusal {
     ChildLives,
     NoSplitter,
     PoolFull,
+    // a lent part of the state has not the length that it must have
+    Lengths,
 }
 
 // The answer to one step or record.
 pub enum Answer {
     Accepted(Done),
     Refused(Refusal),
-}
-
-// The answer to a whole call.
-pub enum Call {
-    Taken,
-    Denied(Refusal),
 }

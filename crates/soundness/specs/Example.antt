@@ -16,7 +16,7 @@ use Rattle.soundness.specs.Soundness.{treeAt, nodesAt, poolSound, number
 
 -- the start with two splitters and five nodes
 numbers : Numbers
-numbers = record { workers = 2; splitters = 2; nodes = 5; free = 3; vacant = 1 }
+numbers = record { workers = 2; splitters = 2; nodes = 5; «free_node» = 3; «free_place» = 1 }
 
 words : List ℕ
 words = initPool (replicate 20 7) 2 5 (10 ∷ 20 ∷ []) .0
@@ -31,7 +31,7 @@ frames = initFrames (replicate 384 0)
 
 -- worker 0 has spawned twice, worker 1 has stolen: Main, in place 0, is on worker 1's deque, the frames 1 and 2 on worker 0's
 grown : Table
-grown = steal (spawn (spawn (record { deques = deques; frames = frames; free = 1 }) 0) 0) 1 0
+grown = steal (spawn (spawn (record { deques = deques; frames = frames; «free_place» = 1 }) 0) 0) 1 0
 
 -- workers, splitters, nodes, first free node, first free place
 grownNumbers : List ℕ
@@ -43,7 +43,7 @@ grownWords = set words 0 3
 
 soundWith : List ℕ → List ℕ → List ℕ → List ℕ → Bool
 soundWith ns ds fs ws =
-    sound (record { workers = getD ns 0 0; splitters = getD ns 1 0; nodes = getD ns 2 0; free = getD ns 3 0; vacant = getD ns 4 0 }) ds fs ws
+    sound (record { workers = getD ns 0 0; splitters = getD ns 1 0; nodes = getD ns 2 0; «free_node» = getD ns 3 0; «free_place» = getD ns 4 0 }) ds fs ws
 
 -- one word of it is another: a number of the state, a deque's length, a place of a deque, a field of a frame record or of a node
 data Corruption : Type 0 where

@@ -181,11 +181,11 @@ liveRoots fs = rootsBelow fs 64
 -- "State and pool are sound if all of this is true."
 unfoldable pub sound : Numbers → List ℕ → List ℕ → List ℕ → Bool
 sound s ds fs ws =
-    numbersSound s ws && (framesSound (s .workers) (s .vacant) ds fs && poolSound (s .splitters) (s .nodes) ws (s .free) (liveRoots fs))
+    numbersSound s ws && (framesSound (s .workers) (s .«free_place») ds fs && poolSound (s .splitters) (s .nodes) ws (s .«free_node») (liveRoots fs))
 
 -- the free nodes, counted on the chain
 abbrev pub freeCount : Numbers → List ℕ → ℕ
-freeCount s ws = length (freeNodes (s .nodes) ws (s .free))
+freeCount s ws = length (freeNodes (s .nodes) ws (s .«free_node»))
 
 -- ---- the check's answer, and what it leaves in the work slice
 

@@ -1,4 +1,4 @@
-// Document 01's soundness of a state and a pool, decided in linear time on any words.
+// The types that the soundness of a state and a pool is said with: the state's numbers, and what a check finds.
 
 // The state's numbers, in the order of document 02's image.
 pub struct Numbers {
@@ -6,9 +6,9 @@ pub struct Numbers {
     pub splitters: u32,
     pub nodes: u32,
     // the first free node, or none
-    pub free: u32,
+    pub free_node: u32,
     // the first free frame place, or none
-    pub vacant: u32,
+    pub free_place: u32,
 }
 
 // What the check finds.

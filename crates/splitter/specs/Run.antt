@@ -10,7 +10,7 @@ use Rattle.model.specs.declared.Decoded.the-variants.{Valid, Invalid}
 use Rattle.model.specs.Record.{recordOf}
 use Rattle.semantics.specs.Answers.{answerWords}
 use Rattle.semantics.specs.Entries.{startOn, Entered, enter, recordsOf, Played, play}
-use Rattle.semantics.specs.Calls.{HostCall, outside, tape, Held, afterCalls, Told, refusedWhole, toldFrom}
+use Rattle.semantics.specs.Calls.{HostCall, outside, tape, StateAndPool, afterCalls, Told, refusedWhole, toldFrom}
 use Rattle.semantics.specs.Demands.{heldBy, toldBy, leftBy}
 use Rattle.splitter.specs.Interface.{withState, callNumber, bothWords, enterRecord, Started, hostStart, Stepped, hostStep, Taped, hostTape}
 
@@ -88,16 +88,16 @@ stepReply e = record { result = bothWords (answerWords (e .answer)); work = e .w
 abbrev pub tapeReply : Played → Reply
 tapeReply p = record { result = callNumber (p .call); work = p .work; answers = p .answers }
 
-abbrev pub engineStepReply : Held → List ℕ → Decoded → Reply
+abbrev pub engineStepReply : StateAndPool → List ℕ → Decoded → Reply
 engineStepReply h work (Valid st) = stepReply (enter (h .state) (h .pool) work st)
 engineStepReply h work Invalid = stepReply (enterRecord (h .state) (h .pool) work Invalid)
 
-abbrev pub engineReply : Held → InterfaceCall → Reply
+abbrev pub engineReply : StateAndPool → InterfaceCall → Reply
 engineReply h (stepCall kind worker field value work) = engineStepReply h work (recordOf kind worker field value)
 engineReply h (tapeCall bytes work answers) = tapeReply (play (h .state) (h .pool) work bytes answers)
 
 -- each call's, at the state and the pool that the engine's run has then
-abbrev pub engineReplies : Held → List InterfaceCall → List Reply
+abbrev pub engineReplies : StateAndPool → List InterfaceCall → List Reply
 engineReplies h [] = []
 engineReplies h (c ∷ cs) = engineReply h c ∷ engineReplies (afterCalls h (engineCall c)) cs
 

@@ -14,7 +14,7 @@ use Rattle.model.specs.Record.{recordOf, decodeAt}
 use Rattle.semantics.specs.declared.Call.{Call}
 use Rattle.semantics.specs.declared.Call.the-variants.{Taken, Denied}
 use Rattle.semantics.specs.Answers.{refusalNumber}
-use Rattle.semantics.specs.Core.{spawned, ended, robbed, waited, valued, wrote, stepOn}
+use Rattle.semantics.specs.Core.{spawnOn, returnOn, stealOn, syncOn, readOn, writeOn, stepOn}
 use Rattle.semantics.specs.Entries.{Begun, Played, startOn, recordsFrom, runOn, play}
 
 -- a start, then a tape
@@ -108,5 +108,5 @@ table =
     ∷ []
 
 pub starred : map (λ (row : Case × Outcome). outcome (row .0)) table ≡ map (λ (row : Case × Outcome). row .1) table
-unfolding table startOn play runOn recordsFrom recordOf decodeAt spawned ended robbed waited valued wrote stepOn spawn return returned steal sync synced shiftUp dropTop pop top bottom side child sibling bit leafOf readAt retain release setRefcount pathNode copyPath write initPool initFree initLeaves initInner initLevel setNode height width treeNodes initDeques push setSize setPlace size place initFrames initPlaces setFrame frameAt checked cleared sound numbersSound rootsBelow framesSound oneMain parentsLive countsRight placedOnce holdLive absentEmpty restZero linked onlyBelow placesFree poolSound treeAt nodesAt refcount left right value δ count
+unfolding table startOn play runOn recordsFrom recordOf decodeAt spawnOn returnOn stealOn syncOn readOn writeOn stepOn spawn return returned steal sync synced shiftUp dropTop pop top bottom side child sibling bit leafOf readAt retain release setRefcount pathNode copyPath write initPool initFree initLeaves initInner initLevel setNode height width treeNodes initDeques push setSize setPlace size place initFrames initPlaces setFrame frameAt checked cleared sound numbersSound rootsBelow framesSound oneMain parentsLive countsRight placedOnce holdLive absentEmpty restZero linked onlyBelow placesFree poolSound treeAt nodesAt refcount left right value δ count
 starred = refl

@@ -65,19 +65,19 @@ module _ (t : Table) (w p g : ℕ) (ps gs : List ℕ) (F : Formed t (g ∷ gs)) 
 
 pub record Finishes (t t′ : Table) (w p : ℕ) (ps gs : List ℕ) : Type 0 where
   pub after : After t t′ w ps (p ∷ gs) (p ∷ [])
-  pub freed : frameAt (t′ .frames) p ≡ freePlace (t .free)
+  pub freed : frameAt (t′ .frames) p ≡ freePlace (t .«free_place»)
   pub outcome : returned t w ≡ Finished
 
 -- to the parent at place q, whose record is f afterwards; the deque is d
 pub record Returns (t t′ : Table) (w p q : ℕ) (d gs : List ℕ) (f : Frame) (r : Returned) : Type 0 where
   pub after : After t t′ w d (p ∷ gs) (q ∷ p ∷ [])
-  pub freed : frameAt (t′ .frames) p ≡ freePlace (t .free)
+  pub freed : frameAt (t′ .frames) p ≡ freePlace (t .«free_place»)
   pub parent : frameAt (t′ .frames) q ≡ f
   pub outcome : returned t w ≡ r
 
 -- worker w's frame at place p gone
 abbrev freed : Table → ℕ → ℕ → Table
-freed t w p = table (pop (t .deques) w) (setFrame (t .frames) p (freePlace (t .free))) p
+freed t w p = table (pop (t .deques) w) (setFrame (t .frames) p (freePlace (t .«free_place»))) p
 
 -- the record at place q with a live child less
 abbrev pub less : Table → ℕ → Frame
@@ -87,8 +87,8 @@ module _ (t : Table) (w p : ℕ) (ps gs : List ℕ) (F : Formed t gs) (h : w < 8
   freed-after : After t (freed t w p) w ps (p ∷ gs) (p ∷ [])
   freed-after = after-free (after-pop (unchanged t w (p ∷ ps) gs F d) h) p o b
 
-  freed-place : frameAt (freed t w p .frames) p ≡ freePlace (t .free)
-  freed-place = frame-set-same (t .frames) p (freePlace (t .free)) (F .long) b
+  freed-place : frameAt (freed t w p .frames) p ≡ freePlace (t .«free_place»)
+  freed-place = frame-set-same (t .frames) p (freePlace (t .«free_place»)) (F .long) b
 
   left : size (pop (t .deques) w) w ≡ length ps
   left = sym (list-length (pop (t .deques) w) w) ∙ ap length (freed-after .deque)
@@ -130,7 +130,7 @@ module _ (t : Table) (w p : ℕ) (ps gs : List ℕ) (F : Formed t gs) (h : w < 8
       stored-parent : (f : Frame) → frameAt (setFrame (freed t w p .frames) q f) q ≡ f
       stored-parent f = frame-set-same (freed t w p .frames) q f (freed-after .formed .long) c
 
-      stored-freed : (f : Frame) → frameAt (setFrame (freed t w p .frames) q f) p ≡ freePlace (t .free)
+      stored-freed : (f : Frame) → frameAt (setFrame (freed t w p .frames) q f) p ≡ freePlace (t .«free_place»)
       stored-freed f = frame-set-other (freed t w p .frames) q p f (λ m. out-head q p gs oq (sym m)) ∙ freed-place
 
       pub return-stays : resumes (length ps) (less t q) ≡ false → Returns t (return t w) w p q ps gs (less t q) (cond (eqb (length ps) 0) Idle Continued)
@@ -170,7 +170,7 @@ module _ (t : Table) (w p : ℕ) (ps gs : List ℕ) (F : Formed t gs) (h : w < 8
       ne-eqb (acting t w .outstanding) 0
       (λ e. z (sym (ap (λ (f : Frame). f .outstanding) (acting-is t w p ps d)) ∙ e))
 
-  sync-is : sync t w ≡ table (pop (t .deques) w) (setFrame (t .frames) p (withSuspended (frameAt (t .frames) p) 1)) (t .free)
+  sync-is : sync t w ≡ table (pop (t .deques) w) (setFrame (t .frames) p (withSuspended (frameAt (t .frames) p) 1)) (t .«free_place»)
   unfolding sync
   sync-is = rw (test-waits, list-head (t .deques) w p ps d)
 
@@ -190,7 +190,7 @@ module _ (t : Table) (w p : ℕ) (ps gs : List ℕ) (F : Formed t gs) (h : w < 8
 -- ---- write: the frame gets another tree
 
 pub write-does : (t : Table) (w p r : ℕ) (ps gs : List ℕ) → Formed t gs → dequeList (t .deques) w ≡ p ∷ ps → p < 64 → count p gs ≡ 0
-    → After t (table (t .deques) (setFrame (t .frames) p (withRoot (frameAt (t .frames) p) r)) (t .free)) w (p ∷ ps) gs (p ∷ [])
+    → After t (table (t .deques) (setFrame (t .frames) p (withRoot (frameAt (t .frames) p) r)) (t .«free_place»)) w (p ∷ ps) gs (p ∷ [])
     × (frameAt (setFrame (t .frames) p (withRoot (frameAt (t .frames) p) r)) p ≡ withRoot (frameAt (t .frames) p) r)
 write-does t w p r ps gs F d b o =
     let f = withRoot (frameAt (t .frames) p) r in
@@ -204,13 +204,13 @@ pub record Stolen (t t′ : Table) (w v : ℕ) (gs : List ℕ) : Type 0 where
   pub victim : dequeList (t′ .deques) v ≡ front (dequeList (t .deques) v)
   pub deques : (u : ℕ) → u < 8 → u ≢ w → u ≢ v → dequeList (t′ .deques) u ≡ dequeList (t .deques) u
   pub frames : t′ .frames ≡ t .frames
-  pub free : t′ .free ≡ t .free
+  pub free : t′ .«free_place» ≡ t .«free_place»
 
 module _ (t : Table) (w v : ℕ) (gs : List ℕ) (F : Formed t gs) (h : w < 8) (k : v < 8) (idle : dequeList (t .deques) w ≡ []) (two : 2 ≤ length (dequeList (t .deques) v)) where
   differ : v ≢ w
   differ e = omega (arith, ap (λ (u : ℕ). length (dequeList (t .deques) u)) e, ap length idle)
 
-  dropped : After t (table (dropTop (t .deques) v) (t .frames) (t .free)) v (front (dequeList (t .deques) v)) gs []
+  dropped : After t (table (dropTop (t .deques) v) (t .frames) (t .«free_place»)) v (front (dequeList (t .deques) v)) gs []
   dropped =
       record {
         formed = record { shaped = dropTop-shaped (t .deques) v (F .shaped) k; long = F .long; places = F .places };
@@ -223,7 +223,7 @@ module _ (t : Table) (w v : ℕ) (gs : List ℕ) (F : Formed t gs) (h : w < 8) (
   unfolding steal
   steal-does =
       let idle′ = dropped .deques w h (λ e. differ (sym e)) ∙ idle in
-      let a = after-push (unchanged (table (dropTop (t .deques) v) (t .frames) (t .free)) w [] gs (dropped .formed) idle′) (top (t .deques) v) h (omega arith) in
+      let a = after-push (unchanged (table (dropTop (t .deques) v) (t .frames) (t .«free_place»)) w [] gs (dropped .formed) idle′) (top (t .deques) v) h (omega arith) in
       record {
         formed = a .formed;
         thief = a .deque ∙ sym (list-top (t .deques) v (omega (arith, list-length (t .deques) v)));

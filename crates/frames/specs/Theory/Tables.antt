@@ -20,7 +20,7 @@ use Rattle.frames.specs.Theory.Places.{nextFree, FreePlaces, free-elsewh
 pub record Formed (t : Table) (gs : List ℕ) : Type 0 where
   pub shaped : Shaped (t .deques)
   pub long : length (t .frames) ≡ 384
-  pub places : FreePlaces (t .frames) (t .free) gs
+  pub places : FreePlaces (t .frames) (t .«free_place») gs
 
 -- q is none of them
 abbrev pub Apart : ℕ → List ℕ → Type 0
@@ -41,14 +41,14 @@ module _ {t t′ : Table} {w : ℕ} {d gs ps : List ℕ} (a : After t t′ w d g
   after-size : size (t′ .deques) w ≡ length d
   after-size = sym (list-length (t′ .deques) w) ∙ ap length (a .deque)
 
-  pub after-store : (p : ℕ) (f : Frame) → count p gs ≡ 0 → After t (table (t′ .deques) (setFrame (t′ .frames) p f) (t′ .free)) w d gs (p ∷ ps)
+  pub after-store : (p : ℕ) (f : Frame) → count p gs ≡ 0 → After t (table (t′ .deques) (setFrame (t′ .frames) p f) (t′ .«free_place»)) w d gs (p ∷ ps)
   after-store p f out =
       record {
         formed =
             record {
               shaped = a .formed .shaped;
               long = length-setFrame (t′ .frames) p f ∙ a .formed .long;
-              places = free-elsewhere (t′ .frames) (t′ .free) p gs out (a .formed .places) f;
+              places = free-elsewhere (t′ .frames) (t′ .«free_place») p gs out (a .formed .places) f;
             };
         deque = a .deque;
         deques = a .deques;
@@ -56,21 +56,21 @@ module _ {t t′ : Table} {w : ℕ} {d gs ps : List ℕ} (a : After t t′ w d g
       }
 
   -- the place p is free, and the first
-  pub after-free : (p : ℕ) → count p gs ≡ 0 → p < 64 → After t (table (t′ .deques) (setFrame (t′ .frames) p (freePlace (t′ .free))) p) w d (p ∷ gs) (p ∷ ps)
+  pub after-free : (p : ℕ) → count p gs ≡ 0 → p < 64 → After t (table (t′ .deques) (setFrame (t′ .frames) p (freePlace (t′ .«free_place»))) p) w d (p ∷ gs) (p ∷ ps)
   after-free p out h =
       record {
         formed =
             record {
               shaped = a .formed .shaped;
-              long = length-setFrame (t′ .frames) p (freePlace (t′ .free)) ∙ a .formed .long;
-              places = free-put (t′ .frames) (t′ .free) p gs out (a .formed .places) (a .formed .long) h;
+              long = length-setFrame (t′ .frames) p (freePlace (t′ .«free_place»)) ∙ a .formed .long;
+              places = free-put (t′ .frames) (t′ .«free_place») p gs out (a .formed .places) (a .formed .long) h;
             };
         deque = a .deque;
         deques = a .deques;
-        records = λ q r. frame-set-other (t′ .frames) p q (freePlace (t′ .free)) (r .0) ∙ a .records q (r .1);
+        records = λ q r. frame-set-other (t′ .frames) p q (freePlace (t′ .«free_place»)) (r .0) ∙ a .records q (r .1);
       }
 
-  pub after-push : (p : ℕ) → w < 8 → length d < 64 → After t (table (push (t′ .deques) w p) (t′ .frames) (t′ .free)) w (p ∷ d) gs ps
+  pub after-push : (p : ℕ) → w < 8 → length d < 64 → After t (table (push (t′ .deques) w p) (t′ .frames) (t′ .«free_place»)) w (p ∷ d) gs ps
   after-push p h b =
       let r : size (t′ .deques) w < 64 = omega (arith, after-size) in
       let s = a .formed .shaped in
@@ -81,7 +81,7 @@ module _ {t t′ : Table} {w : ℕ} {d gs ps : List ℕ} (a : After t t′ w d g
         records = a .records;
       }
 
-  pub after-pop : w < 8 → After t (table (pop (t′ .deques) w) (t′ .frames) (t′ .free)) w (tail d) gs ps
+  pub after-pop : w < 8 → After t (table (pop (t′ .deques) w) (t′ .frames) (t′ .«free_place»)) w (tail d) gs ps
   after-pop h =
       let s = a .formed .shaped in
       record {

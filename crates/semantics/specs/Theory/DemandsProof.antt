@@ -25,10 +25,10 @@ use Rattle.semantics.specs.declared.Call.the-variants.{Taken}
 use Rattle.semantics.specs.Answers.{answerWords}
 use Rattle.semantics.specs.Core.{Core, stepOn}
 use Rattle.semantics.specs.Entries.{startOn, wholeNodes, numbersOf, stateOf}
-use Rattle.semantics.specs.Calls.{HostCall, outside, Held, afterCall, told, allTold, stepsTold, answersTold, saysAccepted}
+use Rattle.semantics.specs.Calls.{HostCall, outside, StateAndPool, afterCall, told, allTold, stepsTold, answersTold, saysAccepted}
 use Rattle.semantics.specs.Demands.{heldBy, toldBy, leftBy, plainStart, traceBy, MainReturned, oneByOne, oneWorkerCalls, allAccepted, AllFree, Demand2, Demand3}
 use Rattle.semantics.specs.Theory.Words.{turn-told, trace-told}
-use Rattle.semantics.specs.Theory.Runs.{holding, Kept, Follows-call, call-follows, outside-fed, calls-follow}
+use Rattle.semantics.specs.Theory.Runs.{stateAndPool, Kept, Follows-call, call-follows, outside-fed, calls-follow}
 use Rattle.semantics.specs.Theory.Starts.{Fit, fit-started, started-fit}
 
 -- no step refused: every answer accepts
@@ -41,21 +41,21 @@ all-accepted M (s ∷ ss) (accepted-then e a) =
 module _ (Follows : Machine → Core → Type 0)
     (keeps : (M : Machine) (c : Core) (st : Step) → Follows M c → Follows (step M st) (stepOn c st .core))
     (alike : (M : Machine) (c : Core) (st : Step) → Follows M c → answerWords (stepOn c st .answer) ≡ answer M st)
-    (is-sound : (M : Machine) (c : Core) → Follows M c → (sound (numbersOf (stateOf c)) (c .deques) (c .frames) (c .pool) ≡ true) × (freeCount (numbersOf (stateOf c)) (c .pool) ≡ c .head .spare))
-    (tall : (M : Machine) (c : Core) → Follows M c → c .head .height ≡ height (c .head .splitters))
-    (begins : (workers : ℕ) (vs ws : List ℕ) → Fit workers vs ws → (c : Core) × (heldBy (startOn workers vs ws) ≡ holding c) × Follows (plainStart workers vs ws) c)
-    (same-nodes : (M : Machine) (c : Core) → Follows M c → c .head .nodes ≡ M .nodes)
-    (same-spare : (M : Machine) (c : Core) → Follows M c → c .head .spare ≡ plainFree M)
-    (ends : (M : Machine) (c : Core) → Follows M c → live M ≡ [] → AllFree (holding c)) where
-  abbrev KeptBy : Held → Machine → Type 0
-  KeptBy h M = Kept Follows keeps alike is-sound tall h M
+    (is-sound : (M : Machine) (c : Core) → Follows M c → (sound (numbersOf (stateOf c)) (c .deques) (c .frames) (c .pool) ≡ true) × (freeCount (numbersOf (stateOf c)) (c .pool) ≡ c .head .«free_count»))
+    (height-is : (M : Machine) (c : Core) → Follows M c → c .head .height ≡ height (c .head .numbers .splitters))
+    (begins : (workers : ℕ) (vs ws : List ℕ) → Fit workers vs ws → (c : Core) × (heldBy (startOn workers vs ws) ≡ stateAndPool c) × Follows (plainStart workers vs ws) c)
+    (same-nodes : (M : Machine) (c : Core) → Follows M c → c .head .numbers .nodes ≡ M .nodes)
+    (same-spare : (M : Machine) (c : Core) → Follows M c → c .head .«free_count» ≡ plainFree M)
+    (ends : (M : Machine) (c : Core) → Follows M c → live M ≡ [] → AllFree (stateAndPool c)) where
+  abbrev KeptBy : StateAndPool → Machine → Type 0
+  KeptBy h M = Kept Follows keeps alike is-sound height-is h M
 
   started : (workers : ℕ) (vs ws : List ℕ) → Fit workers vs ws → KeptBy (heldBy (startOn workers vs ws)) (plainStart workers vs ws)
   started workers vs ws F = let b = begins workers vs ws F in record { core = b .0; held = b .1; follows = b .2 }
 
   runs : (workers : ℕ) (vs ws : List ℕ) (calls : List HostCall) → Fit workers vs ws
-      → Follows-call Follows keeps alike is-sound tall (plainStart workers vs ws) (leftBy workers vs ws calls) (toldBy workers vs ws calls)
-  runs workers vs ws calls F = calls-follow Follows keeps alike is-sound tall calls (plainStart workers vs ws) (heldBy (startOn workers vs ws)) (started workers vs ws F)
+      → Follows-call Follows keeps alike is-sound height-is (plainStart workers vs ws) (leftBy workers vs ws calls) (toldBy workers vs ws calls)
+  runs workers vs ws calls F = calls-follow Follows keeps alike is-sound height-is calls (plainStart workers vs ws) (heldBy (startOn workers vs ws)) (started workers vs ws F)
 
   -- ---- demand 2
 
@@ -73,12 +73,12 @@ module _ (Follows : Machine → Core → Type 0)
   -- ---- demand 3
 
   -- with long enough work slices every step is fed
-  all-fed : (works : ℕ → List ℕ) (ss : List Step) (M : Machine) (h : Held) (i : ℕ) → KeptBy h M → ((j : ℕ) → M .nodes ≤ length (works j)) → stepsTold (allTold h (oneByOne works i ss)) ≡ ss
+  all-fed : (works : ℕ → List ℕ) (ss : List Step) (M : Machine) (h : StateAndPool) (i : ℕ) → KeptBy h M → ((j : ℕ) → M .nodes ≤ length (works j)) → stepsTold (allTold h (oneByOne works i ss)) ≡ ss
   all-fed works [] M h i K long = refl
   all-fed works (s ∷ ss) M h i K long =
-      let long-enough : leb (K .core .head .nodes) (length (works i)) ≡ true = le-leb (K .core .head .nodes) (length (works i)) (omega (arith, same-nodes M (K .core) (K .follows), long i)) in
-      let e : told h (outside s (works i)) ≡ (s, answer M s) ∷ [] = ap (λ q. told q (outside s (works i))) (K .held) ∙ outside-fed Follows keeps alike is-sound tall M (K .core) s (works i) (K .follows) long-enough in
-      let A = call-follows Follows keeps alike is-sound tall M h (outside s (works i)) K in
+      let long-enough : leb (K .core .head .numbers .nodes) (length (works i)) ≡ true = le-leb (K .core .head .numbers .nodes) (length (works i)) (omega (arith, same-nodes M (K .core) (K .follows), long i)) in
+      let e : told h (outside s (works i)) ≡ (s, answer M s) ∷ [] = ap (λ q. told q (outside s (works i))) (K .held) ∙ outside-fed Follows keeps alike is-sound height-is M (K .core) s (works i) (K .follows) long-enough in
+      let A = call-follows Follows keeps alike is-sound height-is M h (outside s (works i)) K in
       let K' : KeptBy (afterCall h (outside s (works i))) (step M s) = subst (λ z. KeptBy (afterCall h (outside s (works i))) (run M (stepsTold z))) e (A .kept) in
       ap (λ z. stepsTold (z ++ allTold (afterCall h (outside s (works i))) (oneByOne works (suc i) ss))) e
       ∙ ap (λ z. s ∷ z) (all-fed works ss (step M s) (afterCall h (outside s (works i))) (suc i) K' (λ j. subst (λ q. q ≤ length (works j)) (sym (sizes-step M s .nodes)) (long j)))
@@ -90,7 +90,7 @@ module _ (Follows : Machine → Core → Type 0)
     fit = started-fit workers vs ws taken
 
     fit₁ : Fit 1 vs ws₁
-    fit₁ = record { some-value = fit .some-value; few-values = fit .few-values; some-worker = omega arith; few-workers = omega arith; enough = omega (arith, fit .enough); few-nodes = omega (arith, fit .few-nodes) }
+    fit₁ = record { values-positive = fit .values-positive; values-le = fit .values-le; workers-positive = omega arith; workers-le = omega arith; enough = omega (arith, fit .enough); nodes-le = omega (arith, fit .nodes-le) }
 
     N : ℕ
     N = wholeNodes ws
@@ -98,7 +98,7 @@ module _ (Follows : Machine → Core → Type 0)
     ss : List Step
     ss = stepsTold (toldBy workers vs ws calls)
 
-    R : Follows-call Follows keeps alike is-sound tall (plainStart workers vs ws) (leftBy workers vs ws calls) (toldBy workers vs ws calls)
+    R : Follows-call Follows keeps alike is-sound height-is (plainStart workers vs ws) (leftBy workers vs ws calls) (toldBy workers vs ws calls)
     R = runs workers vs ws calls fit
 
     plain-returned : Returned (start workers vs N) ss
@@ -123,7 +123,7 @@ module _ (Follows : Machine → Core → Type 0)
     calls₁ : List HostCall
     calls₁ = oneWorkerCalls workers vs ws calls works
 
-    R₁ : Follows-call Follows keeps alike is-sound tall (plainStart 1 vs ws₁) (leftBy 1 vs ws₁ calls₁) (toldBy 1 vs ws₁ calls₁)
+    R₁ : Follows-call Follows keeps alike is-sound height-is (plainStart 1 vs ws₁) (leftBy 1 vs ws₁ calls₁) (toldBy 1 vs ws₁ calls₁)
     R₁ = runs 1 vs ws₁ calls₁ fit₁
 
     start-is : plainStart 1 vs ws₁ ≡ start 1 vs N
@@ -143,7 +143,7 @@ module _ (Follows : Machine → Core → Type 0)
     answers₁-are : answersTold (toldBy 1 vs ws₁ calls₁) ≡ answers (start 1 vs N) (oneWorkerOf workers vs N ss)
     answers₁-are = R₁ .same ∙ ap₂ answers start-is fed-plain
 
-    free-at-end : (h : Held) (M : Machine) → KeptBy h M → live M ≡ [] → AllFree h
+    free-at-end : (h : StateAndPool) (M : Machine) → KeptBy h M → live M ≡ [] → AllFree h
     free-at-end h M K e = subst AllFree (sym (K .held)) (ends M (K .core) (K .follows) e)
 
     over : live (run (start workers vs N) ss) ≡ []

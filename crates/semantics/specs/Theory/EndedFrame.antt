@@ -17,7 +17,7 @@ use Rattle.frames.specs.Theory.Lists.{dequeList}
 use Rattle.frames.specs.Theory.Tables.{Formed}
 use Rattle.model.specs.Machine.{Frame, Machine, live, deque}
 use Rattle.model.specs.Theory.Effects.{rest, live-at}
-use Rattle.semantics.specs.Core.{Core, tableOf, actingIn, ended}
+use Rattle.semantics.specs.Core.{Core, tableOf, actingIn, returnOn}
 use Rattle.semantics.specs.Theory.Relation.{Trees, TreeLaws, Kept, placesOf, rootOf, rootsOf, Recorded, Relates}
 use Rattle.semantics.specs.Theory.Places.{count-perm, map-cong, PlacedOnce, treeOf, same-numbers, acting-frame}
 
@@ -35,7 +35,7 @@ pub record Left {P : Trees} {M : Machine} {c : Core} (r : Relates P M c) (q : Fr
   pub workers : length ds ≡ length (M .deques)
   pub frames : List·Permᴰ (live (withFrames M ds ss)) R
   pub formed : Formed t′ (r .at (q .name) ∷ r .gs)
-  pub freed : frameAt (t′ .frames) (r .at (q .name)) ≡ freePlace (c .head .vacant)
+  pub freed : frameAt (t′ .frames) (r .at (q .name)) ≡ freePlace (c .head .numbers .«free_place»)
   pub same-free : (p : ℕ) → 0 < count p (r .gs) → frameAt (t′ .frames) p ≡ frameAt (c .frames) p
   pub same-root : (f : Frame) → In f R → rootOf (t′ .frames) (r .at) f ≡ rootOf (c .frames) (r .at) f
   pub deques : (v : ℕ) → v < 8 → dequeList (t′ .deques) v ≡ placesOf (r .at) (getD ds v [])
@@ -44,7 +44,7 @@ pub record Left {P : Trees} {M : Machine} {c : Core} (r : Relates P M c) (q : Fr
 
 -- the pool after the release of the tree at that root
 abbrev released : Core → ℕ → List ℕ × ℕ × ℕ
-released c root = release (c .head .height) (c .pool) (c .head .free) (c .head .spare) root
+released c root = release (c .head .height) (c .pool) (c .head .numbers .«free_node») (c .head .«free_count») root
 
 module _ {P : Trees} {M : Machine} {c : Core} (r : Relates P M c) (w : ℕ) (q : Frame) (d : List Frame) (lt : w < length (M .deques)) (e : deque M w ≡ q ∷ d)
     (ds : List (List Frame)) (ss : List Frame) (X : Left r q (d ++ rest M w) ds ss (returnedTable c w)) where
@@ -71,7 +71,7 @@ module _ {P : Trees} {M : Machine} {c : Core} (r : Relates P M c) (w : ℕ) (q :
   vacant-left : (p : ℕ) → p < 64 → 0 < count p (r .at (q .name) ∷ r .gs) → (x : ℕ) × (frameAt fs′ p ≡ freePlace x)
   vacant-left p b h =
       elim (ℕ-discrete p (r .at (q .name))) [
-        | yes z ↦ (c .head .vacant, ap (frameAt fs′) z ∙ X .freed)
+        | yes z ↦ (c .head .numbers .«free_place», ap (frameAt fs′) z ∙ X .freed)
         | no z ↦ (let h′ : 0 < count p (r .gs) = omega (arith, h, count-cons p (r .at (q .name)) (r .gs), δ-other p (r .at (q .name)) z) in
             let o = r .vacant p b h′ in (o .0, X .same-free p h′ ∙ o .1))
       ]
@@ -80,13 +80,13 @@ module _ {P : Trees} {M : Machine} {c : Core} (r : Relates P M c) (w : ℕ) (q :
   roots-left =
       map-cong (treeOf fs′ (r .at)) (treeOf (c .frames) (r .at)) others (λ f i. ap (λ (x : ℕ). (x, f .history)) (X .same-root f i))
 
-  module _ (laws : TreeLaws (c .head .nodes) (M .splitters) P) where
+  module _ (laws : TreeLaws (c .head .numbers .nodes) (M .splitters) P) where
     pool-left : P (pool′ .0) (pool′ .1) (pool′ .2) (rootsOf (c .frames) (r .at) others)
         × Kept (height (M .splitters)) (M .splitters) (c .pool) (pool′ .0) (rootsOf (c .frames) (r .at) others)
     pool-left =
-        rw (acting-frame r w q d lt e, r .numbers .tall)
-        (laws .return (c .pool) (c .head .free) (c .head .spare) (treeOf (c .frames) (r .at) q) (rootsOf (c .frames) (r .at) others)
-        (laws .perm (c .pool) (c .head .free) (c .head .spare) (rootsOf (c .frames) (r .at) (live M)) (rootsOf (c .frames) (r .at) (q ∷ others))
+        rw (acting-frame r w q d lt e, r .numbers .height-is)
+        (laws .return (c .pool) (c .head .numbers .«free_node») (c .head .«free_count») (treeOf (c .frames) (r .at) q) (rootsOf (c .frames) (r .at) others)
+        (laws .perm (c .pool) (c .head .numbers .«free_node») (c .head .«free_count») (rootsOf (c .frames) (r .at) (live M)) (rootsOf (c .frames) (r .at) (q ∷ others))
         (Permᴰ·map (treeOf (c .frames) (r .at)) before) (r .trees)))
 
     trees-left : P (pool′ .0) (pool′ .1) (pool′ .2) (rootsOf fs′ (r .at) (live M′))
@@ -104,12 +104,12 @@ module _ {P : Trees} {M : Machine} {c : Core} (r : Relates P M c) (w : ℕ) (q :
         ∙ pool-left .1 (treeOf (c .frames) (r .at) f) (In-map (treeOf (c .frames) (r .at)) i) x b
         ∙ r .values f (In-perm (Permᴰ·symm before) (there i)) x b
 
-    pub left-relates : Relates P (withFrames M ds ss) (ended c w .core)
-    unfolding ended
+    pub left-relates : Relates P (withFrames M ds ss) (returnOn c w .core)
+    unfolding returnOn
     left-relates = record {
       at = r .at;
       gs = r .at (q .name) ∷ r .gs;
-      numbers = same-numbers M c (ended c w .core) ds ss (X .workers) (r .numbers) refl refl refl refl;
+      numbers = same-numbers M c (returnOn c w .core) ds ss (X .workers) (r .numbers) refl refl refl refl;
       formed = X .formed;
       deques = X .deques;
       running = X .running;

@@ -94,16 +94,16 @@ pub record FramesFacts (workers first : ℕ) (ds fs : List ℕ) : Type 0 where
 
 -- "Workers are 1 to 8, n is 1 to 256. The recorded node count is T(n) to 16,384 and at most what the lent pool holds."
 pub record NumbersFacts (s : Numbers) (ws : List ℕ) : Type 0 where
-  pub some-worker : 1 ≤ s .workers
-  pub few-workers : s .workers ≤ 8
-  pub some-splitter : 1 ≤ s .splitters
-  pub few-splitters : s .splitters ≤ 256
+  pub workers-positive : 1 ≤ s .workers
+  pub workers-le : s .workers ≤ 8
+  pub splitters-positive : 1 ≤ s .splitters
+  pub splitters-le : s .splitters ≤ 256
   pub enough : treeNodes (s .splitters) ≤ s .nodes
-  pub few-nodes : s .nodes ≤ 16384
+  pub nodes-le : s .nodes ≤ 16384
   pub room : 4 * s .nodes ≤ length ws
 
 -- "State and pool are sound if all of this is true." The pool's part is in PoolSentences
 pub record SoundFacts (s : Numbers) (ds fs ws : List ℕ) : Type 0 where
   pub numbers : NumbersFacts s ws
-  pub frames : FramesFacts (s .workers) (s .vacant) ds fs
-  pub pool : poolSound (s .splitters) (s .nodes) ws (s .free) (liveRoots fs) ≡ true
+  pub frames : FramesFacts (s .workers) (s .«free_place») ds fs
+  pub pool : poolSound (s .splitters) (s .nodes) ws (s .«free_node») (liveRoots fs) ≡ true

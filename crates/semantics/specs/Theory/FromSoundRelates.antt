@@ -84,11 +84,11 @@ module _ (s : Numbers) (ds fs ws : List ℕ) where
   -- ---- what soundness gives
 
   module _ (S : SoundFacts s ds fs ws) where
-    abbrev F : FramesFacts (s .workers) (s .vacant) ds fs
+    abbrev F : FramesFacts (s .workers) (s .«free_place») ds fs
     F = S .frames
 
     few : s .workers ≤ 8
-    few = S .numbers .few-workers
+    few = S .numbers .workers-le
 
     R : Rooted fs
     R = rooted-facts F
@@ -139,9 +139,9 @@ module _ (s : Numbers) (ds fs ws : List ℕ) where
           | inr h ↦ omega (arith, h .1, ap (count p) e, live-none F few p (λ l. omega (arith, l, ap (λ f. f .live) (h .0 .1))))
         ]
 
-    trees-there : LiveTrees (s .nodes) (s .splitters) ws (s .free) (freeCount s ws) (rootsOf fs at (live M))
+    trees-there : LiveTrees (s .nodes) (s .splitters) ws (s .«free_node») (freeCount s ws) (rootsOf fs at (live M))
     trees-there =
-        pool-live (s .splitters) (s .nodes) (S .numbers .few-nodes) (S .numbers .some-splitter) ws (s .free) _ (rootsOf fs at (live M))
+        pool-live (s .splitters) (s .nodes) (S .numbers .nodes-le) (S .numbers .splitters-positive) ws (s .«free_node») _ (rootsOf fs at (live M))
         (λ i. live-roots F few i ∙ ap (count i) (sym (ap (λ z. treeRoots (rootsOf fs at z)) live-frames ∙ roots-frames (s .splitters) fs ws R L live-there)))
         (S .numbers .room) (S .pool)
 
@@ -160,14 +160,14 @@ module _ (s : Numbers) (ds fs ws : List ℕ) where
       gs = F .places .gs;
       numbers = record {
         workers = sym deques-many;
-        some-worker = omega (arith, deques-many, S .numbers .some-worker);
-        few-workers = omega (arith, deques-many, few);
+        workers-positive = omega (arith, deques-many, S .numbers .workers-positive);
+        workers-le = omega (arith, deques-many, few);
         splitters = refl;
-        some-splitter = S .numbers .some-splitter;
-        few-splitters = S .numbers .few-splitters;
-        tall = refl;
+        splitters-positive = S .numbers .splitters-positive;
+        splitters-le = S .numbers .splitters-le;
+        height-is = refl;
         enough = S .numbers .enough;
-        few-nodes = S .numbers .few-nodes;
+        nodes-le = S .numbers .nodes-le;
       };
       formed = record { shaped = record { long = dlen; within = F .within; zeros = F .zeros }; long = flen; places = F .places .chain };
       deques = deques-places;
@@ -222,7 +222,7 @@ module _ (s : Numbers) (ds fs ws : List ℕ) where
 pub from-sound : (s : Numbers) (ds fs ws : List ℕ) → sound s ds fs ws ≡ true → length ds ≡ 520 → length fs ≡ 384
     → let M : Machine = machineOf s ds fs ws in
     let c : Core = coreWith s ds fs ws in
-    Relates (LiveTrees (s .nodes) (s .splitters)) M c × FrameTree M × DequeInvariant M × MarkInvariant (live M) × Bounded (M .splitters) (live M) × (c .head .spare ≡ freeNodes M)
+    Relates (LiveTrees (s .nodes) (s .splitters)) M c × FrameTree M × DequeInvariant M × MarkInvariant (live M) × Bounded (M .splitters) (live M) × (c .head .«free_count» ≡ freeNodes M)
 from-sound s ds fs ws e dlen flen =
     let S = sound-facts s ds fs ws e in
     (relates-there s ds fs ws S dlen flen, tree-there s ds fs ws S, deques-there s ds fs ws S, marks-there s ds fs ws S, bounds-there s ds fs ws S, spare-there s ds fs ws S)
@@ -239,7 +239,7 @@ module _ (s : Numbers) (ds fs ws : List ℕ) (S : SoundFacts s ds fs ws) where
       let A : List Frame = framesOf n fs ws (livePlaces (s .workers) ds fs) in
       let vs : List ℕ = range n 0 in
       let B : List Frame = main vs ∷ [] in
-      let mine : In (frameOf n fs ws p) A = In-map (frameOf n fs ws) (of-live (S .frames) (S .numbers .few-workers) p b l) in
+      let mine : In (frameOf n fs ws p) A = In-map (frameOf n fs ws) (of-live (S .frames) (S .numbers .workers-le) p b l) in
       omega (
         arith,
         inUse-within n A B (λ f m. (main vs, here refl, framed-history (livePlaces (s .workers) ds fs) f m)),
@@ -248,7 +248,7 @@ module _ (s : Numbers) (ds fs ws : List ℕ) (S : SoundFacts s ds fs ws) where
       )
 
   pub nodes-ended : ((p : ℕ) → p < 64 → Lives fs p → ⊥) → machineOf s ds fs ws .nodes ≡ freeCount s ws
-  nodes-ended h = go (livePlaces (s .workers) ds fs) (live-of (S .frames) (S .numbers .few-workers))
+  nodes-ended h = go (livePlaces (s .workers) ds fs) (live-of (S .frames) (S .numbers .workers-le))
     where
       go : (L : List ℕ) → AllLive fs L → inUse (s .splitters) (framesOf (s .splitters) fs ws L) + freeCount s ws ≡ freeCount s ws
       go [] a = omega (arith, inUse-none (s .splitters))

@@ -22,8 +22,8 @@ use Rattle.semantics.specs.Theory.SoundSteps.{step-relates, step-sound}
 -- a sound core: what every step keeps
 pub record Kept (c : Core) : Type 0 where
   pub is-sound : sound (numbersOf (stateOf c)) (c .deques) (c .frames) (c .pool) ≡ true
-  pub spare : c .head .spare ≡ freeCount (numbersOf (stateOf c)) (c .pool)
-  pub tall : c .head .height ≡ height (c .head .splitters)
+  pub spare : c .head .«free_count» ≡ freeCount (numbersOf (stateOf c)) (c .pool)
+  pub height-is : c .head .height ≡ height (c .head .numbers .splitters)
   pub long-deques : length (c .deques) ≡ 520
   pub long-frames : length (c .frames) ≡ 384
 
@@ -44,22 +44,22 @@ pub kept-start : (s : State) (ws ks : List ℕ) (free : ℕ) → length (s .dequ
 unfolding checked
 kept-start s ws ks free dlen flen e =
     let r = sound-answer (leb (s .nodes) (length ks)) (sound (numbersOf s) (s .deques) (s .frames) ws) free (freeCount (numbersOf s) ws) e in
-    record { is-sound = r .0; spare = r .1; tall = refl; long-deques = dlen; long-frames = flen }
+    record { is-sound = r .0; spare = r .1; height-is = refl; long-deques = dlen; long-frames = flen }
 
 -- ---- every step keeps it
 
 -- the core is its state's, with the free nodes counted
 core-counted : (c : Core) → Kept c → coreOf (stateOf c) (c .pool) (freeCount (numbersOf (stateOf c)) (c .pool)) ≡ c
-core-counted c K = ap₂ at (sym (K .tall)) (sym (K .spare))
+core-counted c K = ap₂ at (sym (K .height-is)) (sym (K .spare))
   where
     at : ℕ → ℕ → Core
     at h k = record {
       head = record {
-        workers = c .head .workers;
-        splitters = c .head .splitters;
-        nodes = c .head .nodes;
-        free = c .head .free;
-        vacant = c .head .vacant;
+        workers = c .head .numbers .workers;
+        splitters = c .head .numbers .splitters;
+        nodes = c .head .numbers .nodes;
+        free = c .head .numbers .«free_node»;
+        vacant = c .head .numbers .«free_place»;
         height = h;
         spare = k;
       };
@@ -79,7 +79,7 @@ kept-step c K st =
     (record {
       is-sound = t .0;
       spare = sym (t .1);
-      tall = n .height ∙ ap height (sym (n .splitters));
+      height-is = n .height ∙ ap height (sym (n .splitters));
       long-deques = r .formed .shaped .long;
       long-frames = r .formed .long;
     })

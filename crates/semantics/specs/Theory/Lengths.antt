@@ -25,10 +25,10 @@ use Rattle.model.specs.declared.Decoded.{Decoded}
 use Rattle.model.specs.declared.Decoded.the-variants.{Valid, Invalid}
 use Rattle.semantics.specs.declared.State.{State}
 use Rattle.semantics.specs.declared.Refusal.{Refusal}
-use Rattle.semantics.specs.Core.{Core, Did, tableOf, judged, testsOf, spawned, robbed, waited, valued, wrote, doneBy, stepOn}
-use Rattle.semantics.specs.Core.{ended as endedFrame}
+use Rattle.semantics.specs.Core.{Core, StepResult, tableOf, judged, testsOf, spawnOn, stealOn, syncOn, readOn, writeOn, doneBy, stepOn}
+use Rattle.semantics.specs.Core.{returnOn}
 use Rattle.semantics.specs.Entries.{numbersOf, coreOf, stateOf, zeros, Begun, wholeNodes, firstState, startOn, stepChecked, enter, recordOn, putAnswer, ran, runOn, recordsOf, unfitTape, tapeChecked, play}
-use Rattle.semantics.specs.Calls.{HostCall, outside, tape, Held, afterCall, afterCalls}
+use Rattle.semantics.specs.Calls.{HostCall, outside, tape, StateAndPool, afterCall, afterCalls}
 
 pub record Fits (s : State) : Type 0 where
   pub deques : length (s .deques) ≡ 520
@@ -76,8 +76,8 @@ module _ (t : Table) (w : ℕ) where
   spawn-long : AsLong t (spawn t w)
   unfolding spawn
   spawn-long = record {
-    deques = length-push (t .deques) w (t .free);
-    frames = length-setFrame (setFrame (t .frames) (bottom (t .deques) w) _) (t .free) _ ∙ length-setFrame (t .frames) (bottom (t .deques) w) _;
+    deques = length-push (t .deques) w (t .«free_place»);
+    frames = length-setFrame (setFrame (t .frames) (bottom (t .deques) w) _) (t .«free_place») _ ∙ length-setFrame (t .frames) (bottom (t .deques) w) _;
   }
 
   ended-long : AsLong t (ended t w)
@@ -108,14 +108,14 @@ return-long t w =
 -- ---- a step
 
 done-long : (c : Core) (st : Step) → AsLong (tableOf c) (tableOf (doneBy c st .core))
-done-long c (Spawn w) = let L = spawn-long (tableOf c) w in unfold spawned in record { deques = L .deques; frames = L .frames }
-done-long c (Return w) = let L = return-long (tableOf c) w in unfold endedFrame in record { deques = L .deques; frames = L .frames }
-done-long c (Steal w v) = unfold robbed in record { deques = steal-long (tableOf c) w v .deques; frames = refl }
-done-long c (Sync w) = let L = sync-long (tableOf c) w in unfold waited in record { deques = L .deques; frames = L .frames }
-done-long c (Read w x) = unfold valued in record { deques = refl; frames = refl }
-done-long c (Write w x v) = unfold wrote in record { deques = refl; frames = length-setFrame (c .frames) (bottom (c .deques) w) _ }
+done-long c (Spawn w) = let L = spawn-long (tableOf c) w in unfold spawnOn in record { deques = L .deques; frames = L .frames }
+done-long c (Return w) = let L = return-long (tableOf c) w in unfold returnOn in record { deques = L .deques; frames = L .frames }
+done-long c (Steal w v) = unfold stealOn in record { deques = steal-long (tableOf c) w v .deques; frames = refl }
+done-long c (Sync w) = let L = sync-long (tableOf c) w in unfold syncOn in record { deques = L .deques; frames = L .frames }
+done-long c (Read w x) = unfold readOn in record { deques = refl; frames = refl }
+done-long c (Write w x v) = unfold writeOn in record { deques = refl; frames = length-setFrame (c .frames) (bottom (c .deques) w) _ }
 
-judged-fits : (ts : List (Bool × Refusal)) (c : Core) (d : Did) → Fits (stateOf c) → Fits (stateOf (d .core)) → Fits (stateOf (judged ts c d .core))
+judged-fits : (ts : List (Bool × Refusal)) (c : Core) (d : StepResult) → Fits (stateOf c) → Fits (stateOf (d .core)) → Fits (stateOf (judged ts c d .core))
 judged-fits [] c d f g = g
 judged-fits (t ∷ ts) c d f g = elim (decided (t .0)) [ inl e ↦ rw e f | inr e ↦ rw e (judged-fits ts c d f g) ]
 
@@ -180,10 +180,10 @@ module _ (s : State) (ws ks : List ℕ) (f : Fits s) where
 
 -- ---- calls
 
-pub call-fits : (h : Held) (c : HostCall) → Fits (h .state) → Fits (afterCall h c .state)
+pub call-fits : (h : StateAndPool) (c : HostCall) → Fits (h .state) → Fits (afterCall h c .state)
 call-fits h (outside st work) f = enter-fits (h .state) (h .pool) work f st
 call-fits h (tape bytes work answers) f = play-fits (h .state) (h .pool) work f bytes answers
 
-pub calls-fit : (cs : List HostCall) (h : Held) → Fits (h .state) → Fits (afterCalls h cs .state)
+pub calls-fit : (cs : List HostCall) (h : StateAndPool) → Fits (h .state) → Fits (afterCalls h cs .state)
 calls-fit [] h f = f
 calls-fit (c ∷ cs) h f = calls-fit cs (afterCall h c) (call-fits h c f)

@@ -133,8 +133,8 @@ module _ (N : ℕ) (gs ps : List ℕ) (once : (p : ℕ) → p < N → count p gs
   at-most h = omega (arith, all-once, sum-count N ps h)
 
 module _ (at : Name → ℕ) (gs : List ℕ) (L : List Frame) (once : PlacedOnce at gs L) where
-  pub few-frames : ((f : Frame) → In f L → at (f .name) < 64) → length L ≤ 64
-  few-frames h = omega (arith, length-map L (λ (f : Frame). at (f .name)), at-most 64 gs (placesOf at L) once (λ x m. inside x (In-unmap (λ (f : Frame). at (f .name)) L m)))
+  pub frames-le : ((f : Frame) → In f L → at (f .name) < 64) → length L ≤ 64
+  frames-le h = omega (arith, length-map L (λ (f : Frame). at (f .name)), at-most 64 gs (placesOf at L) once (λ x m. inside x (In-unmap (λ (f : Frame). at (f .name)) L m)))
     where
       inside : (x : ℕ) → (f : Frame) × In f L × (at (f .name) ≡ x) → x < 64
       inside x u = omega (arith, h (u .0) (u .1), u .2)
@@ -264,7 +264,7 @@ module _ {P : Trees} {M : Machine} {c : Core} (r : Relates P M c) where
 
   -- "At most 64 live frames."
   pub live-few : length (live M) ≤ 64
-  live-few = few-frames (r .at) (r .gs) (live M) (r .once) placed-inside
+  live-few = frames-le (r .at) (r .gs) (live M) (r .once) placed-inside
 
 -- ---- trees and numbers
 
@@ -274,25 +274,25 @@ treeOf fs at f = (rootOf fs at f, f .history)
 
 -- a deque is another; the core's numbers but the first free place and node and the free nodes' number are the same
 pub same-numbers : (M : Machine) (c : Core) (c′ : Core) (ds : List (List Frame)) (ss : List Frame) → length ds ≡ length (M .deques) → SameNumbers M c
-    → c′ .head .workers ≡ c .head .workers → c′ .head .splitters ≡ c .head .splitters → c′ .head .height ≡ c .head .height → c′ .head .nodes ≡ c .head .nodes
+    → c′ .head .numbers .workers ≡ c .head .numbers .workers → c′ .head .numbers .splitters ≡ c .head .numbers .splitters → c′ .head .height ≡ c .head .height → c′ .head .numbers .nodes ≡ c .head .numbers .nodes
     → SameNumbers (record { splitters = M .splitters; nodes = M .nodes; deques = ds; suspended = ss }) c′
 same-numbers M c c′ ds ss e n e₁ e₂ e₃ e₄ = record {
   workers = e₁ ∙ n .workers ∙ sym e;
-  some-worker = omega (arith, n .some-worker, e);
-  few-workers = omega (arith, n .few-workers, e);
+  workers-positive = omega (arith, n .workers-positive, e);
+  workers-le = omega (arith, n .workers-le, e);
   splitters = e₂ ∙ n .splitters;
-  some-splitter = n .some-splitter;
-  few-splitters = n .few-splitters;
-  tall = e₃ ∙ n .tall;
+  splitters-positive = n .splitters-positive;
+  splitters-le = n .splitters-le;
+  height-is = e₃ ∙ n .height-is;
   enough = subst (λ (x : ℕ). treeNodes (M .splitters) ≤ x) (sym e₄) (n .enough);
-  few-nodes = subst (λ (x : ℕ). x ≤ 16384) (sym e₄) (n .few-nodes);
+  nodes-le = subst (λ (x : ℕ). x ≤ 16384) (sym e₄) (n .nodes-le);
 }
 
 -- ---- the acting frame: q is the bottom of worker w's deque, d are the frames above it
 
 module _ {P : Trees} {M : Machine} {c : Core} (r : Relates P M c) (w : ℕ) (q : Frame) (d : List Frame) (lt : w < length (M .deques)) (e : deque M w ≡ q ∷ d) where
   pub worker-few : w < 8
-  worker-few = omega (arith, lt, r .numbers .few-workers)
+  worker-few = omega (arith, lt, r .numbers .workers-le)
 
   pub acting-deque : dequeList (c .deques) w ≡ r .at (q .name) ∷ placesOf (r .at) d
   acting-deque = r .deques w worker-few ∙ ap (placesOf (r .at)) e

@@ -57,9 +57,9 @@ module _ (N n : ℕ) (most : N ≤ 16384) (some : 0 < n) where
       → Returned N (height n) n (T .level) (T .size) ws (rootsOf Fs) (release (height n) ws free k (F .0))
   returned ws free k F Fs T = live-return N (height n) n small (height-covers n) k (F .0) (rootsOf Fs) (T .counted) (T .live)
 
-  wrote : (ws : List ℕ) (free k root : ℕ) (h : History) (Fs : List Frame) (x v : ℕ) → length Fs < 64 → x < n → height n < k → (T : LiveTrees N n ws free k ((root, h) ∷ Fs))
+  writeOn : (ws : List ℕ) (free k root : ℕ) (h : History) (Fs : List Frame) (x v : ℕ) → length Fs < 64 → x < n → height n < k → (T : LiveTrees N n ws free k ((root, h) ∷ Fs))
       → Written N (height n) n (T .level) (T .size) ws free (rootsOf Fs) root x v (write (height n) ws free k root x v)
-  wrote ws free k root h Fs x v few bx enough T =
+  writeOn ws free k root h Fs x v few bx enough T =
       live-write N (height n) n small (height-covers n) (T .level) (T .size) ws free k (T .fs) (rootsOf Fs) root x v (T .live) bx (T .counted) (omega (arith, T .counted))
       (omega (arith, length-map Fs (λ (K : Frame). K .0)))
 
@@ -80,7 +80,7 @@ module _ (N n : ℕ) (most : N ≤ 16384) (some : 0 < n) where
       record { level = T .level; size = T .size; fs = R .fs'; counted = R .counted; live = R .live },
       λ K m. R .same (K .0) (root-of K Fs m) .reads,
     ));
-    write = λ ws free k root h Fs x v m few bx enough m≢ fresh T. (let W = wrote ws free k root h Fs x v few bx enough T in (
+    write = λ ws free k root h Fs x v m few bx enough m≢ fresh T. (let W = writeOn ws free k root h Fs x v few bx enough T in (
       record { level = W .level'; size = W .size'; fs = W .fs'; counted = W .counted; live = W .live },
       (λ K m. W .same (K .0) (root-of K Fs m) .reads),
       W .new-read,
@@ -107,4 +107,4 @@ module _ (N n : ℕ) (most : N ≤ 16384) (some : 0 < n) where
 
   pub write-beyond : (ws : List ℕ) (free k root : ℕ) (h : History) (Fs : List Frame) (x v : ℕ) → length Fs < 64 → x < n → height n < k → LiveTrees N n ws free k ((root, h) ∷ Fs)
       → Beyond N ws (write (height n) ws free k root x v .0)
-  write-beyond ws free k root h Fs x v few bx enough T = (let W = wrote ws free k root h Fs x v few bx enough T in (W .len, W .rest))
+  write-beyond ws free k root h Fs x v few bx enough T = (let W = writeOn ws free k root h Fs x v few bx enough T in (W .len, W .rest))

@@ -34,27 +34,27 @@ use Rattle.semantics.specs.Theory.FromSoundPlaces.{count-In, below-of, r
 use Rattle.semantics.specs.Theory.Kept.{Kept}
 
 pub record Ready (c : Core) : Type 0 where
-  pub few-workers : c .head .workers ≤ 8
-  pub few-splitters : c .head .splitters ≤ 256
+  pub workers-le : c .head .numbers .workers ≤ 8
+  pub splitters-le : c .head .numbers .splitters ≤ 256
   pub low : c .head .height ≤ 8
-  pub some-node : 0 < c .head .nodes
+  pub nodes-positive : 0 < c .head .numbers .nodes
   pub long-deques : length (c .deques) ≡ 520
   pub long-frames : length (c .frames) ≡ 384
-  pub links : LinksIn (c .head .nodes) (c .pool)
-  pub free : Link (c .head .nodes) (c .head .free)
-  pub vacant : (c .head .vacant < 64) ⊎ (c .head .vacant ≡ none)
+  pub links : LinksIn (c .head .numbers .nodes) (c .pool)
+  pub free : Link (c .head .numbers .nodes) (c .head .numbers .«free_node»)
+  pub vacant : (c .head .numbers .«free_place» < 64) ⊎ (c .head .numbers .«free_place» ≡ none)
   pub sizes : (w : ℕ) → w < 8 → size (c .deques) w ≤ 64
   pub places : (w k : ℕ) → w < 8 → k < size (c .deques) w → place (c .deques) w k < 64
   -- a place is free, so fewer than 64 frames live
-  pub room : (w : ℕ) → w < 8 → c .head .vacant < 64 → size (c .deques) w < 64
-  pub root : (w : ℕ) → w < 8 → 0 < size (c .deques) w → actingIn c w .root < c .head .nodes
+  pub room : (w : ℕ) → w < 8 → c .head .numbers .«free_place» < 64 → size (c .deques) w < 64
+  pub root : (w : ℕ) → w < 8 → 0 < size (c .deques) w → actingIn c w .root < c .head .numbers .nodes
   pub parent : (w : ℕ) → w < 8 → 0 < size (c .deques) w → (actingIn c w .parent < 64) ⊎ (actingIn c w .parent ≡ none)
-  pub path : (w x : ℕ) → w < 8 → 0 < size (c .deques) w → x < c .head .splitters → PathIn (c .head .nodes) (c .pool) (c .head .height) (actingIn c w .root) x
+  pub path : (w x : ℕ) → w < 8 → 0 < size (c .deques) w → x < c .head .numbers .splitters → PathIn (c .head .numbers .nodes) (c .pool) (c .head .height) (actingIn c w .root) x
 
 -- a tree has a node
-some-tree : (n : ℕ) → 0 < n → 0 < treeNodes n
+tree-positive : (n : ℕ) → 0 < n → 0 < treeNodes n
 unfolding treeNodes
-some-tree n p = omega (arith, sum-ge (suc (height n)) 0 (width n) (omega arith), width-pos n 0 p)
+tree-positive n p = omega (arith, sum-ge (suc (height n)) 0 (width n) (omega arith), width-pos n 0 p)
 
 -- ---- frames and deques
 
@@ -115,41 +115,41 @@ module _ (c : Core) (K : Kept c) where
   S : SoundFacts (numbersOf (stateOf c)) (c .deques) (c .frames) (c .pool)
   S = sound-facts (numbersOf (stateOf c)) (c .deques) (c .frames) (c .pool) (K .is-sound)
 
-  small : c .head .nodes ≤ none
-  small = omega (arith, S .numbers .few-nodes)
+  small : c .head .numbers .nodes ≤ none
+  small = omega (arith, S .numbers .nodes-le)
 
-  trees : Live (c .head .nodes) (height (c .head .splitters)) (c .head .splitters) (linkLevel (height (c .head .splitters)) (c .pool)) (linkSize (height (c .head .splitters)) (c .pool)) (c .pool) (c .head .free)
-      (freeNodes (c .head .nodes) (c .pool) (c .head .free)) (liveRoots (c .frames))
+  trees : Live (c .head .numbers .nodes) (height (c .head .numbers .splitters)) (c .head .numbers .splitters) (linkLevel (height (c .head .numbers .splitters)) (c .pool)) (linkSize (height (c .head .numbers .splitters)) (c .pool)) (c .pool) (c .head .numbers .«free_node»)
+      (freeNodes (c .head .numbers .nodes) (c .pool) (c .head .numbers .«free_node»)) (liveRoots (c .frames))
   trees =
-      let n = c .head .splitters in
-      sound-live (c .head .nodes) (height n) n small (S .numbers .some-splitter) (height-covers n)
-      (pool-fact n (c .head .nodes) (c .pool) (c .head .free) (liveRoots (c .frames)) (S .numbers .room) (S .pool))
+      let n = c .head .numbers .splitters in
+      sound-live (c .head .numbers .nodes) (height n) n small (S .numbers .splitters-positive) (height-covers n)
+      (pool-fact n (c .head .numbers .nodes) (c .pool) (c .head .numbers .«free_node») (liveRoots (c .frames)) (S .numbers .room) (S .pool))
 
   acting-root : (w : ℕ) → w < 8 → 0 < size (c .deques) w → 0 < count (actingIn c w .root) (liveRoots (c .frames))
-  acting-root w b h = (let r = bottom-lives (S .frames) (S .numbers .few-workers) w b h in root-counted (c .frames) 64 (bottom (c .deques) w) (r .0) (r .1))
+  acting-root w b h = (let r = bottom-lives (S .frames) (S .numbers .workers-le) w b h in root-counted (c .frames) 64 (bottom (c .deques) w) (r .0) (r .1))
 
   pub kept-ready : Ready c
   kept-ready =
-      let n = c .head .splitters in
-      let N = c .head .nodes in
+      let n = c .head .numbers .splitters in
+      let N = c .head .numbers .nodes in
       let F = S .frames in
-      let few = S .numbers .few-workers in
+      let few = S .numbers .workers-le in
       record {
-        few-workers = few;
-        few-splitters = S .numbers .few-splitters;
-        low = omega (arith, K .tall, height-le n 8 (omega (arith, S .numbers .few-splitters)));
-        some-node = omega (arith, S .numbers .enough, some-tree n (S .numbers .some-splitter));
+        workers-le = few;
+        splitters-le = S .numbers .splitters-le;
+        low = omega (arith, K .height-is, height-le n 8 (omega (arith, S .numbers .splitters-le)));
+        nodes-positive = omega (arith, S .numbers .enough, tree-positive n (S .numbers .splitters-positive));
         long-deques = K .long-deques;
         long-frames = K .long-frames;
         links = live-links N (height n) n small (height-covers n) trees;
         free = live-free N (height n) n small (height-covers n) trees;
-        vacant = chain-start 64 (nextFree (c .frames)) (c .head .vacant) (F .places .gs) (F .places .chain);
+        vacant = chain-start 64 (nextFree (c .frames)) (c .head .numbers .«free_place») (F .places .gs) (F .places .chain);
         sizes = F .within;
         places = λ w k b h. F .hold-live w b k h .0;
         room = λ w b h. deque-room F few h w b;
         root = λ w b h. trees .roots (actingIn c w .root) (acting-root w b h) .inside;
         parent = λ w b h. (let r = bottom-lives F few w b h in live-parent F few (bottom (c .deques) w) (r .0) (r .1));
         path = λ w x b h i.
-            subst (λ (t : ℕ). PathIn N (c .pool) t (actingIn c w .root) x) (sym (K .tall))
+            subst (λ (t : ℕ). PathIn N (c .pool) t (actingIn c w .root) x) (sym (K .height-is))
             (live-path N (height n) n small (height-covers n) trees (actingIn c w .root) x (acting-root w b h) i);
       }

@@ -30,7 +30,7 @@ use Rattle.semantics.specs.declared.Refusal.{Refusal}
 use Rattle.semantics.specs.declared.Refusal.the-variants.{Values, Workers, Nodes, Tape, Work, Unsound, Record, NoWorker, MainReturned, WorkerIdle, ThiefBusy, NoVictim, FramesFull, ChildLives, NoSplitter, PoolFull}
 use Rattle.semantics.specs.declared.Answer.the-variants.{Refused}
 use Rattle.semantics.specs.Answers.{refusalNumber}
-use Rattle.semantics.specs.Core.{Core, Did, actingIn, idle, noWorker, allIdle, judged, actingTests, stepOn, testsOf, doneBy, kindTests}
+use Rattle.semantics.specs.Core.{Core, StepResult, actingIn, idle, noWorker, allIdle, judged, actingTests, stepOn, testsOf, doneBy, kindTests}
 use Rattle.semantics.specs.Theory.Relation.{Trees, placesOf, Relates}
 use Rattle.semantics.specs.Theory.Places.{in-deque, sum-count, all-once, childCount-test, depth-few, placed-inside, acting-frame, acting-record}
 
@@ -43,7 +43,7 @@ Alike [] (u ∷ us) = ⊥
 Alike (t ∷ ts) [] = ⊥
 Alike (t ∷ ts) (u ∷ us) = (t .0 ≡ u .0) × (refusalNumber (t .1) ≡ u .1) × (u .0 ≡ false → Alike ts us)
 
-abbrev pub refusedBy : Core → Refusal → Did
+abbrev pub refusedBy : Core → Refusal → StepResult
 refusedBy c r = record { core = c; answer = Refused r }
 
 -- the numbers are 1 to 16
@@ -65,14 +65,14 @@ number-range ChildLives = omega arith
 number-range NoSplitter = omega arith
 number-range PoolFull = omega arith
 
-judged-passes : (ts : List (Bool × Refusal)) (us : List (Bool × ℕ)) (c : Core) (d : Did) → Alike ts us → firstTrue 0 us ≡ 0 → judged ts c d ≡ d
+judged-passes : (ts : List (Bool × Refusal)) (us : List (Bool × ℕ)) (c : Core) (d : StepResult) → Alike ts us → firstTrue 0 us ≡ 0 → judged ts c d ≡ d
 judged-passes [] [] c d a e = refl
 judged-passes (t ∷ ts) (u ∷ us) c d a e = elim (decided (u .0)) [
   | inl s ↦ absurd (omega (arith, number-range (t .1) .0, a .1, rw s at e))
   | inr s ↦ rw (a .0 ∙ s) (judged-passes ts us c d (a .2 s) (rw s at e))
 ]
 
-judged-refuses : (ts : List (Bool × Refusal)) (us : List (Bool × ℕ)) (c : Core) (d : Did) → Alike ts us → (k : ℕ) → firstTrue 0 us ≡ suc k
+judged-refuses : (ts : List (Bool × Refusal)) (us : List (Bool × ℕ)) (c : Core) (d : StepResult) → Alike ts us → (k : ℕ) → firstTrue 0 us ≡ suc k
     → (r : Refusal) × (judged ts c d ≡ refusedBy c r) × (refusalNumber r ≡ suc k)
 judged-refuses [] [] c d a k e = absurd (omega arith)
 judged-refuses (t ∷ ts) (u ∷ us) c d a k e = elim (decided (u .0)) [
@@ -102,8 +102,8 @@ module _ (N : ℕ) (gs ps : List ℕ) (once : (p : ℕ) → p < N → count p gs
   none-free : gs ≡ [] → length ps ≡ N
   none-free e = omega (arith, all-once N gs ps once, sum-count N ps inside, sum-zero N (λ p. count p gs) (λ p b. ap (count p) e ∙ count-nil p))
 
-  some-free : (x : ℕ) (xs : List ℕ) → x < N → gs ≡ x ∷ xs → length ps < N
-  some-free x xs h e = omega (arith, all-once N gs ps once, sum-count N ps inside, sum-ge N x (λ p. count p gs) h, ap (count x) e, count-cons x x xs, δ-same x)
+  free-positive : (x : ℕ) (xs : List ℕ) → x < N → gs ≡ x ∷ xs → length ps < N
+  free-positive x xs h e = omega (arith, all-once N gs ps once, sum-count N ps inside, sum-ge N x (λ p. count p gs) h, ap (count x) e, count-cons x x xs, δ-same x)
 
 -- ---- single tests
 
@@ -114,7 +114,7 @@ module _ {P : Trees} {M : Machine} {c : Core} (r : Relates P M c) where
   size-same w = elim (decLt w 8) [
     | yes h ↦ sym (list-length (c .deques) w) ∙ ap length (r .deques w h) ∙ length-map (deque M w) (λ (f : Frame). r .at (f .name))
     | no h ↦ List·getD-eq-default (c .deques) 0 {n = 65 * w} (omega (arith, r .formed .shaped .long))
-        ∙ sym (ap length (List·getD-eq-default (M .deques) [] {n = w} (omega (arith, r .numbers .few-workers))))
+        ∙ sym (ap length (List·getD-eq-default (M .deques) [] {n = w} (omega (arith, r .numbers .workers-le))))
   ]
 
   pub idle-same : (w : ℕ) → idle c w ≡ isEmpty (deque M w)
@@ -123,14 +123,14 @@ module _ {P : Trees} {M : Machine} {c : Core} (r : Relates P M c) where
   pub worker-same : (w : ℕ) → noWorker c w ≡ missing M w
   worker-same w = ap (λ (n : ℕ). not (ltb w n)) (r .numbers .workers)
 
-  pub splitter-same : (x : ℕ) → not (ltb x (c .head .splitters)) ≡ notBelow x (M .splitters)
+  pub splitter-same : (x : ℕ) → not (ltb x (c .head .numbers .splitters)) ≡ notBelow x (M .splitters)
   splitter-same x = ap (λ (n : ℕ). not (ltb x n)) (r .numbers .splitters)
 
   pub victim-same : (v : ℕ) → noWorker c v || ltb (size (c .deques) v) 2 ≡ missing M v || ltb (length (deque M v)) 2
   victim-same v = ap₂ _||_ (worker-same v) (ap (λ (n : ℕ). ltb n 2) (size-same v))
 
-  pub room-same : c .head .spare ≡ freeNodes M → leb (c .head .spare) (c .head .height) ≡ ltb (freeNodes M) (suc (height (M .splitters)))
-  room-same e = ap₂ leb e (r .numbers .tall) ∙ sym (leb·suc-suc (freeNodes M) (height (M .splitters)))
+  pub room-same : c .head .«free_count» ≡ freeNodes M → leb (c .head .«free_count») (c .head .height) ≡ ltb (freeNodes M) (suc (height (M .splitters)))
+  room-same e = ap₂ leb e (r .numbers .height-is) ∙ sym (leb·suc-suc (freeNodes M) (height (M .splitters)))
 
   pub child-same : (w : ℕ) (q : Frame) (d : List Frame) → w < length (M .deques) → deque M w ≡ q ∷ d → not (eqb (actingIn c w .outstanding) 0) ≡ hasChild (q .name) (live M)
   child-same w q d lt e =
@@ -141,17 +141,17 @@ module _ {P : Trees} {M : Machine} {c : Core} (r : Relates P M c) where
   placed : (p : ℕ) → In p (placesOf (r .at) (live M)) → p < 64
   placed p m = let u = In-unmap (λ (f : Frame). r .at (f .name)) (live M) m in omega (arith, placed-inside r (u .0) (u .1), u .2)
 
-  full : (gs : List ℕ) → r .gs ≡ gs → eqb (c .head .vacant) none ≡ notBelow (length (live M)) 64
+  full : (gs : List ℕ) → r .gs ≡ gs → eqb (c .head .numbers .«free_place») none ≡ notBelow (length (live M)) 64
   full [] e =
-      let z : c .head .vacant ≡ none = subst (λ (g : List ℕ). FreePlaces (c .frames) (c .head .vacant) g) e (r .formed .places) in
+      let z : c .head .numbers .«free_place» ≡ none = subst (λ (g : List ℕ). FreePlaces (c .frames) (c .head .numbers .«free_place») g) e (r .formed .places) in
       let many : 64 ≤ length (live M) = omega (arith, none-free 64 (r .gs) (placesOf (r .at) (live M)) (r .once) placed e, length-map (live M) (λ (f : Frame). r .at (f .name))) in
-      eq-eqb (c .head .vacant) none z ∙ sym (ap not (nltb-of many))
+      eq-eqb (c .head .numbers .«free_place») none z ∙ sym (ap not (nltb-of many))
   full (g ∷ gs) e =
-      let z = subst (λ (l : List ℕ). FreePlaces (c .frames) (c .head .vacant) l) e (r .formed .places) in
-      let few : length (live M) < 64 = omega (arith, some-free 64 (r .gs) (placesOf (r .at) (live M)) (r .once) placed g gs (z .1) e, length-map (live M) (λ (f : Frame). r .at (f .name))) in
-      ne-eqb (c .head .vacant) none (λ n. omega (arith, z .0, z .1)) ∙ sym (ap not (ltb-of few))
+      let z = subst (λ (l : List ℕ). FreePlaces (c .frames) (c .head .numbers .«free_place») l) e (r .formed .places) in
+      let few : length (live M) < 64 = omega (arith, free-positive 64 (r .gs) (placesOf (r .at) (live M)) (r .once) placed g gs (z .1) e, length-map (live M) (λ (f : Frame). r .at (f .name))) in
+      ne-eqb (c .head .numbers .«free_place») none (λ n. omega (arith, z .0, z .1)) ∙ sym (ap not (ltb-of few))
 
-  pub vacant-same : eqb (c .head .vacant) none ≡ notBelow (length (live M)) 64
+  pub vacant-same : eqb (c .head .numbers .«free_place») none ≡ notBelow (length (live M)) 64
   vacant-same = full (r .gs) refl
 
   -- ---- Main has returned
@@ -173,7 +173,7 @@ module _ {P : Trees} {M : Machine} {c : Core} (r : Relates P M c) where
         none-runs : (g : Frame) → In g (joined (M .deques)) → ⊥
         none-runs g i =
             let x = in-some (M .deques) i in
-            let empty = sym (idle-same (x .0)) ∙ all-at (c .head .workers) (idle c) s (x .0) (rw (r .numbers .workers) (x .1)) in
+            let empty = sym (idle-same (x .0)) ∙ all-at (c .head .numbers .workers) (idle c) s (x .0) (rw (r .numbers .workers) (x .1)) in
             not-in-nil (subst (λ (d : List Frame). In g d) (isEmpty-nil (deque M (x .0)) empty) (x .2))
 
         waits : (g : Frame) → In g (live M) → In g (M .suspended)
@@ -188,7 +188,7 @@ module _ {P : Trees} {M : Machine} {c : Core} (r : Relates P M c) where
             absurd (not-in-nil (subst (λ (L : List Frame). In f L) e (In-right (M .suspended) (in-deque (M .deques) w (subst (λ (y : List Frame). In f y) (sym z) (here refl))))))
 
         go : (L : List Frame) → live M ≡ L → allIdle c ≡ isEmpty L
-        go [] e = all-of (c .head .workers) (idle c) (λ w b. idle-same w ∙ no-frame w e (deque M w) refl)
+        go [] e = all-of (c .head .numbers .workers) (idle c) (λ w b. idle-same w ∙ no-frame w e (deque M w) refl)
         go (f ∷ L) e = elim (decided (allIdle c)) [ inl s ↦ absurd (not-all-idle f (subst (λ (K : List Frame). In f K) (sym e) (here refl)) s) | inr s ↦ s ]
 
     -- ---- all tests of a step
@@ -205,7 +205,7 @@ pub step-judged : (c : Core) (st : Step) → stepOn c st ≡ judged (testsOf c s
 unfolding stepOn
 step-judged c st = refl
 
-module _ {P : Trees} {M : Machine} {c : Core} (r : Relates P M c) (tree : FrameTree M) (shape : DequeInvariant M) (spare : c .head .spare ≡ freeNodes M) where
+module _ {P : Trees} {M : Machine} {c : Core} (r : Relates P M c) (tree : FrameTree M) (shape : DequeInvariant M) (spare : c .head .«free_count» ≡ freeNodes M) where
   alike : (st : Step) → Alike (testsOf c st) (turnTests M (turnOf st))
   alike (Spawn w) = acting-alike r tree shape w spawn (kindTests c (Spawn w)) (λ q d lt e. (vacant-same r, refl, λ x. tt))
   alike (Return w) = acting-alike r tree shape w return (kindTests c (Return w)) (λ q d lt e. (child-same r w q d lt e, refl, λ x. tt))

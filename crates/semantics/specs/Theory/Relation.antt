@@ -83,15 +83,15 @@ pub record Recorded (fs : List ℕ) (at : Name → ℕ) (L : List Frame) (s : �
 
 -- the numbers that no step changes
 pub record SameNumbers (M : Machine) (c : Core) : Type 0 where
-  pub workers : c .head .workers ≡ length (M .deques)
-  pub some-worker : 1 ≤ length (M .deques)
-  pub few-workers : length (M .deques) ≤ 8
-  pub splitters : c .head .splitters ≡ M .splitters
-  pub some-splitter : 1 ≤ M .splitters
-  pub few-splitters : M .splitters ≤ 256
-  pub tall : c .head .height ≡ height (M .splitters)
-  pub enough : treeNodes (M .splitters) ≤ c .head .nodes
-  pub few-nodes : c .head .nodes ≤ 16384
+  pub workers : c .head .numbers .workers ≡ length (M .deques)
+  pub workers-positive : 1 ≤ length (M .deques)
+  pub workers-le : length (M .deques) ≤ 8
+  pub splitters : c .head .numbers .splitters ≡ M .splitters
+  pub splitters-positive : 1 ≤ M .splitters
+  pub splitters-le : M .splitters ≤ 256
+  pub height-is : c .head .height ≡ height (M .splitters)
+  pub enough : treeNodes (M .splitters) ≤ c .head .numbers .nodes
+  pub nodes-le : c .head .numbers .nodes ≤ 16384
 
 -- `at` gives each live frame's place, gs are the free places
 pub record Relates (P : Trees) (M : Machine) (c : Core) : Type 0 where
@@ -105,5 +105,5 @@ pub record Relates (P : Trees) (M : Machine) (c : Core) : Type 0 where
   -- each place is free or some live frame's, and only one's
   pub once : (p : ℕ) → p < 64 → count p gs + count p (placesOf at (live M)) ≡ 1
   pub vacant : (p : ℕ) → p < 64 → 0 < count p gs → (q : ℕ) × (frameAt (c .frames) p ≡ freePlace q)
-  pub trees : P (c .pool) (c .head .free) (c .head .spare) (rootsOf (c .frames) at (live M))
+  pub trees : P (c .pool) (c .head .numbers .«free_node») (c .head .«free_count») (rootsOf (c .frames) at (live M))
   pub values : (f : Frame) → In f (live M) → (x : ℕ) → x < M .splitters → readAt (height (M .splitters)) (c .pool) (rootOf (c .frames) at f) x ≡ getD (f .values) x 0

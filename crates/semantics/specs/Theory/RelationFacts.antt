@@ -70,8 +70,8 @@ recorded-stored {fs} fs′ {at} L′ s′ t {f} g n e k r =
 -- ---- places
 
 module _ {P : Trees} {M : Machine} {c : Core} (r : Relates P M c) where
-  pub few-workers : {w : ℕ} → w < length (M .deques) → w < 8
-  few-workers h = omega (arith, r .numbers .few-workers)
+  pub workers-le : {w : ℕ} → w < length (M .deques) → w < 8
+  workers-le h = omega (arith, r .numbers .workers-le)
 
   -- a live frame's place is no other's
   pub places-apart : {q : Frame} {R : List Frame} → List·Permᴰ (live M) (q ∷ R) → (g : Frame) → In g R → r .at (g .name) ≢ r .at (q .name)

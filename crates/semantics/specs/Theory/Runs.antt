@@ -27,22 +27,22 @@ use Rattle.semantics.specs.declared.Answer.the-variants.{Refused}
 use Rattle.semantics.specs.Answers.{answerWords}
 use Rattle.semantics.specs.Core.{Core, stepOn}
 use Rattle.semantics.specs.Entries.{numbersOf, coreOf, stateOf, Entered, entered, stepChecked, enter, recordsOf, putAnswer, Ran, ran, runOn, Played, played, notPlayed, tapeChecked, unfitTape, play}
-use Rattle.semantics.specs.Calls.{HostCall, outside, tape, Held, afterCall, afterCalls, Told, refusedWhole, toldFrom, toldIf, told, allTold, stepsTold, answersTold}
+use Rattle.semantics.specs.Calls.{HostCall, outside, tape, StateAndPool, afterCall, afterCalls, Told, refusedWhole, toldFrom, toldIf, told, allTold, stepsTold, answersTold}
 use Rattle.semantics.specs.Theory.Words.{step-not-whole}
 
 -- ---- state and core
 
 -- the host holds the core's state and pool
-abbrev pub holding : Core → Held
-holding c = record { state = stateOf c; pool = c .pool }
+abbrev pub stateAndPool : Core → StateAndPool
+stateAndPool c = record { state = stateOf c; pool = c .pool }
 
-core-back : (c : Core) → c .head .height ≡ height (c .head .splitters) → coreOf (stateOf c) (c .pool) (c .head .spare) ≡ c
+core-back : (c : Core) → c .head .height ≡ height (c .head .numbers .splitters) → coreOf (stateOf c) (c .pool) (c .head .«free_count») ≡ c
 core-back c e = ap (λ (q : ℕ). withHeight q) (sym e)
   where
     withHeight : ℕ → Core
     withHeight q =
         record {
-          head = record { workers = c .head .workers; splitters = c .head .splitters; nodes = c .head .nodes; free = c .head .free; vacant = c .head .vacant; height = q; spare = c .head .spare };
+          head = record { workers = c .head .numbers .workers; splitters = c .head .numbers .splitters; nodes = c .head .numbers .nodes; free = c .head .numbers .«free_node»; vacant = c .head .numbers .«free_place»; height = q; spare = c .head .«free_count» };
           deques = c .deques;
           frames = c .frames;
           pool = c .pool;
@@ -65,56 +65,56 @@ answers-append M (s ∷ ss) ts = ap (λ z. answer M s ∷ z) (answers-append (st
 module _ (Follows : Machine → Core → Type 0)
     (keeps : (M : Machine) (c : Core) (st : Step) → Follows M c → Follows (step M st) (stepOn c st .core))
     (alike : (M : Machine) (c : Core) (st : Step) → Follows M c → answerWords (stepOn c st .answer) ≡ answer M st)
-    (is-sound : (M : Machine) (c : Core) → Follows M c → (sound (numbersOf (stateOf c)) (c .deques) (c .frames) (c .pool) ≡ true) × (freeCount (numbersOf (stateOf c)) (c .pool) ≡ c .head .spare))
-    (tall : (M : Machine) (c : Core) → Follows M c → c .head .height ≡ height (c .head .splitters)) where
+    (is-sound : (M : Machine) (c : Core) → Follows M c → (sound (numbersOf (stateOf c)) (c .deques) (c .frames) (c .pool) ≡ true) × (freeCount (numbersOf (stateOf c)) (c .pool) ≡ c .head .«free_count»))
+    (height-is : (M : Machine) (c : Core) → Follows M c → c .head .height ≡ height (c .head .numbers .splitters)) where
   -- the host's state and pool follow M
-  pub record Kept (h : Held) (M : Machine) : Type 0 where
+  pub record Kept (h : StateAndPool) (M : Machine) : Type 0 where
     pub core : Core
-    pub held : h ≡ holding core
+    pub held : h ≡ stateAndPool core
     pub follows : Follows M core
 
   -- ---- the check
 
-  check-long : (M : Machine) (c : Core) (work : List ℕ) → Follows M c → leb (c .head .nodes) (length work) ≡ true
-      → checked (numbersOf (stateOf c)) (c .deques) (c .frames) (c .pool) work ≡ Sound (c .head .spare)
+  check-long : (M : Machine) (c : Core) (work : List ℕ) → Follows M c → leb (c .head .numbers .nodes) (length work) ≡ true
+      → checked (numbersOf (stateOf c)) (c .deques) (c .frames) (c .pool) work ≡ Sound (c .head .«free_count»)
   unfolding checked
   check-long M c work f e = let s = is-sound M c f in rw (e, s .0, s .1)
 
-  check-short : (c : Core) (work : List ℕ) → leb (c .head .nodes) (length work) ≡ false → checked (numbersOf (stateOf c)) (c .deques) (c .frames) (c .pool) work ≡ NoRoom
+  check-short : (c : Core) (work : List ℕ) → leb (c .head .numbers .nodes) (length work) ≡ false → checked (numbersOf (stateOf c)) (c .deques) (c .frames) (c .pool) work ≡ NoRoom
   unfolding checked
   check-short c work e = rw e
 
   -- ---- a step from outside
 
-  enter-long : (M : Machine) (c : Core) (work : List ℕ) (st : Step) → Follows M c → leb (c .head .nodes) (length work) ≡ true
-      → enter (stateOf c) (c .pool) work st ≡ entered (stepOn c st) (cleared (c .head .nodes) work)
+  enter-long : (M : Machine) (c : Core) (work : List ℕ) (st : Step) → Follows M c → leb (c .head .numbers .nodes) (length work) ≡ true
+      → enter (stateOf c) (c .pool) work st ≡ entered (stepOn c st) (cleared (c .head .numbers .nodes) work)
   unfolding enter
-  enter-long M c work st f e = ap (λ k. stepChecked k (stateOf c) (c .pool) work st) (check-long M c work f e) ∙ ap (λ q. entered (stepOn q st) (cleared (c .head .nodes) work)) (core-back c (tall M c f))
+  enter-long M c work st f e = ap (λ k. stepChecked k (stateOf c) (c .pool) work st) (check-long M c work f e) ∙ ap (λ q. entered (stepOn q st) (cleared (c .head .numbers .nodes) work)) (core-back c (height-is M c f))
 
-  enter-short : (c : Core) (work : List ℕ) (st : Step) → leb (c .head .nodes) (length work) ≡ false
+  enter-short : (c : Core) (work : List ℕ) (st : Step) → leb (c .head .numbers .nodes) (length work) ≡ false
       → enter (stateOf c) (c .pool) work st ≡ record { state = stateOf c; pool = c .pool; work = work; answer = Refused Work }
   unfolding enter
   enter-short c work st e = ap (λ k. stepChecked k (stateOf c) (c .pool) work st) (check-short c work e)
 
   -- what a call leaves and tells, at once
-  abbrev called : Held → HostCall → Held × List Told
+  abbrev called : StateAndPool → HostCall → StateAndPool × List Told
   called h k = (afterCall h k, told h k)
 
-  abbrev toldOne : Step → Entered → Held × List Told
+  abbrev toldOne : Step → Entered → StateAndPool × List Told
   toldOne st e = (record { state = e .state; pool = e .pool }, cond (refusedWhole (answerWords (e .answer))) [] ((st, answerWords (e .answer)) ∷ []))
 
-  outside-long : (M : Machine) (c : Core) (st : Step) (work : List ℕ) → Follows M c → leb (c .head .nodes) (length work) ≡ true
-      → called (holding c) (outside st work) ≡ (holding (stepOn c st .core), (st, answer M st) ∷ [])
+  outside-long : (M : Machine) (c : Core) (st : Step) (work : List ℕ) → Follows M c → leb (c .head .numbers .nodes) (length work) ≡ true
+      → called (stateAndPool c) (outside st work) ≡ (stateAndPool (stepOn c st .core), (st, answer M st) ∷ [])
   outside-long M c st work f e =
       ap (toldOne st) (enter-long M c work st f e)
-      ∙ ap (λ b. (holding (stepOn c st .core), cond b [] ((st, answerWords (stepOn c st .answer)) ∷ []))) (step-not-whole c st)
-      ∙ ap (λ a. (holding (stepOn c st .core), (st, a) ∷ [])) (alike M c st f)
+      ∙ ap (λ b. (stateAndPool (stepOn c st .core), cond b [] ((st, answerWords (stepOn c st .answer)) ∷ []))) (step-not-whole c st)
+      ∙ ap (λ a. (stateAndPool (stepOn c st .core), (st, a) ∷ [])) (alike M c st f)
 
-  outside-short : (c : Core) (st : Step) (work : List ℕ) → leb (c .head .nodes) (length work) ≡ false → called (holding c) (outside st work) ≡ (holding c, [])
+  outside-short : (c : Core) (st : Step) (work : List ℕ) → leb (c .head .numbers .nodes) (length work) ≡ false → called (stateAndPool c) (outside st work) ≡ (stateAndPool c, [])
   outside-short c st work e = ap (toldOne st) (enter-short c work st e)
 
   -- with a long enough work slice the step is fed
-  pub outside-fed : (M : Machine) (c : Core) (st : Step) (work : List ℕ) → Follows M c → leb (c .head .nodes) (length work) ≡ true → told (holding c) (outside st work) ≡ (st, answer M st) ∷ []
+  pub outside-fed : (M : Machine) (c : Core) (st : Step) (work : List ℕ) → Follows M c → leb (c .head .numbers .nodes) (length work) ≡ true → told (stateAndPool c) (outside st work) ≡ (st, answer M st) ∷ []
   outside-fed M c st work f e = ap (λ p. p .1) (outside-long M c st work f e)
 
   -- ---- a tape's records
@@ -179,7 +179,7 @@ module _ (Follows : Machine → Core → Type 0)
   length-records zero bytes at = refl
   length-records (suc k) bytes at = ap suc (length-records k bytes (at + 8))
 
-  abbrev toldPlay : List ℕ → Played → Held × List Told
+  abbrev toldPlay : List ℕ → Played → StateAndPool × List Told
   toldPlay bytes p = (record { state = p .state; pool = p .pool }, toldIf (p .call) (toldFrom (p .answers) 0 (recordsOf bytes)))
 
   unfit-play : (c : Core) (bytes work as′ : List ℕ) → unfitTape bytes as′ ≡ true → play (stateOf c) (c .pool) work bytes as′ ≡ notPlayed (stateOf c) (c .pool) work as′ Tape
@@ -191,37 +191,37 @@ module _ (Follows : Machine → Core → Type 0)
   unfolding play
   fit-play c bytes work as′ e = rw e
 
-  play-unfit : (c : Core) (bytes work as′ : List ℕ) → unfitTape bytes as′ ≡ true → called (holding c) (tape bytes work as′) ≡ (holding c, [])
+  play-unfit : (c : Core) (bytes work as′ : List ℕ) → unfitTape bytes as′ ≡ true → called (stateAndPool c) (tape bytes work as′) ≡ (stateAndPool c, [])
   play-unfit c bytes work as′ e = ap (toldPlay bytes) (unfit-play c bytes work as′ e)
 
-  play-short : (c : Core) (bytes work as′ : List ℕ) → unfitTape bytes as′ ≡ false → leb (c .head .nodes) (length work) ≡ false → called (holding c) (tape bytes work as′) ≡ (holding c, [])
+  play-short : (c : Core) (bytes work as′ : List ℕ) → unfitTape bytes as′ ≡ false → leb (c .head .numbers .nodes) (length work) ≡ false → called (stateAndPool c) (tape bytes work as′) ≡ (stateAndPool c, [])
   play-short c bytes work as′ e s = ap (toldPlay bytes) (fit-play c bytes work as′ e ∙ ap (λ k. tapeChecked k (stateOf c) (c .pool) work bytes as′) (check-short c work s))
 
-  play-long : (M : Machine) (c : Core) (bytes work as′ : List ℕ) → Follows M c → unfitTape bytes as′ ≡ false → leb (c .head .nodes) (length work) ≡ true
-      → called (holding c) (tape bytes work as′)
-      ≡ (holding (runOn (ran c as′) 0 (recordsOf bytes) .core), toldFrom (runOn (ran c as′) 0 (recordsOf bytes) .answers) 0 (recordsOf bytes))
+  play-long : (M : Machine) (c : Core) (bytes work as′ : List ℕ) → Follows M c → unfitTape bytes as′ ≡ false → leb (c .head .numbers .nodes) (length work) ≡ true
+      → called (stateAndPool c) (tape bytes work as′)
+      ≡ (stateAndPool (runOn (ran c as′) 0 (recordsOf bytes) .core), toldFrom (runOn (ran c as′) 0 (recordsOf bytes) .answers) 0 (recordsOf bytes))
   play-long M c bytes work as′ f e s =
       ap (toldPlay bytes) (fit-play c bytes work as′ e ∙ ap (λ k. tapeChecked k (stateOf c) (c .pool) work bytes as′) (check-long M c work f s)
-      ∙ ap (λ q. played (runOn (ran q as′) 0 (recordsOf bytes)) (cleared (c .head .nodes) work)) (core-back c (tall M c f)))
+      ∙ ap (λ q. played (runOn (ran q as′) 0 (recordsOf bytes)) (cleared (c .head .numbers .nodes) work)) (core-back c (height-is M c f)))
 
   -- ---- a call, and calls
 
   -- h′ and ts are what a call leaves and tells
-  pub record Follows-call (M : Machine) (h : Held) (ts : List Told) : Type 0 where
+  pub record Follows-call (M : Machine) (h : StateAndPool) (ts : List Told) : Type 0 where
     pub kept : Kept h (run M (stepsTold ts))
     pub same : answersTold ts ≡ answers M (stepsTold ts)
 
-  still : (M : Machine) (c : Core) → Follows M c → Follows-call M (holding c) []
+  still : (M : Machine) (c : Core) → Follows M c → Follows-call M (stateAndPool c) []
   still M c f = record { kept = record { core = c; held = refl; follows = f }; same = refl }
 
-  call-at : (M : Machine) (c : Core) (k : HostCall) → Follows M c → Follows-call M (called (holding c) k .0) (called (holding c) k .1)
-  call-at M c (outside st work) f = elim (decided (leb (c .head .nodes) (length work))) [
+  call-at : (M : Machine) (c : Core) (k : HostCall) → Follows M c → Follows-call M (called (stateAndPool c) k .0) (called (stateAndPool c) k .1)
+  call-at M c (outside st work) f = elim (decided (leb (c .head .numbers .nodes) (length work))) [
     | inl e ↦ subst (λ p. Follows-call M (p .0) (p .1)) (sym (outside-long M c st work f e)) (record { kept = record { core = stepOn c st .core; held = refl; follows = keeps M c st f }; same = refl })
     | inr e ↦ subst (λ p. Follows-call M (p .0) (p .1)) (sym (outside-short c st work e)) (still M c f)
   ]
   call-at M c (tape bytes work as′) f = elim (decided (unfitTape bytes as′)) [
     | inl e ↦ subst (λ p. Follows-call M (p .0) (p .1)) (sym (play-unfit c bytes work as′ e)) (still M c f)
-    | inr e ↦ elim (decided (leb (c .head .nodes) (length work))) [
+    | inr e ↦ elim (decided (leb (c .head .numbers .nodes) (length work))) [
       | inl s ↦
           let room = ltb-false (length as′) (2 * (length bytes / 8)) (neither (not (eqb (length bytes % 8) 0)) (ltb (length as′) (2 * (length bytes / 8))) e .1) in
           let R = runs-from (recordsOf bytes) M c as′ 0 f (omega (arith, length-records (length bytes / 8) bytes 0)) in
@@ -236,10 +236,10 @@ module _ (Follows : Machine → Core → Type 0)
     ]
   ]
 
-  pub call-follows : (M : Machine) (h : Held) (k : HostCall) → Kept h M → Follows-call M (afterCall h k) (told h k)
+  pub call-follows : (M : Machine) (h : StateAndPool) (k : HostCall) → Kept h M → Follows-call M (afterCall h k) (told h k)
   call-follows M h k K = subst (λ q. Follows-call M (afterCall q k) (told q k)) (sym (K .held)) (call-at M (K .core) k (K .follows))
 
-  pub calls-follow : (cs : List HostCall) (M : Machine) (h : Held) → Kept h M → Follows-call M (afterCalls h cs) (allTold h cs)
+  pub calls-follow : (cs : List HostCall) (M : Machine) (h : StateAndPool) → Kept h M → Follows-call M (afterCalls h cs) (allTold h cs)
   calls-follow [] M h K = record { kept = K; same = refl }
   calls-follow (k ∷ cs) M h K =
       let A = call-follows M h k K in

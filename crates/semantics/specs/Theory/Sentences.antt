@@ -364,36 +364,36 @@ numbers-facts s ws e =
     let f = both (leb (treeNodes (s .splitters)) (s .nodes)) _ (d .1) in
     let g = both (leb (s .nodes) 16384) (leb (4 * s .nodes) (length ws)) (f .1) in
     record {
-      some-worker = leb-true 1 (s .workers) (a .0);
-      few-workers = leb-true (s .workers) 8 (b .0);
-      some-splitter = leb-true 1 (s .splitters) (c .0);
-      few-splitters = leb-true (s .splitters) 256 (d .0);
+      workers-positive = leb-true 1 (s .workers) (a .0);
+      workers-le = leb-true (s .workers) 8 (b .0);
+      splitters-positive = leb-true 1 (s .splitters) (c .0);
+      splitters-le = leb-true (s .splitters) 256 (d .0);
       enough = leb-true (treeNodes (s .splitters)) (s .nodes) (f .0);
-      few-nodes = leb-true (s .nodes) 16384 (g .0);
+      nodes-le = leb-true (s .nodes) 16384 (g .0);
       room = leb-true (4 * s .nodes) (length ws) (g .1);
     }
 
 pub facts-numbers : (s : Numbers) (ws : List ℕ) → NumbersFacts s ws → numbersSound s ws ≡ true
 unfolding numbersSound
 facts-numbers s ws F =
-    and-of (leb 1 (s .workers)) _ (le-leb 1 (s .workers) (F .some-worker))
-    (and-of (leb (s .workers) 8) _ (le-leb (s .workers) 8 (F .few-workers))
-    (and-of (leb 1 (s .splitters)) _ (le-leb 1 (s .splitters) (F .some-splitter))
-    (and-of (leb (s .splitters) 256) _ (le-leb (s .splitters) 256 (F .few-splitters))
+    and-of (leb 1 (s .workers)) _ (le-leb 1 (s .workers) (F .workers-positive))
+    (and-of (leb (s .workers) 8) _ (le-leb (s .workers) 8 (F .workers-le))
+    (and-of (leb 1 (s .splitters)) _ (le-leb 1 (s .splitters) (F .splitters-positive))
+    (and-of (leb (s .splitters) 256) _ (le-leb (s .splitters) 256 (F .splitters-le))
     (and-of (leb (treeNodes (s .splitters)) (s .nodes)) _ (le-leb (treeNodes (s .splitters)) (s .nodes) (F .enough))
-    (and-of (leb (s .nodes) 16384) (leb (4 * s .nodes) (length ws)) (le-leb (s .nodes) 16384 (F .few-nodes)) (le-leb (4 * s .nodes) (length ws) (F .room)))))))
+    (and-of (leb (s .nodes) 16384) (leb (4 * s .nodes) (length ws)) (le-leb (s .nodes) 16384 (F .nodes-le)) (le-leb (4 * s .nodes) (length ws) (F .room)))))))
 
 pub sound-facts : (s : Numbers) (ds fs ws : List ℕ) → sound s ds fs ws ≡ true → SoundFacts s ds fs ws
 unfolding sound
 sound-facts s ds fs ws e =
-    let P = poolSound (s .splitters) (s .nodes) ws (s .free) (liveRoots fs) in
-    let a = both (numbersSound s ws) (framesSound (s .workers) (s .vacant) ds fs && P) e in
-    let b = both (framesSound (s .workers) (s .vacant) ds fs) P (a .1) in
-    record { numbers = numbers-facts s ws (a .0); frames = frames-facts (s .workers) (s .vacant) ds fs (b .0); pool = b .1 }
+    let P = poolSound (s .splitters) (s .nodes) ws (s .«free_node») (liveRoots fs) in
+    let a = both (numbersSound s ws) (framesSound (s .workers) (s .«free_place») ds fs && P) e in
+    let b = both (framesSound (s .workers) (s .«free_place») ds fs) P (a .1) in
+    record { numbers = numbers-facts s ws (a .0); frames = frames-facts (s .workers) (s .«free_place») ds fs (b .0); pool = b .1 }
 
 pub facts-sound : (s : Numbers) (ds fs ws : List ℕ) → SoundFacts s ds fs ws → sound s ds fs ws ≡ true
 unfolding sound
 facts-sound s ds fs ws F =
-    let P = poolSound (s .splitters) (s .nodes) ws (s .free) (liveRoots fs) in
-    and-of (numbersSound s ws) (framesSound (s .workers) (s .vacant) ds fs && P) (facts-numbers s ws (F .numbers))
-    (and-of (framesSound (s .workers) (s .vacant) ds fs) P (facts-frames (s .workers) (s .vacant) ds fs (F .frames)) (F .pool))
+    let P = poolSound (s .splitters) (s .nodes) ws (s .«free_node») (liveRoots fs) in
+    and-of (numbersSound s ws) (framesSound (s .workers) (s .«free_place») ds fs && P) (facts-numbers s ws (F .numbers))
+    (and-of (framesSound (s .workers) (s .«free_place») ds fs) P (facts-frames (s .workers) (s .«free_place») ds fs (F .frames)) (F .pool))

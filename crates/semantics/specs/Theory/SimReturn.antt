@@ -31,7 +31,7 @@ use Rattle.model.specs.Theory.Effects.{Passes, acts, rest, live-at, live-with, 
 use Rattle.model.specs.Theory.FrameTree.{FrameTree, names-apart}
 use Rattle.model.specs.Theory.DequeShape.{disjoint-left, disjoint-apart, in-notNamed}
 use Rattle.semantics.specs.Answers.{answerWords}
-use Rattle.semantics.specs.Core.{Core, tableOf, ended}
+use Rattle.semantics.specs.Core.{Core, tableOf, returnOn}
 use Rattle.semantics.specs.Theory.Relation.{Trees, TreeLaws, parentPlace, childCount, placesOf, rootOf, Recorded, Relates}
 use Rattle.semantics.specs.Theory.Places.{childCount-perm, joined-at, childCount-test, in-named, named-none, named-one, recorded, recorded-as, recorded-kept, placed-inside, placed-taken, placed-apart, worker-few, acting-deque, acting-record}
 use Rattle.semantics.specs.Theory.EndedFrame.{returnedTable, Left, left-relates}
@@ -359,9 +359,9 @@ module _ {P : Trees} {M : Machine} {c : Core} (r : Relates P M c) (tree : FrameT
   whole : (k : ℕ) (p : Name) → q .name ≡ k ∷ p → q .name ≡ k ∷ parentName
   whole k p z = z ∙ ap (λ (n : Name). k ∷ n) (sym (ap tail z))
 
-  return-relates : TreeLaws (c .head .nodes) (M .splitters) P → (n : Name) → q .name ≡ n → Relates P (afterAction M w (q ∷ d) return) (ended c w .core)
+  return-relates : TreeLaws (c .head .numbers .nodes) (M .splitters) P → (n : Name) → q .name ≡ n → Relates P (afterAction M w (q ∷ d) return) (returnOn c w .core)
   return-relates laws [] z =
-      subst (λ (b : Bool). Relates P (cond b M₂ M₁) (ended c w .core)) (sym (ap (λ (m : Name). parentResumes M₁ m d) z))
+      subst (λ (b : Bool). Relates P (cond b M₂ M₁) (returnOn c w .core)) (sym (ap (λ (m : Name). parentResumes M₁ m d) z))
       (left-relates r w q d lt e (set (M .deques) w d) (M .suspended) (main-left z) laws)
   return-relates laws (k ∷ p) z =
       let g = parent-lives k p z in
@@ -376,13 +376,13 @@ module _ {P : Trees} {M : Machine} {c : Core} (r : Relates P M c) (tree : FrameT
   return-outcome [] z = ap returnedNumber (F z .outcome) ∙ sym (ap (λ (m : Name). returnOutcome M₁ m d) z)
   return-outcome (k ∷ p) z = let g = parent-lives k p z in child-outcome k (whole k p z) (g .0) (g .1) (g .2)
 
-  return-answer : answerWords (ended c w .answer) ≡ actionAnswer M w (q ∷ d) return
-  unfolding ended
+  return-answer : answerWords (returnOn c w .answer) ≡ actionAnswer M w (q ∷ d) return
+  unfolding returnOn
   return-answer = ap (λ (n : ℕ). (102, n)) (return-outcome (q .name) refl)
 
-pub sim-return : (P : Trees) (M : Machine) (c : Core) (w : ℕ) → TreeLaws (c .head .nodes) (M .splitters) P → FrameTree M → Passes M (acting w return) → Relates P M c
-    → Relates P (afterTurn M (acting w return)) (ended c w .core) × (answerWords (ended c w .answer) ≡ turnAnswer M (acting w return))
+pub sim-return : (P : Trees) (M : Machine) (c : Core) (w : ℕ) → TreeLaws (c .head .numbers .nodes) (M .splitters) P → FrameTree M → Passes M (acting w return) → Relates P M c
+    → Relates P (afterTurn M (acting w return)) (returnOn c w .core) × (answerWords (returnOn c w .answer) ≡ turnAnswer M (acting w return))
 sim-return P M c w laws tree h r =
     let x = acts M w return h in
-    subst (λ (z : List Frame). Relates P (afterAction M w z return) (ended c w .core) × (answerWords (ended c w .answer) ≡ actionAnswer M w z return)) (sym (x .at))
+    subst (λ (z : List Frame). Relates P (afterAction M w z return) (returnOn c w .core) × (answerWords (returnOn c w .answer) ≡ actionAnswer M w z return)) (sym (x .at))
     (return-relates r tree w (x .actor) (x .above) (x .worker) (x .at) laws (x .actor .name) refl, return-answer r tree w (x .actor) (x .above) (x .worker) (x .at))

@@ -30,7 +30,7 @@ use Rattle.model.specs.Theory.Children.{hasChild-In}
 use Rattle.model.specs.Theory.Effects.{Passes, acts, rest, live-at, live-with}
 use Rattle.model.specs.Theory.FrameTree.{Rooted, rooted-perm, FrameTree, names-apart}
 use Rattle.semantics.specs.Answers.{answerWords}
-use Rattle.semantics.specs.Core.{Core, tableOf, actingIn, spawned}
+use Rattle.semantics.specs.Core.{Core, tableOf, actingIn, spawnOn}
 use Rattle.semantics.specs.Theory.Relation.{Trees, TreeLaws, Kept, parentPlace, childCount, placesOf, rootOf, rootsOf, Recorded, Relates}
 use Rattle.semantics.specs.Theory.Places.{length-perm, count-perm, childCount-perm, map-cong, joined-at, PlacedOnce, not-head, place-left, childCount-le, childless-count, depth-few, recorded-as, recorded-kept, placed-inside, placed-taken, placed-apart, in-deque, treeOf, same-numbers, worker-few, acting-deque, acting-frame, acting-record}
 
@@ -231,21 +231,21 @@ module _ {P : Trees} {M : Machine} {c : Core} (r : Relates P M c) (tree : FrameT
   acting-root : actingIn c w .root ≡ rootOf (c .frames) (r .at) q
   acting-root = ap (λ (G : FrameWords). G .root) (acting-frame r w q d lt e)
 
-  module _ (laws : TreeLaws (c .head .nodes) (M .splitters) P) where
-    retained : P (retain (c .pool) (rootOf (c .frames) (r .at) q)) (c .head .free) (c .head .spare) (treeOf (c .frames) (r .at) q ∷ rootsOf (c .frames) (r .at) (q ∷ others))
+  module _ (laws : TreeLaws (c .head .numbers .nodes) (M .splitters) P) where
+    retained : P (retain (c .pool) (rootOf (c .frames) (r .at) q)) (c .head .numbers .«free_node») (c .head .«free_count») (treeOf (c .frames) (r .at) q ∷ rootsOf (c .frames) (r .at) (q ∷ others))
         × Kept (height (M .splitters)) (M .splitters) (c .pool) (retain (c .pool) (rootOf (c .frames) (r .at) q)) (rootsOf (c .frames) (r .at) (q ∷ others))
     retained =
-        laws .spawn (c .pool) (c .head .free) (c .head .spare) (treeOf (c .frames) (r .at) q) (rootsOf (c .frames) (r .at) others)
+        laws .spawn (c .pool) (c .head .numbers .«free_node») (c .head .«free_count») (treeOf (c .frames) (r .at) q) (rootsOf (c .frames) (r .at) others)
         (omega (arith, others-few, length-map others (treeOf (c .frames) (r .at))))
-        (laws .perm (c .pool) (c .head .free) (c .head .spare) (rootsOf (c .frames) (r .at) (live M)) (rootsOf (c .frames) (r .at) (q ∷ others))
+        (laws .perm (c .pool) (c .head .numbers .«free_node») (c .head .«free_count») (rootsOf (c .frames) (r .at) (live M)) (rootsOf (c .frames) (r .at) (q ∷ others))
         (Permᴰ·map (treeOf (c .frames) (r .at)) before) (r .trees))
 
-    trees-after : P (retain (c .pool) (actingIn c w .root)) (c .head .free) (c .head .spare) (rootsOf (t′ .frames) at′ (live M′))
+    trees-after : P (retain (c .pool) (actingIn c w .root)) (c .head .numbers .«free_node») (c .head .«free_count») (rootsOf (t′ .frames) at′ (live M′))
     trees-after =
         rw acting-root
-        (laws .perm (retain (c .pool) (rootOf (c .frames) (r .at) q)) (c .head .free) (c .head .spare)
+        (laws .perm (retain (c .pool) (rootOf (c .frames) (r .at) q)) (c .head .numbers .«free_node») (c .head .«free_count»)
         (rootsOf (t′ .frames) at′ (child q ∷ afterSpawn q ∷ others)) (rootsOf (t′ .frames) at′ (live M′)) (Permᴰ·map (treeOf (t′ .frames) at′) (Permᴰ·symm after))
-        (subst (P (retain (c .pool) (rootOf (c .frames) (r .at) q)) (c .head .free) (c .head .spare)) (sym roots) (retained .0)))
+        (subst (P (retain (c .pool) (rootOf (c .frames) (r .at) q)) (c .head .numbers .«free_node») (c .head .«free_count»)) (sym roots) (retained .0)))
 
     -- f has the tree and the values of h
     reads : (f h : Frame) → In h (q ∷ others) → rootOf (t′ .frames) at′ f ≡ rootOf (c .frames) (r .at) h → f .values ≡ h .values
@@ -263,12 +263,12 @@ module _ {P : Trees} {M : Machine} {c : Core} (r : Relates P M c) (tree : FrameT
           ]
         ]
 
-    spawn-relates : Relates P (afterAction M w (q ∷ d) spawn) (spawned c w .core)
-    unfolding spawned
+    spawn-relates : Relates P (afterAction M w (q ∷ d) spawn) (spawnOn c w .core)
+    unfolding spawnOn
     spawn-relates = record {
       at = at′;
       gs = hs;
-      numbers = same-numbers M c (spawned c w .core) (M′ .deques) (M .suspended) (length-set (M .deques) w (child q ∷ afterSpawn q ∷ d)) (r .numbers) refl refl refl refl;
+      numbers = same-numbers M c (spawnOn c w .core) (M′ .deques) (M .suspended) (length-set (M .deques) w (child q ∷ afterSpawn q ∷ d)) (r .numbers) refl refl refl refl;
       formed = S .after .formed;
       deques = deques-after;
       running = running-after;
@@ -279,16 +279,16 @@ module _ {P : Trees} {M : Machine} {c : Core} (r : Relates P M c) (tree : FrameT
       values = values-after;
     }
 
-  spawn-answer : answerWords (spawned c w .answer) ≡ actionAnswer M w (q ∷ d) spawn
-  unfolding spawned
+  spawn-answer : answerWords (spawnOn c w .answer) ≡ actionAnswer M w (q ∷ d) spawn
+  unfolding spawnOn
   spawn-answer = ap (λ (n : ℕ). (101, n)) (ap (λ (G : FrameWords). plus (G .depth) 1) (acting-frame r w q d lt e) ∙ child-depth)
 
-pub sim-spawn : (P : Trees) (M : Machine) (c : Core) (w : ℕ) → TreeLaws (c .head .nodes) (M .splitters) P → FrameTree M → Passes M (acting w spawn) → Relates P M c
-    → Relates P (afterTurn M (acting w spawn)) (spawned c w .core) × (answerWords (spawned c w .answer) ≡ turnAnswer M (acting w spawn))
+pub sim-spawn : (P : Trees) (M : Machine) (c : Core) (w : ℕ) → TreeLaws (c .head .numbers .nodes) (M .splitters) P → FrameTree M → Passes M (acting w spawn) → Relates P M c
+    → Relates P (afterTurn M (acting w spawn)) (spawnOn c w .core) × (answerWords (spawnOn c w .answer) ≡ turnAnswer M (acting w spawn))
 sim-spawn P M c w laws tree h r =
     let x = acts M w spawn h in
     let y = first-free (r .gs) (place-left (r .at) (r .gs) (live M) (r .once) (x .allowed)) in
-    subst (λ (z : List Frame). Relates P (afterAction M w z spawn) (spawned c w .core) × (answerWords (spawned c w .answer) ≡ actionAnswer M w z spawn)) (sym (x .at)) (
+    subst (λ (z : List Frame). Relates P (afterAction M w z spawn) (spawnOn c w .core) × (answerWords (spawnOn c w .answer) ≡ actionAnswer M w z spawn)) (sym (x .at)) (
       spawn-relates r tree w (x .actor) (x .above) (x .worker) (x .at) (x .allowed) (y .0) (y .1) (y .2) laws,
       spawn-answer r tree w (x .actor) (x .above) (x .worker) (x .at) (x .allowed) (y .0) (y .1) (y .2),
     )

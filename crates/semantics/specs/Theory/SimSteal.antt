@@ -20,10 +20,10 @@ use Rattle.model.specs.Steps.{stealing, afterSteal, afterTurn, turnAnswer, stol
 use Rattle.model.specs.Theory.Effects.{Passes, Steals, steals, belowTop-top, there-is-worker}
 use Rattle.model.specs.Theory.RunSteps.{sizes-turn}
 use Rattle.semantics.specs.Answers.{answerWords}
-use Rattle.semantics.specs.Core.{Core, tableOf, robbed}
+use Rattle.semantics.specs.Core.{Core, tableOf, stealOn}
 use Rattle.semantics.specs.Theory.Relation.{Trees, TreeLaws, placesOf, Recorded, Relates}
 use Rattle.semantics.specs.Theory.Places.{count-perm, childCount-perm, in-deque, recorded-kept, same-numbers}
-use Rattle.semantics.specs.Theory.RelationFacts.{trees-perm, in-set, lists-with, few-workers}
+use Rattle.semantics.specs.Theory.RelationFacts.{trees-perm, in-set, lists-with, workers-le}
 
 -- ---- a list's last element
 
@@ -52,12 +52,12 @@ module _ (P : Trees) (M : Machine) (c : Core) (w v : ℕ) (s : Steals M w v) (r 
   victim = there-is-worker M v (omega (arith, s .two))
 
   victim-list : dequeList (c .deques) v ≡ placesOf (r .at) (deque M v)
-  victim-list = r .deques v (few-workers r victim)
+  victim-list = r .deques v (workers-le r victim)
 
   moved : Stolen (tableOf c) (steal (tableOf c) w v) w v (r .gs)
   moved =
-      steal-does (tableOf c) w v (r .gs) (r .formed) (few-workers r (s .worker)) (few-workers r victim)
-      (r .deques w (few-workers r (s .worker)) ∙ ap (placesOf (r .at)) (s .idle))
+      steal-does (tableOf c) w v (r .gs) (r .formed) (workers-le r (s .worker)) (workers-le r victim)
+      (r .deques w (workers-le r (s .worker)) ∙ ap (placesOf (r .at)) (s .idle))
       (omega (arith, s .two, ap length victim-list, length-map (deque M v) (λ (f : Frame). r .at (f .name))))
 
   lists : (u : ℕ) → u < 8 → dequeList (steal (tableOf c) w v .deques) u ≡ placesOf (r .at) (deque next u)
@@ -79,12 +79,12 @@ module _ (P : Trees) (M : Machine) (c : Core) (w v : ℕ) (s : Steals M w v) (r 
   stays : (u : ℕ) (f : Frame) → Recorded (c .frames) (r .at) (live M) u f → Recorded (c .frames) (r .at) (live next) u f
   stays u f k = recorded-kept (c .frames) (c .frames) (r .at) (r .at) (live M) (live next) u f refl refl refl (sym (childCount-perm (f .name) (s .same-frames))) k
 
-  related : TreeLaws (c .head .nodes) (M .splitters) P → Relates P next (robbed c w v .core)
-  unfolding robbed
+  related : TreeLaws (c .head .numbers .nodes) (M .splitters) P → Relates P next (stealOn c w v .core)
+  unfolding stealOn
   related laws = record {
     at = r .at;
     gs = r .gs;
-    numbers = same-numbers M c (robbed c w v .core) (next .deques) (M .suspended) (sizes-turn M (stealing w v) .workers) (r .numbers) refl refl refl refl;
+    numbers = same-numbers M c (stealOn c w v .core) (next .deques) (M .suspended) (sizes-turn M (stealing w v) .workers) (r .numbers) refl refl refl refl;
     formed = record { shaped = moved .formed .shaped; long = r .formed .long; places = r .formed .places };
     deques = lists;
     running = λ f m. stays 0 f (r .running f (still-runs f m));
@@ -107,7 +107,7 @@ module _ (P : Trees) (M : Machine) (c : Core) (w v : ℕ) (s : Steals M w v) (r 
       ap (λ (p : ℕ). frameAt (c .frames) p .depth) (head-eq-of-cons-eq (top-list ∙ ap (placesOf (r .at)) z))
       ∙ r .running f (in-deque (M .deques) v (in-top (deque M v) (subst (λ (y : List Frame). In f y) (sym z) (here refl)))) .depth
 
-pub sim-steal : (P : Trees) (M : Machine) (c : Core) (w v : ℕ) → TreeLaws (c .head .nodes) (M .splitters) P → Passes M (stealing w v) → Relates P M c
-    → Relates P (afterTurn M (stealing w v)) (robbed c w v .core) × (answerWords (robbed c w v .answer) ≡ turnAnswer M (stealing w v))
-unfolding robbed
+pub sim-steal : (P : Trees) (M : Machine) (c : Core) (w v : ℕ) → TreeLaws (c .head .numbers .nodes) (M .splitters) P → Passes M (stealing w v) → Relates P M c
+    → Relates P (afterTurn M (stealing w v)) (stealOn c w v .core) × (answerWords (stealOn c w v .answer) ≡ turnAnswer M (stealing w v))
+unfolding stealOn
 sim-steal P M c w v laws h r = let s = steals M w v h in (related P M c w v s r laws, ap (λ (z : ℕ). (103, z)) (top-depth P M c w v s r (top (deque M v)) refl))

@@ -19,14 +19,14 @@ use Rattle.model.specs.Machine.{Frame, Machine, live, deque, hasChild}
 use Rattle.model.specs.Steps.{sync, acting, suspend, afterTurn, turnAnswer}
 use Rattle.model.specs.Theory.Effects.{Passes, acts, rest, live-at, live-with}
 use Rattle.semantics.specs.Answers.{answerWords}
-use Rattle.semantics.specs.Core.{Core, tableOf, waited}
+use Rattle.semantics.specs.Core.{Core, tableOf, syncOn}
 use Rattle.semantics.specs.Theory.Relation.{Trees, TreeLaws, placesOf, rootOf, Recorded, Relates}
 use Rattle.semantics.specs.Theory.Places.{childless-count, placed-taken, same-numbers, acting-deque, acting-record}
-use Rattle.semantics.specs.Theory.RelationFacts.{trees-perm, in-rest, lists-with, parent-count, few-workers, bottom-lives, above-runs}
+use Rattle.semantics.specs.Theory.RelationFacts.{trees-perm, in-rest, lists-with, parent-count, workers-le, bottom-lives, above-runs}
 use Rattle.semantics.specs.Theory.Stored.{Carried, carried}
 
 -- a sync takes and frees no place
-sync-free : (t : Table) (w : ℕ) → syncTable t w .free ≡ t .free
+sync-free : (t : Table) (w : ℕ) → syncTable t w .«free_place» ≡ t .«free_place»
 unfolding syncTable
 sync-free t w = elim (decided (eqb (actingFrame t w .outstanding) 0)) [ inl e ↦ rw e | inr e ↦ rw e ]
 
@@ -43,7 +43,7 @@ module _ (P : Trees) (M : Machine) (c : Core) (w : ℕ) (q : Frame) (d : List Fr
 
     waiting : Waits (tableOf c) table w (r .at (q .name)) (placesOf (r .at) d) (r .gs)
     waiting =
-        waits (tableOf c) w (r .at (q .name)) (placesOf (r .at) d) (r .gs) (r .formed) (few-workers r lt) (acting-deque r w q d lt e) (own .inside)
+        waits (tableOf c) w (r .at (q .name)) (placesOf (r .at) d) (r .gs) (r .formed) (workers-le r lt) (acting-deque r w q d lt e) (own .inside)
         (placed-taken r q (bottom-lives r w q d e)) (λ z. parent-count (q .name) (live M) h (sym (own .outstanding) ∙ z))
 
     abbrev others : List Frame
@@ -65,12 +65,12 @@ module _ (P : Trees) (M : Machine) (c : Core) (w : ℕ) (q : Frame) (d : List Fr
       | inr i ↦ carries .other-root f i
     ]
 
-    suspended : TreeLaws (c .head .nodes) (M .splitters) P → Relates P next (waited c w .core)
-    unfolding waited
+    suspended : TreeLaws (c .head .numbers .nodes) (M .splitters) P → Relates P next (syncOn c w .core)
+    unfolding syncOn
     suspended laws = record {
       at = r .at;
       gs = r .gs;
-      numbers = same-numbers M c (waited c w .core) (next .deques) (next .suspended) (length-set (M .deques) w d) (r .numbers) refl refl refl refl;
+      numbers = same-numbers M c (syncOn c w .core) (next .deques) (next .suspended) (length-set (M .deques) w d) (r .numbers) refl refl refl refl;
       formed = record {
         shaped = waiting .after .formed .shaped;
         long = waiting .after .formed .long;
@@ -94,9 +94,9 @@ module _ (P : Trees) (M : Machine) (c : Core) (w : ℕ) (q : Frame) (d : List Fr
   passed : hasChild (q .name) (live M) ≡ false → (syncTable (tableOf c) w ≡ tableOf c) × (synced (tableOf c) w ≡ Passed)
   passed h = passes (tableOf c) w (r .at (q .name)) (placesOf (r .at) d) (acting-deque r w q d lt e) (own .outstanding ∙ childless-count (q .name) (live M) h)
 
-pub sim-sync : (P : Trees) (M : Machine) (c : Core) (w : ℕ) → TreeLaws (c .head .nodes) (M .splitters) P → Passes M (acting w sync) → Relates P M c
-    → Relates P (afterTurn M (acting w sync)) (waited c w .core) × (answerWords (waited c w .answer) ≡ turnAnswer M (acting w sync))
-unfolding waited
+pub sim-sync : (P : Trees) (M : Machine) (c : Core) (w : ℕ) → TreeLaws (c .head .numbers .nodes) (M .splitters) P → Passes M (acting w sync) → Relates P M c
+    → Relates P (afterTurn M (acting w sync)) (syncOn c w .core) × (answerWords (syncOn c w .answer) ≡ turnAnswer M (acting w sync))
+unfolding syncOn
 sim-sync P M c w laws pass r =
     let a = acts M w sync pass in
     let q = a .actor in

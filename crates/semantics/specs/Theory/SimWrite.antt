@@ -26,7 +26,7 @@ use Rattle.model.specs.Theory.Bounds.{Bounded}
 use Rattle.semantics.specs.declared.Answer.the-variants.{Accepted}
 use Rattle.semantics.specs.declared.Done.the-variants.{Written}
 use Rattle.semantics.specs.Answers.{answerWords}
-use Rattle.semantics.specs.Core.{Core, Did, did, withFree, wrote}
+use Rattle.semantics.specs.Core.{Core, StepResult, stepResult, withFree, writeOn}
 use Rattle.semantics.specs.Theory.Relation.{Trees, Kept, Fresh, event, TreeLaws, rootOf, rootsOf, Recorded, Relates}
 use Rattle.semantics.specs.Theory.Places.{length-perm, placed-inside, placed-taken, treeOf, same-numbers, acting-deque, acting-place, acting-record}
 use Rattle.semantics.specs.Theory.RelationFacts.{trees-perm, in-rest, lists-with, bottom-lives, above-runs}
@@ -38,20 +38,20 @@ module _ (P : Trees) (M : Machine) (c : Core) (w x v : ℕ) (q : Frame) (d : Lis
 
   -- the new pool, first free node and number of free nodes
   abbrev after : List ℕ × ℕ × ℕ
-  after = path (height (M .splitters)) (c .pool) (c .head .free) (c .head .spare) root x v
+  after = path (height (M .splitters)) (c .pool) (c .head .numbers .«free_node») (c .head .«free_count») root x v
 
   abbrev new-record : Words
-  new-record = withRoot (frameAt (c .frames) (r .at (q .name))) (c .head .free)
+  new-record = withRoot (frameAt (c .frames) (r .at (q .name))) (c .head .numbers .«free_node»)
 
   abbrev new-frames : List ℕ
   new-frames = setFrame (c .frames) (r .at (q .name)) new-record
 
-  abbrev new-did : Did
-  new-did = did (withFree (c .head) (after .1) (after .2)) (c .deques) new-frames (after .0) (Accepted (Written (after .2)))
+  abbrev new-did : StepResult
+  new-did = stepResult (withFree (c .head) (after .1) (after .2)) (c .deques) new-frames (after .0) (Accepted (Written (after .2)))
 
-  wrote-is : wrote c w x v ≡ new-did
-  unfolding wrote
-  wrote-is = rw (acting-place r w q d lt e, r .numbers .tall)
+  wrote-is : writeOn c w x v ≡ new-did
+  unfolding writeOn
+  wrote-is = rw (acting-place r w q d lt e, r .numbers .height-is)
 
   abbrev others : List Frame
   others = d ++ rest M w
@@ -70,9 +70,9 @@ module _ (P : Trees) (M : Machine) (c : Core) (w x v : ℕ) (q : Frame) (d : Lis
 
   -- ---- the record
 
-  carries : Carried r next new-frames q (written q x v) others (new-record .suspended) (c .head .free)
+  carries : Carried r next new-frames q (written q x v) others (new-record .suspended) (c .head .numbers .«free_node»)
   carries =
-      carried r next new-frames q (written q x v) others (new-record .suspended) (c .head .free) refl before afterwards
+      carried r next new-frames q (written q x v) others (new-record .suspended) (c .head .numbers .«free_node») refl before afterwards
       (frame-set-same (c .frames) (r .at (q .name)) new-record (r .formed .long) (placed-inside r q q-lives))
       (λ p n. frame-set-other (c .frames) (r .at (q .name)) p new-record n)
 
@@ -88,16 +88,16 @@ module _ (P : Trees) (M : Machine) (c : Core) (w x v : ℕ) (q : Frame) (d : Lis
       let o = Memᴰ·of-map (treeOf (c .frames) (r .at)) (q ∷ others) m in
       mark-fresh (live M) marks q (o .0) q-lives (In-perm (Permᴰ·symm before) (o .1)) v (subst (λ (z : ℕ × History). In v (z .1)) (sym (o .2)) mv)
 
-  module _ (laws : TreeLaws (c .head .nodes) (M .splitters) P) (marks : MarkInvariant (live M)) (bounds : Bounded (M .splitters) (live M)) (below : x < M .splitters)
-      (room : height (M .splitters) < c .head .spare) where
+  module _ (laws : TreeLaws (c .head .numbers .nodes) (M .splitters) P) (marks : MarkInvariant (live M)) (bounds : Bounded (M .splitters) (live M)) (below : x < M .splitters)
+      (room : height (M .splitters) < c .head .«free_count») where
     few : length (rootsOf (c .frames) (r .at) others) < 64
     few = omega (arith, length-map others (treeOf (c .frames) (r .at)), length-perm before, bounds .0)
 
-    law : P (after .0) (after .1) (after .2) ((c .head .free, event x (length (q .history) ∷ q .name) ∷ q .history) ∷ rootsOf (c .frames) (r .at) others)
+    law : P (after .0) (after .1) (after .2) ((c .head .numbers .«free_node», event x (length (q .history) ∷ q .name) ∷ q .history) ∷ rootsOf (c .frames) (r .at) others)
         × Kept (height (M .splitters)) (M .splitters) (c .pool) (after .0) (rootsOf (c .frames) (r .at) others)
-        × (readAt (height (M .splitters)) (after .0) (c .head .free) x ≡ v)
-        × ((y : ℕ) → y < M .splitters → y ≢ x → readAt (height (M .splitters)) (after .0) (c .head .free) y ≡ readAt (height (M .splitters)) (c .pool) root y)
-    law = laws .write (c .pool) (c .head .free) (c .head .spare) root (q .history) (rootsOf (c .frames) (r .at) others) x v (length (q .history) ∷ q .name) few below room
+        × (readAt (height (M .splitters)) (after .0) (c .head .numbers .«free_node») x ≡ v)
+        × ((y : ℕ) → y < M .splitters → y ≢ x → readAt (height (M .splitters)) (after .0) (c .head .numbers .«free_node») y ≡ readAt (height (M .splitters)) (c .pool) root y)
+    law = laws .write (c .pool) (c .head .numbers .«free_node») (c .head .«free_count») root (q .history) (rootsOf (c .frames) (r .at) others) x v (length (q .history) ∷ q .name) few below room
         cons≢nil (fresh marks) (trees-perm (c .frames) (r .at) laws before (r .trees))
 
     -- ---- what each frame reads
@@ -122,7 +122,7 @@ module _ (P : Trees) (M : Machine) (c : Core) (w x v : ℕ) (q : Frame) (d : Lis
       formed = record {
         shaped = r .formed .shaped;
         long = length-setFrame (c .frames) (r .at (q .name)) new-record ∙ r .formed .long;
-        places = free-elsewhere (c .frames) (c .head .vacant) (r .at (q .name)) (r .gs) (placed-taken r q q-lives) (r .formed .places) new-record;
+        places = free-elsewhere (c .frames) (c .head .numbers .«free_place») (r .at (q .name)) (r .gs) (placed-taken r q q-lives) (r .formed .places) new-record;
       };
       deques = lists-with (r .at) (c .deques) (M .deques) w (written q x v ∷ d) lt (acting-deque r w q d lt e) (λ u h n. r .deques u h);
       running = λ f m. elim (In-cases (written q x v ∷ d) (In-perm (joined-set (M .deques) w (written q x v ∷ d) lt) m)) [
@@ -142,11 +142,11 @@ module _ (P : Trees) (M : Machine) (c : Core) (w x v : ℕ) (q : Frame) (d : Lis
       ];
     }
 
-pub sim-write : (P : Trees) (M : Machine) (c : Core) (w x v : ℕ) → TreeLaws (c .head .nodes) (M .splitters) P → MarkInvariant (live M) → Bounded (M .splitters) (live M)
-    → c .head .spare ≡ freeNodes M → Passes M (acting w (write x v)) → Relates P M c
-    → Relates P (afterTurn M (acting w (write x v))) (wrote c w x v .core) × (answerWords (wrote c w x v .answer) ≡ (106, wrote c w x v .core .head .spare))
+pub sim-write : (P : Trees) (M : Machine) (c : Core) (w x v : ℕ) → TreeLaws (c .head .numbers .nodes) (M .splitters) P → MarkInvariant (live M) → Bounded (M .splitters) (live M)
+    → c .head .«free_count» ≡ freeNodes M → Passes M (acting w (write x v)) → Relates P M c
+    → Relates P (afterTurn M (acting w (write x v))) (writeOn c w x v .core) × (answerWords (writeOn c w x v .answer) ≡ (106, writeOn c w x v .core .head .«free_count»))
 sim-write P M c w x v laws marks bounds spare h r =
     let a = acts M w (write x v) h in
-    let room : height (M .splitters) < c .head .spare = omega (arith, spare, a .allowed .1) in
+    let room : height (M .splitters) < c .head .«free_count» = omega (arith, spare, a .allowed .1) in
     rw (a .at, wrote-is P M c w x v (a .actor) (a .above) (a .worker) (a .at) r)
     (related P M c w x v (a .actor) (a .above) (a .worker) (a .at) r laws marks bounds (a .allowed .0) room, refl)

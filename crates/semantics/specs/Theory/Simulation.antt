@@ -18,7 +18,7 @@ use Rattle.model.specs.Theory.FreshMarks.{MarkInvariant}
 use Rattle.model.specs.Theory.Bounds.{Bounded}
 use Rattle.semantics.specs.declared.Refusal.{Refusal}
 use Rattle.semantics.specs.Answers.{answerWords}
-use Rattle.semantics.specs.Core.{Core, Did, judged, spawned, ended, robbed, waited, valued, wrote, stepOn, doneBy, testsOf}
+use Rattle.semantics.specs.Core.{Core, StepResult, judged, spawnOn, returnOn, stealOn, syncOn, readOn, writeOn, stepOn, doneBy, testsOf}
 use Rattle.semantics.specs.Theory.Relation.{Trees, TreeLaws, Relates}
 use Rattle.semantics.specs.Theory.SimSpawn.{sim-spawn}
 use Rattle.semantics.specs.Theory.SimReturn.{sim-return}
@@ -31,13 +31,13 @@ use Rattle.semantics.specs.Theory.Refusals.{step-judged, refused-alike}
 -- ---- what no step changes
 
 pub record NumbersKept (c c′ : Core) : Type 0 where
-  pub workers : c′ .head .workers ≡ c .head .workers
-  pub splitters : c′ .head .splitters ≡ c .head .splitters
-  pub nodes : c′ .head .nodes ≡ c .head .nodes
+  pub workers : c′ .head .numbers .workers ≡ c .head .numbers .workers
+  pub splitters : c′ .head .numbers .splitters ≡ c .head .numbers .splitters
+  pub nodes : c′ .head .numbers .nodes ≡ c .head .numbers .nodes
   pub height : c′ .head .height ≡ c .head .height
 
 done-kept : (c : Core) (st : Step) → NumbersKept c (doneBy c st .core)
-unfolding spawned ended robbed waited valued wrote
+unfolding spawnOn returnOn stealOn syncOn readOn writeOn
 done-kept c (Spawn w) = record { workers = refl; splitters = refl; nodes = refl; height = refl }
 done-kept c (Return w) = record { workers = refl; splitters = refl; nodes = refl; height = refl }
 done-kept c (Steal w v) = record { workers = refl; splitters = refl; nodes = refl; height = refl }
@@ -45,7 +45,7 @@ done-kept c (Sync w) = record { workers = refl; splitters = refl; nodes = refl; 
 done-kept c (Read w x) = record { workers = refl; splitters = refl; nodes = refl; height = refl }
 done-kept c (Write w x v) = record { workers = refl; splitters = refl; nodes = refl; height = refl }
 
-judged-kept : (ts : List (Bool × Refusal)) (c : Core) (d : Did) → NumbersKept c (d .core) → NumbersKept c (judged ts c d .core)
+judged-kept : (ts : List (Bool × Refusal)) (c : Core) (d : StepResult) → NumbersKept c (d .core) → NumbersKept c (judged ts c d .core)
 judged-kept [] c d k = k
 judged-kept (t ∷ ts) c d k = elim (decided (t .0)) [
   | inl s ↦ rw s (record { workers = refl; splitters = refl; nodes = refl; height = refl })
@@ -61,9 +61,9 @@ numbers-kept c st = rw (step-judged c st) (judged-kept (testsOf c st) c (doneBy 
 pub record SameAnswers (M : Machine) (c : Core) (st : Step) : Type 0 where
   pub first : answerWords (stepOn c st .answer) .0 ≡ answer M st .0
   -- so both are, once the engine's number of free nodes is the plain machine's
-  pub both : stepOn c st .core .head .spare ≡ freeNodes (step M st) → answerWords (stepOn c st .answer) ≡ answer M st
+  pub both : stepOn c st .core .head .«free_count» ≡ freeNodes (step M st) → answerWords (stepOn c st .answer) ≡ answer M st
   pub unless-written : (answerWords (stepOn c st .answer) ≡ answer M st)
-      ⊎ ((w : ℕ) × (x : ℕ) × (v : ℕ) × (st ≡ Write w x v) × (refusal M st ≡ 0) × (answerWords (stepOn c st .answer) ≡ (106, stepOn c st .core .head .spare)))
+      ⊎ ((w : ℕ) × (x : ℕ) × (v : ℕ) × (st ≡ Write w x v) × (refusal M st ≡ 0) × (answerWords (stepOn c st .answer) ≡ (106, stepOn c st .core .head .«free_count»)))
 
 pub record Simulates (P : Trees) (M : Machine) (c : Core) (st : Step) : Type 0 where
   pub related : Relates P (step M st) (stepOn c st .core)
@@ -75,8 +75,8 @@ SimulatesTurn P M c st = Relates P (afterTurn M (turnOf st)) (doneBy c st .core)
 same-answers : (M : Machine) (c : Core) (st : Step) → answerWords (stepOn c st .answer) ≡ answer M st → SameAnswers M c st
 same-answers M c st e = record { first = ap (λ (z : ℕ × ℕ). z .0) e; both = λ k. e; unless-written = inl e }
 
-module _ (P : Trees) (M : Machine) (c : Core) (r : Relates P M c) (laws : TreeLaws (c .head .nodes) (M .splitters) P) (tree : FrameTree M) (shape : DequeInvariant M)
-    (marks : MarkInvariant (live M)) (bounds : Bounded (M .splitters) (live M)) (spare : c .head .spare ≡ freeNodes M) where
+module _ (P : Trees) (M : Machine) (c : Core) (r : Relates P M c) (laws : TreeLaws (c .head .numbers .nodes) (M .splitters) P) (tree : FrameTree M) (shape : DequeInvariant M)
+    (marks : MarkInvariant (live M)) (bounds : Bounded (M .splitters) (live M)) (spare : c .head .«free_count» ≡ freeNodes M) where
   -- an accepted step but a write
   simulated : (st : Step) → Accepted M st → stepOn c st ≡ doneBy c st → SimulatesTurn P M c st → Simulates P M c st
   simulated st a e s = record {
@@ -87,12 +87,12 @@ module _ (P : Trees) (M : Machine) (c : Core) (r : Relates P M c) (laws : TreeLa
   write-answer : (w x v : ℕ) → Passes M (acting w (write x v)) → turnAnswer M (acting w (write x v)) ≡ (106, freeNodes (afterTurn M (acting w (write x v))))
   write-answer w x v h = rw (acts M w (write x v) h .at)
 
-  written : (w x v : ℕ) → Accepted M (Write w x v) → stepOn c (Write w x v) ≡ wrote c w x v → Simulates P M c (Write w x v)
+  written : (w x v : ℕ) → Accepted M (Write w x v) → stepOn c (Write w x v) ≡ writeOn c w x v → Simulates P M c (Write w x v)
   written w x v a e =
       let s = sim-write P M c w x v laws marks bounds spare (a .passes) r in
       let told : answer M (Write w x v) ≡ (106, freeNodes (step M (Write w x v))) =
       a .answered ∙ write-answer w x v (a .passes) ∙ ap (λ (N : Machine). (106, freeNodes N)) (sym (a .after)) in
-      let own : answerWords (stepOn c (Write w x v) .answer) ≡ (106, stepOn c (Write w x v) .core .head .spare) = rw e (s .1) in
+      let own : answerWords (stepOn c (Write w x v) .answer) ≡ (106, stepOn c (Write w x v) .core .head .«free_count») = rw e (s .1) in
       record {
         related = rw (a .after, e) (s .0);
         answers = record {

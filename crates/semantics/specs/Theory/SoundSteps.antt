@@ -21,7 +21,7 @@ use Rattle.model.specs.Theory.FrameTree.{FrameTree, tree-turn}
 use Rattle.model.specs.Theory.DequeShape.{DequeInvariant}
 use Rattle.model.specs.Theory.Deques.{deques-turn}
 use Rattle.semantics.specs.declared.State.{State}
-use Rattle.semantics.specs.Core.{Core, actingIn, spawned, ended, robbed, waited, valued, wrote, stepOn, doneBy}
+use Rattle.semantics.specs.Core.{Core, actingIn, spawnOn, returnOn, stealOn, syncOn, readOn, writeOn, stepOn, doneBy}
 use Rattle.semantics.specs.Entries.{numbersOf, coreOf, stateOf}
 use Rattle.semantics.specs.Demands.{plainOf, stepOf, SoundStep}
 use Rattle.semantics.specs.Theory.Relation.{Relates, rootOf, rootsOf}
@@ -33,12 +33,12 @@ use Rattle.semantics.specs.Theory.Simulation.{Simulates, simulates, numb
 use Rattle.semantics.specs.Theory.ToSound.{to-sound}
 use Rattle.semantics.specs.Theory.FromSoundRelates.{from-sound}
 
-module _ (M : Machine) (c : Core) (r : Relates (LiveTrees (c .head .nodes) (M .splitters)) M c) (tree : FrameTree M) (shape : DequeInvariant M) (spare : c .head .spare ≡ freeNodes M) where
+module _ (M : Machine) (c : Core) (r : Relates (LiveTrees (c .head .numbers .nodes) (M .splitters)) M c) (tree : FrameTree M) (shape : DequeInvariant M) (spare : c .head .«free_count» ≡ freeNodes M) where
   -- ---- the words beyond the nodes
 
   -- the trees with the acting frame's in front
-  front-trees : (a : Action) (w : ℕ) (x : Acts M w a) → LiveTrees (c .head .nodes) (M .splitters) (c .pool) (c .head .free) (c .head .spare) (rootsOf (c .frames) (r .at) (x .actor ∷ (x .above ++ rest M w)))
-  front-trees a w x = trees-perm (c .frames) (r .at) (live-laws (c .head .nodes) (M .splitters) (r .numbers .few-nodes) (r .numbers .some-splitter)) (x .before) (r .trees)
+  front-trees : (a : Action) (w : ℕ) (x : Acts M w a) → LiveTrees (c .head .numbers .nodes) (M .splitters) (c .pool) (c .head .numbers .«free_node») (c .head .«free_count») (rootsOf (c .frames) (r .at) (x .actor ∷ (x .above ++ rest M w)))
+  front-trees a w x = trees-perm (c .frames) (r .at) (live-laws (c .head .numbers .nodes) (M .splitters) (r .numbers .nodes-le) (r .numbers .splitters-positive)) (x .before) (r .trees)
 
   root-is : (a : Action) (w : ℕ) (x : Acts M w a) → actingIn c w .root ≡ rootOf (c .frames) (r .at) (x .actor)
   root-is a w x = ap (λ f. f .root) (acting-frame r w (x .actor) (x .above) (x .worker) (x .at))
@@ -46,27 +46,27 @@ module _ (M : Machine) (c : Core) (r : Relates (LiveTrees (c .head .nodes) (M .s
   few : (a : Action) (w : ℕ) (x : Acts M w a) → length (rootsOf (c .frames) (r .at) (x .above ++ rest M w)) < 64
   few a w x = omega (arith, length-map (x .above ++ rest M w) (treeOf (c .frames) (r .at)), length-perm (x .before), live-few r)
 
-  done-beyond : (st : Step) → Passes M (turnOf st) → Beyond (c .head .nodes) (c .pool) (doneBy c st .core .pool)
-  unfolding spawned ended robbed waited valued wrote
+  done-beyond : (st : Step) → Passes M (turnOf st) → Beyond (c .head .numbers .nodes) (c .pool) (doneBy c st .core .pool)
+  unfolding spawnOn returnOn stealOn syncOn readOn writeOn
   done-beyond (Spawn w) h =
       let x = acts M w spawn h in
-      subst (λ (z : ℕ). Beyond (c .head .nodes) (c .pool) (retain (c .pool) z)) (sym (root-is spawn w x))
-      (spawn-beyond (c .head .nodes) (M .splitters) (r .numbers .few-nodes) (r .numbers .some-splitter) (c .pool) (c .head .free) (c .head .spare) (treeOf (c .frames) (r .at) (x .actor))
+      subst (λ (z : ℕ). Beyond (c .head .numbers .nodes) (c .pool) (retain (c .pool) z)) (sym (root-is spawn w x))
+      (spawn-beyond (c .head .numbers .nodes) (M .splitters) (r .numbers .nodes-le) (r .numbers .splitters-positive) (c .pool) (c .head .numbers .«free_node») (c .head .«free_count») (treeOf (c .frames) (r .at) (x .actor))
       (rootsOf (c .frames) (r .at) (x .above ++ rest M w)) (few spawn w x) (front-trees spawn w x))
   done-beyond (Return w) h =
       let x = acts M w return h in
-      subst (λ (z : ℕ). Beyond (c .head .nodes) (c .pool) (release (c .head .height) (c .pool) (c .head .free) (c .head .spare) z .0)) (sym (root-is return w x))
-      (subst (λ (t : ℕ). Beyond (c .head .nodes) (c .pool) (release t (c .pool) (c .head .free) (c .head .spare) (rootOf (c .frames) (r .at) (x .actor)) .0)) (sym (r .numbers .tall))
-      (return-beyond (c .head .nodes) (M .splitters) (r .numbers .few-nodes) (r .numbers .some-splitter) (c .pool) (c .head .free) (c .head .spare) (treeOf (c .frames) (r .at) (x .actor))
+      subst (λ (z : ℕ). Beyond (c .head .numbers .nodes) (c .pool) (release (c .head .height) (c .pool) (c .head .numbers .«free_node») (c .head .«free_count») z .0)) (sym (root-is return w x))
+      (subst (λ (t : ℕ). Beyond (c .head .numbers .nodes) (c .pool) (release t (c .pool) (c .head .numbers .«free_node») (c .head .«free_count») (rootOf (c .frames) (r .at) (x .actor)) .0)) (sym (r .numbers .height-is))
+      (return-beyond (c .head .numbers .nodes) (M .splitters) (r .numbers .nodes-le) (r .numbers .splitters-positive) (c .pool) (c .head .numbers .«free_node») (c .head .«free_count») (treeOf (c .frames) (r .at) (x .actor))
       (rootsOf (c .frames) (r .at) (x .above ++ rest M w)) (front-trees return w x)))
   done-beyond (Steal w v) h = (refl, refl)
   done-beyond (Sync w) h = (refl, refl)
   done-beyond (Read w x) h = (refl, refl)
   done-beyond (Write w y v) h =
       let x = acts M w (write y v) h in
-      subst (λ (z : ℕ). Beyond (c .head .nodes) (c .pool) (writePath (c .head .height) (c .pool) (c .head .free) (c .head .spare) z y v .0)) (sym (root-is (write y v) w x))
-      (subst (λ (t : ℕ). Beyond (c .head .nodes) (c .pool) (writePath t (c .pool) (c .head .free) (c .head .spare) (rootOf (c .frames) (r .at) (x .actor)) y v .0)) (sym (r .numbers .tall))
-      (write-beyond (c .head .nodes) (M .splitters) (r .numbers .few-nodes) (r .numbers .some-splitter) (c .pool) (c .head .free) (c .head .spare) (rootOf (c .frames) (r .at) (x .actor)) (x .actor .history)
+      subst (λ (z : ℕ). Beyond (c .head .numbers .nodes) (c .pool) (writePath (c .head .height) (c .pool) (c .head .numbers .«free_node») (c .head .«free_count») z y v .0)) (sym (root-is (write y v) w x))
+      (subst (λ (t : ℕ). Beyond (c .head .numbers .nodes) (c .pool) (writePath t (c .pool) (c .head .numbers .«free_node») (c .head .«free_count») (rootOf (c .frames) (r .at) (x .actor)) y v .0)) (sym (r .numbers .height-is))
+      (write-beyond (c .head .numbers .nodes) (M .splitters) (r .numbers .nodes-le) (r .numbers .splitters-positive) (c .pool) (c .head .numbers .«free_node») (c .head .«free_count») (rootOf (c .frames) (r .at) (x .actor)) (x .actor .history)
       (rootsOf (c .frames) (r .at) (x .above ++ rest M w)) y v (few (write y v) w x) (x .allowed .0) (omega (arith, x .allowed .1, spare)) (front-trees (write y v) w x)))
 
   -- ---- refused or accepted
@@ -78,10 +78,10 @@ module _ (M : Machine) (c : Core) (r : Relates (LiveTrees (c .head .nodes) (M .s
       go zero e h = absurd (omega arith)
       go (suc k) e h = ap (λ d. d .core) (refused-alike r tree shape spare st .1 k e .1)
 
-  step-beyond : (st : Step) → Beyond (c .head .nodes) (c .pool) (stepOn c st .core .pool)
+  step-beyond : (st : Step) → Beyond (c .head .numbers .nodes) (c .pool) (stepOn c st .core .pool)
   step-beyond st = elim (accepted-or-refused M st) [
-    | inl a ↦ subst (λ d. Beyond (c .head .nodes) (c .pool) (d .core .pool)) (sym (refused-alike r tree shape spare st .0 (a .zero-refusal))) (done-beyond st (a .passes))
-    | inr a ↦ subst (λ (d : Core). Beyond (c .head .nodes) (c .pool) (d .pool)) (sym (unchanged st (a .some-refusal))) (refl, refl)
+    | inl a ↦ subst (λ d. Beyond (c .head .numbers .nodes) (c .pool) (d .core .pool)) (sym (refused-alike r tree shape spare st .0 (a .zero-refusal))) (done-beyond st (a .passes))
+    | inr a ↦ subst (λ (d : Core). Beyond (c .head .numbers .nodes) (c .pool) (d .pool)) (sym (unchanged st (a .some-refusal))) (refl, refl)
   ]
 
 -- ---- the theorem
@@ -98,12 +98,12 @@ module _ (s : State) (ws : List ℕ) (st : Step) (dlen : length (s .deques) ≡ 
   simulated =
       let F = from-sound (numbersOf s) (s .deques) (s .frames) ws e dlen flen in
       let r = F .0 in
-      simulates (LiveTrees (s .nodes) (s .splitters)) (plainOf s ws) (counted s ws) r (live-laws (s .nodes) (s .splitters) (r .numbers .few-nodes) (r .numbers .some-splitter)) (F .1) (F .2) (F .3) (F .4) (F .5) st
+      simulates (LiveTrees (s .nodes) (s .splitters)) (plainOf s ws) (counted s ws) r (live-laws (s .nodes) (s .splitters) (r .numbers .nodes-le) (r .numbers .splitters-positive)) (F .1) (F .2) (F .3) (F .4) (F .5) st
 
   -- what the step leaves relates to the plain machine's next
   pub step-relates : let c = stepOf s ws st .core in
       let M = step (plainOf s ws) st in
-      Relates (LiveTrees (c .head .nodes) (M .splitters)) M c
+      Relates (LiveTrees (c .head .numbers .nodes) (M .splitters)) M c
   step-relates =
       let M = step (plainOf s ws) st in
       let c = stepOf s ws st .core in
@@ -111,7 +111,7 @@ module _ (s : State) (ws : List ℕ) (st : Step) (dlen : length (s .deques) ≡ 
       (subst (λ n. Relates (LiveTrees (s .nodes) n) M c) (sym (sizes-step (plainOf s ws) st .splitters)) (simulated .related))
 
   -- it is sound, and has the free nodes that it says
-  pub step-sound : let c = stepOf s ws st .core in (sound (numbersOf (stateOf c)) (c .deques) (c .frames) (c .pool) ≡ true) × (freeCount (numbersOf (stateOf c)) (c .pool) ≡ c .head .spare)
+  pub step-sound : let c = stepOf s ws st .core in (sound (numbersOf (stateOf c)) (c .deques) (c .frames) (c .pool) ≡ true) × (freeCount (numbersOf (stateOf c)) (c .pool) ≡ c .head .«free_count»)
   step-sound =
       let F = from-sound (numbersOf s) (s .deques) (s .frames) ws e dlen flen in
       let k = kept (plainOf s ws) st (F .1) (F .2) in

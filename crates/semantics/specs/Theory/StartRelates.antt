@@ -77,15 +77,15 @@ module _ (workers : ℕ) (vs ws : List ℕ) (F : Fit workers vs ws) where
     at = λ _. 0;
     gs = range 63 1;
     numbers = record {
-      workers = sym (sizes-start workers vs N (F .some-worker));
-      some-worker = omega (arith, sizes-start workers vs N (F .some-worker), F .some-worker);
-      few-workers = omega (arith, sizes-start workers vs N (F .some-worker), F .few-workers);
+      workers = sym (sizes-start workers vs N (F .workers-positive));
+      workers-positive = omega (arith, sizes-start workers vs N (F .workers-positive), F .workers-positive);
+      workers-le = omega (arith, sizes-start workers vs N (F .workers-positive), F .workers-le);
       splitters = refl;
-      some-splitter = F .some-value;
-      few-splitters = F .few-values;
-      tall = refl;
+      splitters-positive = F .values-positive;
+      splitters-le = F .values-le;
+      height-is = refl;
       enough = F .enough;
-      few-nodes = F .few-nodes;
+      nodes-le = F .nodes-le;
     };
     formed = record { shaped = init-shaped; long = length-init (replicate 384 0) zeros; places = init-places (replicate 384 0) zeros };
     deques = deque-at;
@@ -109,7 +109,7 @@ module _ (workers : ℕ) (vs ws : List ℕ) (F : Fit workers vs ws) where
       spare = N - treeNodes n
 
       started : After N n ws [] ((0, []) ∷ []) words first spare × ((y : ℕ) → y < n → readAt (height n) words 0 y ≡ getD vs y 0)
-      started = good-start N n (F .few-nodes) (F .some-value) ws vs (F .enough) room
+      started = good-start N n (F .nodes-le) (F .values-positive) ws vs (F .enough) room
 
       root-is : frameAt fs 0 .root ≡ 0
       root-is = ap (λ r. r .root) main-at

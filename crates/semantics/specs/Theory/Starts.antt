@@ -16,12 +16,12 @@ use Rattle.semantics.specs.Entries.{startOn, begun, wholeNodes}
 
 -- the conditions that refusals 1, 2 and 3 test
 pub record Fit (workers : ℕ) (vs ws : List ℕ) : Type 0 where
-  pub some-value : 1 ≤ length vs
-  pub few-values : length vs ≤ 256
-  pub some-worker : 1 ≤ workers
-  pub few-workers : workers ≤ 8
+  pub values-positive : 1 ≤ length vs
+  pub values-le : length vs ≤ 256
+  pub workers-positive : 1 ≤ workers
+  pub workers-le : workers ≤ 8
   pub enough : treeNodes (length vs) ≤ wholeNodes ws
-  pub few-nodes : wholeNodes ws ≤ 16384
+  pub nodes-le : wholeNodes ws ≤ 16384
 
 -- x is none, or more than m
 out-of : (x m : ℕ) → Bool
@@ -44,7 +44,7 @@ denied-not {r} e = let z : _≡_ {A = ℕ} 0 1 = cc in omega arith
 pub fit-started : (workers : ℕ) (vs ws : List ℕ) → Fit workers vs ws → startOn workers vs ws ≡ begun workers vs ws
 unfolding startOn
 fit-started workers vs ws F =
-    rw (range-in (length vs) 256 (F .some-value) (F .few-values), range-in workers 8 (F .some-worker) (F .few-workers), le-ltb (wholeNodes ws) (treeNodes (length vs)) (F .enough), le-ltb 16384 (wholeNodes ws) (F .few-nodes))
+    rw (range-in (length vs) 256 (F .values-positive) (F .values-le), range-in workers 8 (F .workers-positive) (F .workers-le), le-ltb (wholeNodes ws) (treeNodes (length vs)) (F .enough), le-ltb 16384 (wholeNodes ws) (F .nodes-le))
 
 pub started-fit : (workers : ℕ) (vs ws : List ℕ) → startOn workers vs ws .call ≡ Taken → Fit workers vs ws
 unfolding startOn
@@ -58,7 +58,7 @@ started-fit workers vs ws e = elim (decided (eqb (length vs) 0 || ltb 256 (lengt
           let x = in-range (length vs) 256 a in
           let y = in-range workers 8 b in
           let z = neither (ltb (wholeNodes ws) (treeNodes (length vs))) (ltb 16384 (wholeNodes ws)) d in
-          record { some-value = x .0; few-values = x .1; some-worker = y .0; few-workers = y .1; enough = ltb-false (wholeNodes ws) (treeNodes (length vs)) (z .0); few-nodes = ltb-false 16384 (wholeNodes ws) (z .1) }
+          record { values-positive = x .0; values-le = x .1; workers-positive = y .0; workers-le = y .1; enough = ltb-false (wholeNodes ws) (treeNodes (length vs)) (z .0); nodes-le = ltb-false 16384 (wholeNodes ws) (z .1) }
     ]
   ]
 ]

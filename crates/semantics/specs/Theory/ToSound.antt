@@ -43,7 +43,7 @@ module _ (N n : ℕ) (most : N ≤ 16384) (some : 0 < n) (ws : List ℕ) (free k
 
 -- ---- the relation over another predicate on the pool
 
-pub relates-over : {P Q : Trees} {M : Machine} {c : Core} (R : Relates P M c) → Q (c .pool) (c .head .free) (c .head .spare) (rootsOf (c .frames) (R .at) (live M)) → Relates Q M c
+pub relates-over : {P Q : Trees} {M : Machine} {c : Core} (R : Relates P M c) → Q (c .pool) (c .head .numbers .«free_node») (c .head .«free_count») (rootsOf (c .frames) (R .at) (live M)) → Relates Q M c
 relates-over R q = record {
   at = R .at;
   gs = R .gs;
@@ -64,37 +64,37 @@ good-relates R = relates-over R (good-live (R .trees))
 
 -- ---- the whole
 
-module _ (M : Machine) (c : Core) (R : Relates (LiveTrees (c .head .nodes) (M .splitters)) M c) where
+module _ (M : Machine) (c : Core) (R : Relates (LiveTrees (c .head .numbers .nodes) (M .splitters)) M c) where
   numbers-hold : NumbersFacts (numbersOf (stateOf c)) (c .pool)
   numbers-hold =
       let n = R .numbers in
       record {
-        some-worker = omega (arith, n .workers, n .some-worker);
-        few-workers = omega (arith, n .workers, n .few-workers);
-        some-splitter = omega (arith, n .splitters, n .some-splitter);
-        few-splitters = omega (arith, n .splitters, n .few-splitters);
-        enough = subst (λ m. treeNodes m ≤ c .head .nodes) (sym (n .splitters)) (n .enough);
-        few-nodes = n .few-nodes;
+        workers-positive = omega (arith, n .workers, n .workers-positive);
+        workers-le = omega (arith, n .workers, n .workers-le);
+        splitters-positive = omega (arith, n .splitters, n .splitters-positive);
+        splitters-le = omega (arith, n .splitters, n .splitters-le);
+        enough = subst (λ m. treeNodes m ≤ c .head .numbers .nodes) (sym (n .splitters)) (n .enough);
+        nodes-le = n .nodes-le;
         room = live-room (R .trees);
       }
 
   -- the trees are sound, and the chain is as long as the relation says
-  pool-holds : (poolSound (c .head .splitters) (c .head .nodes) (c .pool) (c .head .free) (liveRoots (c .frames)) ≡ true) × (freeCount (numbersOf (stateOf c)) (c .pool) ≡ c .head .spare)
+  pool-holds : (poolSound (c .head .numbers .splitters) (c .head .numbers .nodes) (c .pool) (c .head .numbers .«free_node») (liveRoots (c .frames)) ≡ true) × (freeCount (numbersOf (stateOf c)) (c .pool) ≡ c .head .«free_count»)
   pool-holds =
       let n = R .numbers in
-      let p = live-pool (M .splitters) (c .head .nodes) (n .few-nodes) (n .some-splitter) (c .pool) (c .head .free) (liveRoots (c .frames)) (rootsOf (c .frames) (R .at) (live M))
-      (roots-count R) (c .head .spare) (R .trees) in
-      (subst (λ m. poolSound m (c .head .nodes) (c .pool) (c .head .free) (liveRoots (c .frames)) ≡ true) (sym (n .splitters)) (p .0), p .1)
+      let p = live-pool (M .splitters) (c .head .numbers .nodes) (n .nodes-le) (n .splitters-positive) (c .pool) (c .head .numbers .«free_node») (liveRoots (c .frames)) (rootsOf (c .frames) (R .at) (live M))
+      (roots-count R) (c .head .«free_count») (R .trees) in
+      (subst (λ m. poolSound m (c .head .numbers .nodes) (c .pool) (c .head .numbers .«free_node») (liveRoots (c .frames)) ≡ true) (sym (n .splitters)) (p .0), p .1)
 
   pub to-sound : FrameTree M → DequeInvariant M
-      → (sound (numbersOf (stateOf c)) (c .deques) (c .frames) (c .pool) ≡ true) × (freeCount (numbersOf (stateOf c)) (c .pool) ≡ c .head .spare)
+      → (sound (numbersOf (stateOf c)) (c .deques) (c .frames) (c .pool) ≡ true) × (freeCount (numbersOf (stateOf c)) (c .pool) ≡ c .head .«free_count»)
   to-sound tree inv = (
     facts-sound (numbersOf (stateOf c)) (c .deques) (c .frames) (c .pool) (record { numbers = numbers-hold; frames = frames-hold R tree inv; pool = pool-holds .0 }),
     pool-holds .1,
   )
 
   -- without a live frame every node is free, and stands once on the chain
-  pub all-free : live M ≡ [] → (i : ℕ) → i < c .head .nodes → count i (freeNodes (c .head .nodes) (c .pool) (c .head .free)) ≡ 1
+  pub all-free : live M ≡ [] → (i : ℕ) → i < c .head .numbers .nodes → count i (freeNodes (c .head .numbers .nodes) (c .pool) (c .head .numbers .«free_node»)) ≡ 1
   all-free e =
-      trees-all-free (c .head .nodes) (M .splitters) (R .numbers .few-nodes) (R .numbers .some-splitter) (c .pool) (c .head .free) (c .head .spare) (rootsOf (c .frames) (R .at) (live M)) (R .trees)
+      trees-all-free (c .head .numbers .nodes) (M .splitters) (R .numbers .nodes-le) (R .numbers .splitters-positive) (c .pool) (c .head .numbers .«free_node») (c .head .«free_count») (rootsOf (c .frames) (R .at) (live M)) (R .trees)
       (ap (λ (K : List Frame). treeRoots (rootsOf (c .frames) (R .at) K)) e) .1

@@ -45,13 +45,13 @@ module _ {P : Trees} {M : Machine} {c : Core} (R : Relates P M c) (tree : FrameT
     unfolding placesTo
     none-left f d e = nil≢cons e
 
-    some-left : (n : ℕ) → Along (suc n) [] → ⊥
+    left-positive : (n : ℕ) → Along (suc n) [] → ⊥
     unfolding placesTo
-    some-left n e = cons≢nil e
+    left-positive n e = cons≢nil e
 
     frame-at : (n : ℕ) (d : List Frame) → Along n d → (k : ℕ) → k < n → (f : Frame) × In f d × (at (f .name) ≡ place (c .deques) w k)
     frame-at zero d e k b = absurd (omega arith)
-    frame-at (suc n) [] e k b = absurd (some-left n e)
+    frame-at (suc n) [] e k b = absurd (left-positive n e)
     frame-at (suc n) (f ∷ d) e k b = elim (ℕ-discrete k n) [
       | yes q ↦ (f, here refl, sym (first-of n f d e) ∙ ap (place (c .deques) w) (sym q))
       | no q ↦ (let r = frame-at n d (rest-of n f d e) k (omega arith) in (r .0, there (r .1), r .2))
@@ -61,8 +61,8 @@ module _ {P : Trees} {M : Machine} {c : Core} (R : Relates P M c) (tree : FrameT
     linked-at : (n : ℕ) (d : List Frame) → Along n d → ((f : Frame) → In f d → In f L) → Linked d → (k : ℕ) → suc k < n → frameAt fs (place (c .deques) w (suc k)) .parent ≡ place (c .deques) w k
     linked-at zero d e i l k b = absurd (omega arith)
     linked-at (suc zero) d e i l k b = absurd (omega arith)
-    linked-at (suc (suc n)) [] e i l k b = absurd (some-left (suc n) e)
-    linked-at (suc (suc n)) (f ∷ []) e i l k b = absurd (some-left n (rest-of (suc n) f [] e))
+    linked-at (suc (suc n)) [] e i l k b = absurd (left-positive (suc n) e)
+    linked-at (suc (suc n)) (f ∷ []) e i l k b = absurd (left-positive n (rest-of (suc n) f [] e))
     linked-at (suc (suc n)) (f ∷ g ∷ d) e i l k b = elim (ℕ-discrete k n) [
       | yes q ↦
           subst (λ k. frameAt fs (place (c .deques) w (suc k)) .parent ≡ place (c .deques) w k) (sym q)
@@ -81,8 +81,8 @@ module _ {P : Trees} {M : Machine} {c : Core} (R : Relates P M c) (tree : FrameT
         → (k : ℕ) → suc k < n → (x : Frame) → In x L → frameAt fs (at (x .name)) .parent ≡ place (c .deques) w (suc k) → Next s (suc (suc k)) x
     only-at s zero d Q e i o le q k b = absurd (omega arith)
     only-at s (suc zero) d Q e i o le q k b = absurd (omega arith)
-    only-at s (suc (suc n)) [] Q e i o le q k b = absurd (some-left (suc n) e)
-    only-at s (suc (suc n)) (g ∷ []) Q e i o le q k b = absurd (some-left n (rest-of (suc n) g [] e))
+    only-at s (suc (suc n)) [] Q e i o le q k b = absurd (left-positive (suc n) e)
+    only-at s (suc (suc n)) (g ∷ []) Q e i o le q k b = absurd (left-positive n (rest-of (suc n) g [] e))
     only-at s (suc (suc n)) (g ∷ h ∷ d) Q e i o le q k b = λ x m p. elim (ℕ-discrete k n) [
       | yes z ↦
           (let r = parent-named R tree g (i g (here refl)) x m (p ∙ ap (λ k. place (c .deques) w (suc k)) z ∙ first-of (suc n) g (h ∷ d) e) (x .name) refl in
@@ -102,7 +102,7 @@ module _ {P : Trees} {M : Machine} {c : Core} (R : Relates P M c) (tree : FrameT
         let m = in-live R w (r .0) (r .1) in
         subst (λ p. (p < 64) × Lives fs p) (r .2) (inside R (r .0) m, alive R (r .0) m)
 
-    pub absent : w < 8 → c .head .workers ≤ w → size (c .deques) w ≡ 0
+    pub absent : w < 8 → c .head .numbers .workers ≤ w → size (c .deques) w ≡ 0
     absent b h = deque-size R w b ∙ ap length (List·getD-eq-default (M .deques) [] {n = w} (omega (arith, R .numbers .workers)))
 
     pub child-of-above : w < 8 → (k : ℕ) → suc k < size (c .deques) w → frameAt fs (place (c .deques) w (suc k)) .parent ≡ place (c .deques) w k
@@ -117,7 +117,7 @@ module _ {P : Trees} {M : Machine} {c : Core} (R : Relates P M c) (tree : FrameT
         (r .0, sym (x .2) ∙ r .1)
 
   -- the sentences on frames and deques
-  pub frames-hold : FramesFacts (c .head .workers) (c .head .vacant) (c .deques) fs
+  pub frames-hold : FramesFacts (c .head .numbers .workers) (c .head .numbers .«free_place») (c .deques) fs
   frames-hold = record {
     one-main = one-main R tree;
     parents = parents R tree;

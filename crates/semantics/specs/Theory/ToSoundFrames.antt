@@ -129,7 +129,7 @@ module _ {P : Trees} {M : Machine} {c : Core} (R : Relates P M c) where
       ∙ total-roots at fs i L alive
 
   -- "Free frame places lie once on theirs, all but the link to the next being zero."
-  pub places : PlacesFree fs (c .head .vacant)
+  pub places : PlacesFree fs (c .head .numbers .«free_place»)
   places = record {
     gs = R .gs;
     chain = R .formed .places;
@@ -150,7 +150,7 @@ module _ {P : Trees} {M : Machine} {c : Core} (R : Relates P M c) where
   stands-count : (p : ℕ) → stands (c .deques) p ≡ count p (placesOf at (joined (M .deques)))
   stands-count p =
       sum-cong 8 (λ w. count p (dequeList (c .deques) w)) (λ w. count p (placesOf at (deque M w))) (λ w b. ap (count p) (R .deques w b))
-      ∙ count-joined at p 8 (M .deques) (R .numbers .few-workers)
+      ∙ count-joined at p 8 (M .deques) (R .numbers .workers-le)
 
   module _ (tree : FrameTree M) where
     -- ---- children

@@ -16,7 +16,7 @@ use Rattle.model.specs.Theory.Effects.{Passes, acts}
 use Rattle.model.specs.Theory.RunSteps.{accepted-or-refused}
 use Rattle.semantics.specs.declared.Refusal.{Refusal}
 use Rattle.semantics.specs.Answers.{refusalNumber, answerWords}
-use Rattle.semantics.specs.Core.{Core, Did, judged, spawned, ended, robbed, waited, valued, wrote, stepOn, testsOf, doneBy}
+use Rattle.semantics.specs.Core.{Core, StepResult, judged, spawnOn, returnOn, stealOn, syncOn, readOn, writeOn, stepOn, testsOf, doneBy}
 use Rattle.semantics.specs.Calls.{refusedWhole, saysAccepted, bottomTold, entryTold, Told, traceTold, stepsTold, answersTold}
 
 -- ---- the engine's steps are never refused as a whole call is
@@ -28,7 +28,7 @@ High (t ∷ ts) = (6 < refusalNumber (t .1)) × High ts
 high-not-whole : (a : ℕ × ℕ) → 6 < a .0 → refusedWhole a ≡ false
 high-not-whole a h = lt-leb (a .0) 6 h
 
-judged-high : (ts : List (Bool × Refusal)) (c : Core) (d : Did) → High ts → 6 < answerWords (d .answer) .0 → 6 < answerWords (judged ts c d .answer) .0
+judged-high : (ts : List (Bool × Refusal)) (c : Core) (d : StepResult) → High ts → 6 < answerWords (d .answer) .0 → 6 < answerWords (judged ts c d .answer) .0
 judged-high [] c d h k = k
 judged-high (t ∷ ts) c d h k = elim (decided (t .0)) [ inl e ↦ rw e (h .0) | inr e ↦ rw e (judged-high ts c d (h .1) k) ]
 
@@ -45,12 +45,12 @@ step-not-whole c st = high-not-whole (answerWords (judged (testsOf c st) c (done
     tests-high (Write w x v) = omega arith
 
     done-high : (st : Step) → 6 < answerWords (doneBy c st .answer) .0
-    done-high (Spawn w) = unfold spawned in omega arith
-    done-high (Return w) = unfold ended in omega arith
-    done-high (Steal w v) = unfold robbed in omega arith
-    done-high (Sync w) = unfold waited in omega arith
-    done-high (Read w x) = unfold valued in omega arith
-    done-high (Write w x v) = unfold wrote in omega arith
+    done-high (Spawn w) = unfold spawnOn in omega arith
+    done-high (Return w) = unfold returnOn in omega arith
+    done-high (Steal w v) = unfold stealOn in omega arith
+    done-high (Sync w) = unfold syncOn in omega arith
+    done-high (Read w x) = unfold readOn in omega arith
+    done-high (Write w x v) = unfold writeOn in omega arith
 
 -- ---- the plain machine's refusals are 8 to 16
 

@@ -23,7 +23,7 @@ use Rattle.model.specs.Steps.{firstTrue}
 use Rattle.model.specs.Record.{validIf, recordOf}
 use Rattle.semantics.specs.declared.State.{State}
 use Rattle.semantics.specs.declared.Refusal.the-variants.{NoWorker, MainReturned, ThiefBusy, NoVictim, NoSplitter}
-use Rattle.semantics.specs.Core.{Core, Did, noWorker, allIdle, idle, judged, actingTests, stepOn}
+use Rattle.semantics.specs.Core.{Core, StepResult, noWorker, allIdle, idle, judged, actingTests, stepOn}
 use Rattle.semantics.specs.Entries.{numbersOf, coreOf, entered, recordOn}
 use Rattle.semantics.specs.Theory.Refusals.{refusedBy}
 use Rattle.semantics.specs.Theory.Sentences.{sound-facts}
@@ -60,7 +60,7 @@ kinds kind w x v =
     ∷ []
 
 module _ (c : Core) where
-  no-worker : (st : Step) → ltb (workerOf st) (c .head .workers) ≡ false → stepOn c st ≡ refusedBy c NoWorker
+  no-worker : (st : Step) → ltb (workerOf st) (c .head .numbers .workers) ≡ false → stepOn c st ≡ refusedBy c NoWorker
   unfolding stepOn
   no-worker (Spawn w) e = rw e
   no-worker (Return w) e = rw e
@@ -69,21 +69,21 @@ module _ (c : Core) where
   no-worker (Read w x) e = rw e
   no-worker (Write w x v) e = rw e
 
-  no-victim : (w v : ℕ) → ltb v (c .head .workers) ≡ false
+  no-victim : (w v : ℕ) → ltb v (c .head .numbers .workers) ≡ false
       → stepOn c (Steal w v) ≡ judged ((noWorker c w, NoWorker) ∷ (allIdle c, MainReturned) ∷ (not (idle c w), ThiefBusy) ∷ []) c (refusedBy c NoVictim)
   unfolding stepOn
   no-victim w v e = rw e
 
-  no-read : (w x : ℕ) → ltb x (c .head .splitters) ≡ false → stepOn c (Read w x) ≡ judged (actingTests c w) c (refusedBy c NoSplitter)
+  no-read : (w x : ℕ) → ltb x (c .head .numbers .splitters) ≡ false → stepOn c (Read w x) ≡ judged (actingTests c w) c (refusedBy c NoSplitter)
   unfolding stepOn
   no-read w x e = rw e
 
-  no-write : (w x v : ℕ) → ltb x (c .head .splitters) ≡ false → stepOn c (Write w x v) ≡ judged (actingTests c w) c (refusedBy c NoSplitter)
+  no-write : (w x v : ℕ) → ltb x (c .head .numbers .splitters) ≡ false → stepOn c (Write w x v) ≡ judged (actingTests c w) c (refusedBy c NoSplitter)
   unfolding stepOn
   no-write w x v e = rw e
 
   -- a number cut to m: past its bound n the step is refused, whatever the number
-  cut : (f : ℕ → Step) (d : Did) (x m n : ℕ) → n ≤ m → ((y : ℕ) → ltb y n ≡ false → stepOn c (f y) ≡ d) → stepOn c (f (min x m)) ≡ stepOn c (f x)
+  cut : (f : ℕ → Step) (d : StepResult) (x m n : ℕ) → n ≤ m → ((y : ℕ) → ltb y n ≡ false → stepOn c (f y) ≡ d) → stepOn c (f (min x m)) ≡ stepOn c (f x)
   cut f d x m n few past = elim (decLt x n) [
     | yes h ↦ ap (λ (y : ℕ). stepOn c (f y)) (omega arith)
     | no h ↦ past (min x m) (le-ltb (min x m) n (omega arith)) ∙ sym (past x (le-ltb x n (omega arith)))
@@ -103,24 +103,24 @@ module _ (c : Core) where
   valid-cut : (b b′ : Bool) (st st′ : Step) → b ≡ b′ → stepOn c st ≡ stepOn c st′ → recordOn c (validIf b st) ≡ recordOn c (validIf b′ st′)
   valid-cut b b′ st st′ e h = elim (decided b′) [ inl z ↦ rw (e ∙ z, z) h | inr z ↦ rw (e ∙ z, z) ]
 
-  module _ (few-workers : c .head .workers ≤ 8) (few-splitters : c .head .splitters ≤ 256) (w x v : ℕ) where
-    worker-cut : (f : ℕ → Step) → ((y : ℕ) → ltb y (c .head .workers) ≡ false → stepOn c (f y) ≡ refusedBy c NoWorker) → stepOn c (f (min w 255)) ≡ stepOn c (f w)
-    worker-cut f past = cut f (refusedBy c NoWorker) w 255 (c .head .workers) (omega arith) past
+  module _ (workers-le : c .head .numbers .workers ≤ 8) (splitters-le : c .head .numbers .splitters ≤ 256) (w x v : ℕ) where
+    worker-cut : (f : ℕ → Step) → ((y : ℕ) → ltb y (c .head .numbers .workers) ≡ false → stepOn c (f y) ≡ refusedBy c NoWorker) → stepOn c (f (min w 255)) ≡ stepOn c (f w)
+    worker-cut f past = cut f (refusedBy c NoWorker) w 255 (c .head .numbers .workers) (omega arith) past
 
     steal-cut : stepOn c (Steal (min w 255) (min x 65535)) ≡ stepOn c (Steal w x)
     steal-cut =
         worker-cut (λ u. Steal u (min x 65535)) (λ y e. no-worker (Steal y (min x 65535)) e)
-        ∙ cut (λ u. Steal w u) _ x 65535 (c .head .workers) (omega arith) (no-victim w)
+        ∙ cut (λ u. Steal w u) _ x 65535 (c .head .numbers .workers) (omega arith) (no-victim w)
 
     read-cut : stepOn c (Read (min w 255) (min x 65535)) ≡ stepOn c (Read w x)
     read-cut =
         worker-cut (λ u. Read u (min x 65535)) (λ y e. no-worker (Read y (min x 65535)) e)
-        ∙ cut (λ u. Read w u) _ x 65535 (c .head .splitters) (omega arith) (no-read w)
+        ∙ cut (λ u. Read w u) _ x 65535 (c .head .numbers .splitters) (omega arith) (no-read w)
 
     write-cut : stepOn c (Write (min w 255) (min x 65535) v) ≡ stepOn c (Write w x v)
     write-cut =
         worker-cut (λ u. Write u (min x 65535) v) (λ y e. no-worker (Write y (min x 65535) v) e)
-        ∙ cut (λ u. Write w u v) _ x 65535 (c .head .splitters) (omega arith) (λ y e. no-write w y v e)
+        ∙ cut (λ u. Write w u v) _ x 65535 (c .head .numbers .splitters) (omega arith) (λ y e. no-write w y v e)
 
     record-cut : (kind : ℕ) → recordOn c (recordOf (min kind 255) (min w 255) (min x 65535) v) ≡ recordOn c (recordOf kind w x v)
     unfolding recordOf
@@ -153,7 +153,7 @@ module _ (s : State) (ws ks : List ℕ) (kind w x v : ℕ) where
   check-cut Checked.Unsound e = refl
   check-cut (Sound k) e =
       let F = sound-facts (numbersOf s) (s .deques) (s .frames) ws (sound-told (numbersOf s) (s .deques) (s .frames) ws ks k e) .numbers in
-      ap (λ d. entered d (cleared (s .nodes) ks)) (record-cut (coreOf s ws k) (F .few-workers) (F .few-splitters) w x v kind)
+      ap (λ d. entered d (cleared (s .nodes) ks)) (record-cut (coreOf s ws k) (F .workers-le) (F .splitters-le) w x v kind)
 
   -- the fields cut to 8, 8 and 16 bits
   pub same-cut : enterRecord s ws ks (recordOf (min kind 255) (min w 255) (min x 65535) v) ≡ enterRecord s ws ks (recordOf kind w x v)

@@ -20,7 +20,7 @@ use Rattle.semantics.specs.declared.State.{State}
 use Rattle.semantics.specs.declared.Refusal.{Refusal}
 use Rattle.semantics.specs.declared.Answer.{Answer}
 use Rattle.semantics.specs.Answers.{answerWords}
-use Rattle.semantics.specs.Core.{Core, Did, judged, testsOf, spawned, ended, robbed, waited, valued, wrote, doneBy, stepOn}
+use Rattle.semantics.specs.Core.{Core, StepResult, judged, testsOf, spawnOn, returnOn, stealOn, syncOn, readOn, writeOn, doneBy, stepOn}
 use Rattle.semantics.specs.Entries.{numbersOf, coreOf, stateOf, Entered, Played, unfitTape, tapeChecked, play}
 use Rattle.semantics.specs.Calls.{saysAccepted}
 use Rattle.splitter.specs.Interface.{stateIn, withState, short, callNumber, recordChecked, enterRecord, Stepped, hostStep, Taped, hostTape}
@@ -34,17 +34,17 @@ use Rattle.splitter.specs.Theory.RecordSteps.{invalid-keeps}
 abbrev accepts : Answer → Bool
 accepts a = saysAccepted (answerWords a)
 
-judged-keeps : (ts : List (Bool × Refusal)) (c : Core) (d : Did) → accepts (d .answer) ≡ true → accepts (judged ts c d .answer) ≡ false → judged ts c d .core ≡ c
+judged-keeps : (ts : List (Bool × Refusal)) (c : Core) (d : StepResult) → accepts (d .answer) ≡ true → accepts (judged ts c d .answer) ≡ false → judged ts c d .core ≡ c
 judged-keeps [] c d a e = absurd (true≢false (sym a ∙ e))
 judged-keeps (t ∷ ts) c d a e = elim (decided (t .0)) [ inl b ↦ rw b | inr b ↦ rw b (judged-keeps ts c d a (rw b at e)) ]
 
 done-accepts : (c : Core) (st : Step) → accepts (doneBy c st .answer) ≡ true
-done-accepts c (Spawn w) = unfold spawned in refl
-done-accepts c (Return w) = unfold ended in refl
-done-accepts c (Steal w v) = unfold robbed in refl
-done-accepts c (Sync w) = unfold waited in refl
-done-accepts c (Read w x) = unfold valued in refl
-done-accepts c (Write w x v) = unfold wrote in refl
+done-accepts c (Spawn w) = unfold spawnOn in refl
+done-accepts c (Return w) = unfold returnOn in refl
+done-accepts c (Steal w v) = unfold stealOn in refl
+done-accepts c (Sync w) = unfold syncOn in refl
+done-accepts c (Read w x) = unfold readOn in refl
+done-accepts c (Write w x v) = unfold writeOn in refl
 
 step-keeps : (c : Core) (st : Step) → accepts (stepOn c st .answer) ≡ false → stepOn c st .core ≡ c
 unfolding stepOn

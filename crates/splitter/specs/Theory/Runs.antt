@@ -20,7 +20,7 @@ use Rattle.semantics.specs.declared.Call.{Call}
 use Rattle.semantics.specs.declared.Call.the-variants.{Taken, Denied}
 use Rattle.semantics.specs.Answers.{refusalNumber, answerWords}
 use Rattle.semantics.specs.Entries.{startOn, wholeNodes, Entered, enter, Played, play, recordsOf}
-use Rattle.semantics.specs.Calls.{HostCall, outside, tape, Held, afterCall, afterCalls, Told, toldFrom, toldIf, told, allTold, answersTold}
+use Rattle.semantics.specs.Calls.{HostCall, outside, tape, StateAndPool, afterCall, afterCalls, Told, toldFrom, toldIf, told, allTold, answersTold}
 use Rattle.semantics.specs.Demands.{heldBy, Demand2, Demand3}
 use Rattle.semantics.specs.Theory.Refusals.{number-range}
 use Rattle.semantics.specs.Theory.Lengths.{Fits, start-fits, calls-fit}
@@ -33,11 +33,11 @@ use Rattle.splitter.specs.Theory.Results.{words-low, words-back, taken-z
 
 -- ---- calls joined
 
-after-append : (xs ys : List HostCall) (h : Held) → afterCalls h (xs ++ ys) ≡ afterCalls (afterCalls h xs) ys
+after-append : (xs ys : List HostCall) (h : StateAndPool) → afterCalls h (xs ++ ys) ≡ afterCalls (afterCalls h xs) ys
 after-append [] ys h = refl
 after-append (x ∷ xs) ys h = after-append xs ys (afterCall h x)
 
-told-append : (xs ys : List HostCall) (h : Held) → allTold h (xs ++ ys) ≡ allTold h xs ++ allTold (afterCalls h xs) ys
+told-append : (xs ys : List HostCall) (h : StateAndPool) → allTold h (xs ++ ys) ≡ allTold h xs ++ allTold (afterCalls h xs) ys
 told-append [] ys h = refl
 told-append (x ∷ xs) ys h = ap (λ (ts : List Told). told h x ++ ts) (told-append xs ys (afterCall h x)) ∙ sym (append-assoc (told h x) _ _)
 
@@ -47,13 +47,13 @@ taken-or-not : (k : Call) (ts : List Told) → cond (eqb (callNumber k) 0) ts []
 taken-or-not Taken ts = refl
 taken-or-not (Denied r) ts = rw (ne-eqb (refusalNumber r) 0 (λ e. omega (arith, number-range r .0)))
 
-step-seen : (h : Held) (work : List ℕ) (d : Decoded) → stepSeen d (wordsIn (engineStepReply h work d .result)) ≡ allTold h (engineStep d work)
+step-seen : (h : StateAndPool) (work : List ℕ) (d : Decoded) → stepSeen d (wordsIn (engineStepReply h work d .result)) ≡ allTold h (engineStep d work)
 step-seen h work (Valid st) =
     let a : Answer = enter (h .state) (h .pool) work st .answer in
     ap (stepSeen (Valid st)) (words-back (answerWords a) (words-low a)) ∙ sym (append-nil (told h (outside st work)))
 step-seen h work Invalid = refl
 
-seen-told : (h : Held) (c : InterfaceCall) → seen c (engineReply h c) ≡ allTold h (engineCall c)
+seen-told : (h : StateAndPool) (c : InterfaceCall) → seen c (engineReply h c) ≡ allTold h (engineCall c)
 seen-told h (stepCall kind worker field value work) = step-seen h work (recordOf kind worker field value)
 seen-told h (tapeCall bytes work answers) =
     let p : Played = play (h .state) (h .pool) work bytes answers in
@@ -82,7 +82,7 @@ module _ (image : List ℕ) (room : 909 ≤ length image) where
         ∙ ap (λ (q : State). taped (withState s image) (play q ws ks bytes rs)) (image-back s image f)
         ∙ ap (λ (l : List ℕ). record { image = l; pool = p .pool; work = p .work; answers = p .answers; result = callNumber (p .call) }) (withState-again s image f (p .state))
 
-  abbrev lending : Held → Lent
+  abbrev lending : StateAndPool → Lent
   lending h = record { image = withState (h .state) image; pool = h .pool }
 
   -- what a call leaves and gives, at once
@@ -95,25 +95,25 @@ module _ (image : List ℕ) (room : 909 ≤ length image) where
   abbrev ofTape : Taped → Lent × Reply
   ofTape o = (record { image = o .image; pool = o .pool }, record { result = o .result; work = o .work; answers = o .answers })
 
-  decoded-same : (h : Held) (work : List ℕ) (d : Decoded)
+  decoded-same : (h : StateAndPool) (work : List ℕ) (d : Decoded)
       → ofStep (stepped image (enterRecord (h .state) (h .pool) work d)) ≡ (lending (afterCalls h (engineStep d work)), engineStepReply h work d)
   decoded-same h work (Valid st) = ap (λ (e : Entered). ofStep (stepped image e)) (valid-record (h .state) (h .pool) work st)
   decoded-same h work Invalid =
       let k = invalid-keeps (h .state) (h .pool) work in
       ap₂ (λ (s : State) (ws : List ℕ). (record { image = withState s image; pool = ws }, stepReply (enterRecord (h .state) (h .pool) work Invalid))) (k .0) (k .1)
 
-  call-same : (h : Held) (c : InterfaceCall) → Fits (h .state) → served (lending h) c ≡ (lending (afterCalls h (engineCall c)), engineReply h c)
+  call-same : (h : StateAndPool) (c : InterfaceCall) → Fits (h .state) → served (lending h) c ≡ (lending (afterCalls h (engineCall c)), engineReply h c)
   call-same h (stepCall kind worker field value work) f = ap ofStep (step-at (h .state) f (h .pool) work kind worker field value) ∙ decoded-same h work (recordOf kind worker field value)
   call-same h (tapeCall bytes work answers) f = ap ofTape (tape-at (h .state) f (h .pool) work bytes answers)
 
   -- ---- calls
 
-  record SameFrom (h : Held) (cs : List InterfaceCall) : Type 0 where
+  record SameFrom (h : StateAndPool) (cs : List InterfaceCall) : Type 0 where
     after : afterInterfaces (lending h) cs ≡ lending (afterCalls h (engineCalls cs))
     same-replies : replies (lending h) cs ≡ engineReplies h cs
     same-seen : allSeen (lending h) cs ≡ allTold h (engineCalls cs)
 
-  same-from : (cs : List InterfaceCall) (h : Held) → Fits (h .state) → SameFrom h cs
+  same-from : (cs : List InterfaceCall) (h : StateAndPool) → Fits (h .state) → SameFrom h cs
   same-from [] h f = record { after = refl; same-replies = refl; same-seen = refl }
   same-from (c ∷ cs) h f =
       let left : afterInterface (lending h) c ≡ lending (afterCalls h (engineCall c)) = ap (λ (p : Lent × Reply). p .0) (call-same h c f) in
