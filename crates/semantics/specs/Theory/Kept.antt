@@ -1,4 +1,4 @@
--- What the tape loop keeps of the core: it is sound, has the free nodes and the height that it says, and its lists are long enough.
+-- What the tape loop keeps of the core: the check shows it, and every step keeps it.
 use mathlib.Core.Path.{_≡_, refl, sym, ap, ap₂, _∙_, subst}
 use mathlib.Core.Bool.{Bool, true, false, cond}
 use mathlib.Core.List.{List}
@@ -17,17 +17,10 @@ use Rattle.model.specs.declared.Decoded.{Decoded}
 use Rattle.model.specs.declared.Decoded.the-variants.{Valid, Invalid}
 use Rattle.semantics.specs.Core.{Core, stepOn}
 use Rattle.semantics.specs.Entries.{headOf, recordOn}
+use Rattle.semantics.specs.Ranges.{Kept}
 use Rattle.semantics.specs.Theory.FromSoundRelates.{countedCore}
 use Rattle.semantics.specs.Theory.Simulation.{numbers-kept}
 use Rattle.semantics.specs.Theory.SoundSteps.{step-relates, step-sound}
-
--- a sound core: what every step keeps
-pub record Kept (c : Core) : Type 0 where
-  pub is-sound : sound (c .head .numbers) (c .deques) (c .frames) (c .pool) ≡ true
-  pub counted : c .head .«free_count» ≡ freeCount (c .head .numbers) (c .pool)
-  pub height-is : c .head .height ≡ height (c .head .numbers .splitters)
-  pub long-deques : length (c .deques) ≡ dequeWords
-  pub long-frames : length (c .frames) ≡ frameWords
 
 -- ---- the check finds it so
 
