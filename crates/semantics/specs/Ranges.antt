@@ -9,7 +9,8 @@ use Rattle.words.specs.Basics.{none}
 use Rattle.sizes.specs.Sizes.{height}
 use Rattle.pool.specs.Links.{Link, LinksIn, PathIn}
 use Rattle.frames.specs.Widths.{maxWorkers, places, frameWords, dequePlaces, dequeWords}
-use Rattle.frames.specs.Deques.{size, place}
+use Rattle.frames.specs.Deques.{size, place, bottom}
+use Rattle.frames.specs.Ranges.{ParentOf}
 use Rattle.soundness.specs.Soundness.{sound, freeCount}
 use Rattle.semantics.specs.Core.{Core, actingIn}
 
@@ -37,5 +38,5 @@ pub record Ready (c : Core) : Type 0 where
   -- a place is free, so fewer than 64 frames live
   pub room : (w : ℕ) → w < maxWorkers → c .head .numbers .«free_place» < places → size (c .deques) w < dequePlaces
   pub root : (w : ℕ) → w < maxWorkers → 0 < size (c .deques) w → actingIn c w .root < c .head .numbers .nodes
-  pub parent : (w : ℕ) → w < maxWorkers → 0 < size (c .deques) w → (actingIn c w .parent < places) ⊎ (actingIn c w .parent ≡ none)
+  pub parent : (w : ℕ) → w < maxWorkers → 0 < size (c .deques) w → ParentOf (bottom (c .deques) w) (actingIn c w)
   pub path : (w x : ℕ) → w < maxWorkers → 0 < size (c .deques) w → x < c .head .numbers .splitters → PathIn (c .head .numbers .nodes) (c .pool) (c .head .height) (actingIn c w .root) x

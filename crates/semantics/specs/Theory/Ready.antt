@@ -21,6 +21,7 @@ use Rattle.pool.specs.Theory.Soundness.{linkLevel, linkSize, sound-live}
 use Rattle.pool.specs.Theory.LiveLinks.{live-links, live-free, live-path}
 use Rattle.frames.specs.Frames.{frameAt}
 use Rattle.frames.specs.Deques.{size, place, bottom}
+use Rattle.frames.specs.Ranges.{ParentOf}
 use Rattle.frames.specs.Theory.Lists.{dequeList, list-length}
 use Rattle.frames.specs.Theory.Places.{nextFree}
 use Rattle.soundness.specs.Soundness.{lives, rootsBelow, liveRoots, freeNodes}
@@ -78,10 +79,10 @@ module _ {workers first : ℕ} {ds fs : List ℕ} (F : FramesFacts workers first
   unfolding bottom
   bottom-lives w b h = F .hold-live w b (size ds w - 1) (omega arith)
 
-  live-parent : (p : ℕ) → p < 64 → Lives fs p → (frameAt fs p .parent < 64) ⊎ (frameAt fs p .parent ≡ none)
+  live-parent : (p : ℕ) → p < 64 → Lives fs p → ParentOf p (frameAt fs p)
   live-parent p b l = elim (ℕ-discrete (frameAt fs p .depth) 0) [
     | yes e ↦ elim (F .one-main) [ inl h ↦ absurd (h .0 p b l) | inr m ↦ inr (ap (λ q. frameAt fs q .parent) (m .only p b l e) ∙ m .orphan) ]
-    | no e ↦ inl (F .parents p b l e .0)
+    | no e ↦ inl (F .parents p b l e .0, λ q. omega (arith, F .parents p b l e .2, ap (λ z. frameAt fs z .depth) q))
   ]
 
 -- a live frame's root is one of the roots
