@@ -1,6 +1,7 @@
 pub mod Answers
 pub mod Core
 pub mod Entries
+pub mod Ranges
 pub mod SoundMachine
 pub mod Calls
 pub mod Demands

@@ -31,25 +31,7 @@ use Rattle.semantics.specs.Theory.Facts.{Lives, FramesFacts, SoundFacts}
 use Rattle.semantics.specs.Theory.Sentences.{sound-facts}
 use Rattle.semantics.specs.Theory.PoolSentences.{pool-fact}
 use Rattle.semantics.specs.Theory.FromSoundPlaces.{count-In, below-of, roots-below, deque-live}
-use Rattle.semantics.specs.Theory.Kept.{Kept}
-
-pub record Ready (c : Core) : Type 0 where
-  pub workers-le : c .head .numbers .workers ≤ 8
-  pub splitters-le : c .head .numbers .splitters ≤ 256
-  pub low : c .head .height ≤ 8
-  pub nodes-positive : 0 < c .head .numbers .nodes
-  pub long-deques : length (c .deques) ≡ 520
-  pub long-frames : length (c .frames) ≡ 384
-  pub links : LinksIn (c .head .numbers .nodes) (c .pool)
-  pub free : Link (c .head .numbers .nodes) (c .head .numbers .«free_node»)
-  pub vacant : (c .head .numbers .«free_place» < 64) ⊎ (c .head .numbers .«free_place» ≡ none)
-  pub sizes : (w : ℕ) → w < 8 → size (c .deques) w ≤ 64
-  pub places : (w k : ℕ) → w < 8 → k < size (c .deques) w → place (c .deques) w k < 64
-  -- a place is free, so fewer than 64 frames live
-  pub room : (w : ℕ) → w < 8 → c .head .numbers .«free_place» < 64 → size (c .deques) w < 64
-  pub root : (w : ℕ) → w < 8 → 0 < size (c .deques) w → actingIn c w .root < c .head .numbers .nodes
-  pub parent : (w : ℕ) → w < 8 → 0 < size (c .deques) w → (actingIn c w .parent < 64) ⊎ (actingIn c w .parent ≡ none)
-  pub path : (w x : ℕ) → w < 8 → 0 < size (c .deques) w → x < c .head .numbers .splitters → PathIn (c .head .numbers .nodes) (c .pool) (c .head .height) (actingIn c w .root) x
+use Rattle.semantics.specs.Ranges.{Kept, Ready}
 
 -- a tree has a node
 tree-positive : (n : ℕ) → 0 < n → 0 < treeNodes n
@@ -142,10 +124,10 @@ module _ (c : Core) (K : Kept c) where
         long-deques = K .long-deques;
         long-frames = K .long-frames;
         links = live-links N (height n) n small (height-covers n) trees;
-        free = live-free N (height n) n small (height-covers n) trees;
-        vacant = chain-start 64 (nextFree (c .frames)) (c .head .numbers .«free_place») (F .places .gs) (F .places .chain);
+        free-node = live-free N (height n) n small (height-covers n) trees;
+        free-place = chain-start 64 (nextFree (c .frames)) (c .head .numbers .«free_place») (F .places .gs) (F .places .chain);
         sizes = F .within;
-        places = λ w k b h. F .hold-live w b k h .0;
+        held = λ w k b h. F .hold-live w b k h .0;
         room = λ w b h. deque-room F few h w b;
         root = λ w b h. trees .roots (actingIn c w .root) (acting-root w b h) .inside;
         parent = λ w b h. (let r = bottom-lives F few w b h in live-parent F few (bottom (c .deques) w) (r .0) (r .1));
