@@ -39,11 +39,15 @@ pub mod ToSoundDeques
 pub mod ToSoundFrames
 pub mod ToSound
 -- ---- runs
+-- the lengths of a state's parts
+pub mod Lengths
 -- answer words
 pub mod Words
 -- when a start is accepted
 pub mod Starts
 pub mod StartRelates
+-- what a refused call leaves; the work slice and the answer words after any call
+pub mod RefusedCalls
 -- calls, tapes
 pub mod Runs
 -- demands 2 and 3 from a relation that steps keep
@@ -61,5 +65,3 @@ pub mod WorkSlice
 pub mod Kept
 -- what a sound core gives to code that indexes without a test
 pub mod Ready
--- the lengths of a state's two tables never change
-pub mod Lengths
