@@ -1,0 +1,18 @@
+use mathlib.Core.Path.{refl, _∙_}
+use native.Mathlib.Omega.{arith}
+use borrow.Author.Needs.{needs}
+use Rattle.frames.specs.Deques.{size}
+use Rattle.frames.specs.Theory.Sizes.{bottom-is}
+use Rattle.frames.proofs.deques.acting_place.Statement.{statement}
+use Rattle.frames.proofs.deques.acting_place.Tie as tie
+
+word-past-requires : tie.Need-word-past-requires
+unfolding size
+word-past-requires c κs = omega arith
+
+returns : tie.Need-returns
+unfolding size
+returns c = c .word-past .ensures ∙ bottom-is (c .before .before .before .args .deques .now) (c .before .before .before .args .w) _ refl (omega arith)
+
+pub acting-place-spec : {M : Type 1} → statement M
+acting-place-spec = tie.close (tie.spec (λ c. search needs) (λ c. search needs) (λ c. search needs) word-past-requires returns)
