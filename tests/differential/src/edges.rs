@@ -1,6 +1,8 @@
 //! The edges of document 01, starred or not, and the edges of its refusals
 //! and lines. Every expected line is written by hand from the document.
 
+mod lengths;
+
 use crate::record::{Record, Step};
 use crate::splitrun::{header, Input, HEADER_BYTES};
 
@@ -19,6 +21,7 @@ pub fn all() -> Vec<Edge> {
     edges.extend(unfit());
     edges.extend(cut_short());
     edges.extend(tapes());
+    edges.extend(lengths::lengths());
     edges.extend(unused_fields());
     edges.extend(bad_kinds());
     edges.extend(refusals());

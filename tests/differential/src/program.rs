@@ -4,7 +4,7 @@ use std::io::{Read, Write};
 use std::path::{Path, PathBuf};
 use std::process::{Child, Command, ExitStatus, Stdio};
 use std::sync::mpsc;
-use std::thread;
+use std::thread::{self, JoinHandle};
 use std::time::Duration;
 
 /// A PROGRAM that has not ended by then is taken to hang.
@@ -31,24 +31,26 @@ impl Program {
             .stderr(Stdio::piped())
             .spawn()
             .map_err(|error| format!("{}: {error}", self.path.display()))?;
-        feed(&mut child, input)?;
+        let fed = feed(&mut child, input);
         let (output, errors) = collect(&mut child)?;
+        fed.join().expect("the feeding thread does not panic")?;
         let status = child.wait().map_err(|error| error.to_string())?;
         judge(status, &errors)?;
         String::from_utf8(output).map_err(|_| "the output is not text".to_string())
     }
 }
 
-/// Writes the input, which fits a pipe. A PROGRAM may end without reading
-/// all of an unfit input.
-fn feed(child: &mut Child, input: &[u8]) -> Result<(), String> {
+/// Writes the input from a thread of its own, as a long one does not fit a
+/// pipe. A PROGRAM may end without reading all of an unfit input.
+fn feed(child: &mut Child, input: &[u8]) -> JoinHandle<Result<(), String>> {
     let mut pipe = child.stdin.take().expect("a piped standard input");
-    match pipe.write_all(input) {
+    let input = input.to_vec();
+    thread::spawn(move || match pipe.write_all(&input) {
         Err(error) if error.kind() != std::io::ErrorKind::BrokenPipe => {
             Err(format!("standard input: {error}"))
         }
         _ => Ok(()),
-    }
+    })
 }
 
 /// Standard output and standard error, to their ends.
