@@ -32,6 +32,14 @@ pub fn all() -> Vec<Edge> {
     edges
 }
 
+/// Edges that are also fed in pieces: a program that takes what its first
+/// read gives for the whole input is caught by them.
+pub fn in_pieces() -> Vec<Edge> {
+    let mut edges = starred();
+    edges.extend(lengths::telling_ends());
+    edges
+}
+
 /// The initial values of the document's example.
 const TENS: [u32; 5] = [10, 20, 30, 40, 50];
 

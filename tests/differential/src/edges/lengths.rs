@@ -144,7 +144,7 @@ fn refused_lengths() -> Vec<Edge> {
 
 /// The longest input, whose last records differ from all before them: no
 /// record is lost at the end.
-fn telling_ends() -> Vec<Edge> {
+pub fn telling_ends() -> Vec<Edge> {
     let mut tape = reads(256, 8 * 2_045);
     tape.extend(write(0, 255, 4));
     tape.extend(reads(256, 8));
