@@ -50,8 +50,8 @@ pub mod StartRelates
 pub mod RefusedCalls
 -- calls, tapes
 pub mod Runs
--- demands 2 and 3 from a relation that steps keep
-pub mod DemandsProof
+-- the plain machine fed records, and fed the steps among them
+pub mod ValidRecords
 -- the relation of a run from a start; demands 2 and 3
 pub mod StartedRuns
 -- demand 2 for sound states, however obtained

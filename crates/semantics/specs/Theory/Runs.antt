@@ -3,7 +3,7 @@
 use mathlib.Core.Path.{_≡_, refl, sym, ap, ap₂, _∙_, subst}
 use mathlib.Core.Bool.{Bool, true, false, cond, not}
 use mathlib.Core.Logic.{inl, inr}
-use mathlib.Core.List.{List, [], _∷_, _++_, map}
+use mathlib.Core.List.{List, [], _∷_, _++_}
 use Prim.Native.Nat.{ℕ, zero, suc, _+_, _*_, _/_, _%_, _≤_, _<_}
 use native.Mathlib.Omega.{arith}
 use lib.ListN.{length, getD, set, drop, length-set, length-append}
@@ -33,6 +33,7 @@ use Rattle.semantics.specs.Calls.{HostCall, outside, tape, StateAndPool,
 use Rattle.semantics.specs.Demands.{Specification, answersBy, machineBy, Answers}
 use Rattle.semantics.specs.Theory.Relation.{Relates}
 use Rattle.semantics.specs.Theory.Pools.{LiveTrees, Beyond}
+use Rattle.semantics.specs.Theory.FromSoundRelates.{map-append}
 use Rattle.semantics.specs.Theory.Simulation.{numbers-kept}
 use Rattle.semantics.specs.Theory.ToSound.{to-sound}
 use Rattle.semantics.specs.Theory.SoundSteps.{step-beyond}
@@ -180,10 +181,6 @@ put-second : (as′ : List ℕ) (k : ℕ) (a : Answer) → suc k < length as′ 
 put-second as′ k a h = getD-set-same (set as′ k (answerWords a .0)) (suc k) (answerWords a .1) 0 (omega (arith, length-set as′ k (answerWords a .0)))
 
 -- ---- lists joined
-
-map-append : {A B : Type 0} (f : A → B) (xs ys : List A) → map f (xs ++ ys) ≡ map f xs ++ map f ys
-map-append f [] ys = refl
-map-append f (x ∷ xs) ys = ap (λ z. f x ∷ z) (map-append f xs ys)
 
 length-free : (ds : List Decoded) (c : Core) → length (freeAfter c ds) ≡ length ds
 length-free [] c = refl
