@@ -31,7 +31,7 @@ use Rattle.semantics.specs.Answers.{answerWords}
 use Rattle.semantics.specs.Core.{Core, stepOn}
 use Rattle.semantics.specs.Entries.{State, StartResult, fits, recordOn, wholeNodes}
 use Rattle.semantics.specs.Calls.{Start, startResult, HostCall, outside, StateAndPool, afterStart, afterCall, afterCalls, Exchange, exchangesOf, exchanges, recordsIn, answersIn, freeAfter, coreIn, freeCounts}
-use Rattle.semantics.specs.Demands.{fromStart, machineBy, plainStart, Demand2, traceOf, MainReturned, callOf, oneByOne, oneWorkerCalls, aloneStart, allAccepted, AllFree, Demand3}
+use Rattle.semantics.specs.Demands.{plainAfter, plainAnswer, fromStart, answersBy, machineBy, plainStart, Demand2, traceOf, MainReturned, callOf, oneByOne, oneWorkerCalls, aloneStart, allAccepted, AllFree, Demand3}
 use Rattle.semantics.specs.Theory.Relation.{TreeLaws, Relates, rootsOf}
 use Rattle.semantics.specs.Theory.Pools.{LiveTrees, GoodTrees, good-laws}
 use Rattle.semantics.specs.Theory.FromSoundRelates.{map-append}
@@ -87,11 +87,11 @@ keeps-and-alike M c st F =
 laws : Laws fromStart Follows
 laws = record { carried = carried; keeps = keeps; alike = alike }
   where
-    keeps : (M : Machine) (c : Core) (d : Decoded) → Follows M c → Follows (Rattle.semantics.specs.Demands.plainAfter M d) (recordOn c d .core)
+    keeps : (M : Machine) (c : Core) (d : Decoded) → Follows M c → Follows (plainAfter M d) (recordOn c d .core)
     keeps M c (Valid st) F = keeps-and-alike M c st F .0
     keeps M c Invalid F = F
 
-    alike : (M : Machine) (c : Core) (d : Decoded) → Follows M c → answerWords (recordOn c d .answer) ≡ Rattle.semantics.specs.Demands.plainAnswer M d
+    alike : (M : Machine) (c : Core) (d : Decoded) → Follows M c → answerWords (recordOn c d .answer) ≡ plainAnswer M d
     alike M c (Valid st) F = keeps-and-alike M c st F .1
     alike M c Invalid F = refl
 
@@ -221,7 +221,7 @@ module _ (b : Start) (calls : List HostCall) (parts : State) (ws : List ℕ) (wo
   answers₁-are : answersIn (exchanges (afterStart b₁) calls₁) ≡ answers (start 1 (b .values) N) (oneWorkerOf (b .workers) (b .values) N ss)
   answers₁-are =
       let ks = freeCounts (afterStart b₁) calls₁ in
-      R₁ .same ∙ ap (λ z. Rattle.semantics.specs.Demands.answersBy fromStart (plainStart b₁) z ks) fed ∙ answers-plain ones ks (plainStart b₁) (R₁ .long ∙ ap length fed) ∙ ap₂ answers start-is ones-are
+      R₁ .same ∙ ap (λ z. answersBy fromStart (plainStart b₁) z ks) fed ∙ answers-plain ones ks (plainStart b₁) (R₁ .long ∙ ap length fed) ∙ ap₂ answers start-is ones-are
 
   free-at-end : (h : StateAndPool) (M : Machine) → KeptBy Follows h M → live M ≡ [] → AllFree h
   free-at-end h M E e = subst AllFree (sym (E .held)) (all-free M (E .core) (carried M (E .core) (E .follows) .related) e)
