@@ -1,6 +1,7 @@
 -- The frame leaves its deque and its place, and the parent loses a child. The two ways out are in `proofs.Ends`.
 -- Below, the places that the answers speak of, each by its way from the next.
 use mathlib.Core.Path.{_∙_}
+use native.Mathlib.Omega.{arith}
 use borrow.Author.Needs.{needs}
 use Rattle.frames.specs.Theory.Sizes.{length-pop, size-pop}
 use Rattle.frames.specs.Theory.Records.{length-setFrame}
@@ -32,7 +33,7 @@ frame-at-requires c κs =
     let e = c .before in
     let f = freed-of e in
     let r = start-of (popped-of f) .pre in
-    (rw (f .put-frame .ensures) (length-setFrame _ _ _ ∙ r .0 .long-frames), one-of (r .1) (e .if1 .left) .0)
+    (rw (f .put-frame .ensures) (length-setFrame _ _ _ ∙ r .0 .long-frames), omega (arith, r .0 .within, one-of (r .1) (e .if1 .left) .0))
 
 return-to-requires : tie.Need-return-to-requires
 return-to-requires c κs =
