@@ -9,11 +9,12 @@ pub const MAX_FRAMES: usize = 64;
 pub const MAX_SPLITTERS: usize = 256;
 pub const MAX_NODES: usize = 16_384;
 
-const NUMBERS: usize = 5;
 const DEQUE_WORDS: usize = 1 + MAX_FRAMES;
 const FRAME_WORDS: usize = 6;
-/// R-1's order: the five numbers, the deques, the frame records.
-pub const STATE_WORDS: usize = NUMBERS + MAX_WORKERS * DEQUE_WORDS + MAX_FRAMES * FRAME_WORDS;
+pub const NUMBERS_WORDS: usize = 5;
+pub const DEQUES_WORDS: usize = MAX_WORKERS * DEQUE_WORDS;
+pub const FRAMES_WORDS: usize = MAX_FRAMES * FRAME_WORDS;
+pub const STATE_WORDS: usize = NUMBERS_WORDS + DEQUES_WORDS + FRAMES_WORDS;
 
 /// Holders (the reference count), left, right, value. A free node is 0, the next free node, 0, 0.
 pub type Node = [u32; 4];
@@ -139,22 +140,33 @@ impl State {
     }
 }
 
-pub fn to_words(state: &State) -> [u32; STATE_WORDS] {
-    let mut words = [0; STATE_WORDS];
-    let (numbers, rest) = words.split_at_mut(NUMBERS);
-    let (deques, frames) = rest.split_at_mut(MAX_WORKERS * DEQUE_WORDS);
-    numbers.copy_from_slice(&[
-        state.workers,
-        state.splitters,
-        state.nodes,
-        state.free,
-        state.vacant,
-    ]);
-    for (words, deque) in deques.chunks_exact_mut(DEQUE_WORDS).zip(&state.deques) {
+/// The state's words in R-1's order: the five numbers, the deques, the frame records.
+#[derive(Clone, Debug, PartialEq, Eq)]
+pub struct Words {
+    pub numbers: [u32; NUMBERS_WORDS],
+    pub deques: [u32; DEQUES_WORDS],
+    pub frames: [u32; FRAMES_WORDS],
+}
+
+pub fn to_words(state: &State) -> Words {
+    let mut words = Words {
+        numbers: [
+            state.workers,
+            state.splitters,
+            state.nodes,
+            state.free,
+            state.vacant,
+        ],
+        deques: [0; DEQUES_WORDS],
+        frames: [0; FRAMES_WORDS],
+    };
+    let deques = words.deques.chunks_exact_mut(DEQUE_WORDS);
+    for (words, deque) in deques.zip(&state.deques) {
         words[0] = deque.length;
         words[1..].copy_from_slice(&deque.places);
     }
-    for (words, f) in frames.chunks_exact_mut(FRAME_WORDS).zip(&state.frames) {
+    let frames = words.frames.chunks_exact_mut(FRAME_WORDS);
+    for (words, f) in frames.zip(&state.frames) {
         words.copy_from_slice(&[
             f.live,
             f.parent,
@@ -167,24 +179,23 @@ pub fn to_words(state: &State) -> [u32; STATE_WORDS] {
     words
 }
 
-pub fn from_words(words: &[u32; STATE_WORDS]) -> State {
-    let (numbers, rest) = words.split_at(NUMBERS);
-    let (deques, frames) = rest.split_at(MAX_WORKERS * DEQUE_WORDS);
+pub fn from_words(words: &Words) -> State {
+    let [workers, splitters, nodes, free, vacant] = words.numbers;
     State {
-        workers: numbers[0],
-        splitters: numbers[1],
-        nodes: numbers[2],
-        free: numbers[3],
-        vacant: numbers[4],
+        workers,
+        splitters,
+        nodes,
+        free,
+        vacant,
         deques: array::from_fn(|worker| {
-            let words = &deques[worker * DEQUE_WORDS..][..DEQUE_WORDS];
+            let words = &words.deques[worker * DEQUE_WORDS..][..DEQUE_WORDS];
             Deque {
                 length: words[0],
                 places: array::from_fn(|place| words[1 + place]),
             }
         }),
         frames: array::from_fn(|place| {
-            let words = &frames[place * FRAME_WORDS..][..FRAME_WORDS];
+            let words = &words.frames[place * FRAME_WORDS..][..FRAME_WORDS];
             Frame {
                 live: words[0],
                 parent: words[1],
