@@ -1,5 +1,6 @@
 //! Document 01's engine in plain, fast, safe Rust: path copying, reference counts, free lists, recursive release. Written from the
-//! document alone. It is what the library is compared with, and the peer it is timed against.
+//! document alone. It is what the library is compared with, and the peer it is timed against: what a tape and a single step share is
+//! inlined in both, so that each is as fast as if the other were not there.
 
 use std::array;
 
@@ -342,6 +343,7 @@ pub fn run_tape(
 }
 
 /// Refusals 5 and 6; else the number of free nodes.
+#[inline(always)]
 fn admit(state: &State, pool: &[u32], work: &mut [u32]) -> Result<u32, Refusal> {
     if work.len() < state.nodes as usize {
         return Err(Refusal::ShortWork);
@@ -395,6 +397,7 @@ impl<'a> Engine<'a> {
         }
     }
 
+    #[inline(always)]
     fn answer(&mut self, step: Option<Step>) -> (u32, u32) {
         let taken = step
             .ok_or(Refusal::BadRecord)
@@ -402,6 +405,7 @@ impl<'a> Engine<'a> {
         taken.unwrap_or_else(|refusal| (refusal as u32, 0))
     }
 
+    #[inline(always)]
     fn take(&mut self, step: Step) -> Result<(u32, u32), Refusal> {
         Ok(match step {
             Step::Spawn(worker) => (101, self.spawn(worker)?),
@@ -426,6 +430,7 @@ impl<'a> Engine<'a> {
     }
 
     /// The child's depth.
+    #[inline(always)]
     fn spawn(&mut self, worker: u32) -> Result<u32, Refusal> {
         let bottom = self.bottom(worker)?;
         let place = self.state.vacant;
@@ -450,6 +455,7 @@ impl<'a> Engine<'a> {
     }
 
     /// A return's outcome.
+    #[inline(always)]
     fn end(&mut self, worker: u32) -> Result<u32, Refusal> {
         let bottom = self.bottom(worker)?;
         let frame = self.state.frames[bottom];
@@ -479,6 +485,7 @@ impl<'a> Engine<'a> {
     }
 
     /// The stolen frame's depth.
+    #[inline(always)]
     fn steal(&mut self, thief: u32, victim: u32) -> Result<u32, Refusal> {
         match self.bottom(thief) {
             Ok(_) => return Err(Refusal::ThiefBusy),
@@ -494,6 +501,7 @@ impl<'a> Engine<'a> {
     }
 
     /// A sync's outcome. A bottom frame with a live child is alone in its deque.
+    #[inline(always)]
     fn sync(&mut self, worker: u32) -> Result<u32, Refusal> {
         let bottom = self.bottom(worker)?;
         let frame = &mut self.state.frames[bottom];
@@ -505,6 +513,7 @@ impl<'a> Engine<'a> {
         Ok(1)
     }
 
+    #[inline(always)]
     fn read(&mut self, worker: u32, splitter: u32) -> Result<u32, Refusal> {
         let bottom = self.bottom(worker)?;
         if splitter >= self.state.splitters {
@@ -519,6 +528,7 @@ impl<'a> Engine<'a> {
     }
 
     /// The free nodes left.
+    #[inline(always)]
     fn write(&mut self, worker: u32, splitter: u32, value: u32) -> Result<u32, Refusal> {
         let bottom = self.bottom(worker)?;
         if splitter >= self.state.splitters {
@@ -534,6 +544,7 @@ impl<'a> Engine<'a> {
     }
 
     /// A new path from the root to the splitter, beside the old siblings; its root.
+    #[inline(always)]
     fn copy_path(&mut self, root: u32, splitter: u32, value: u32) -> u32 {
         let new_root = self.allocate();
         let (mut old, mut new) = (root, new_root);
@@ -590,6 +601,7 @@ impl<'a> Engine<'a> {
 
 /// Soundness, in time linear in the nodes: the number of free nodes if state and pool are sound. `work` has at least a word for each
 /// recorded node; these words are zero afterwards.
+#[inline(always)]
 pub fn sound(state: &State, pool: &[u32], work: &mut [u32]) -> Option<u32> {
     let marks = &mut work[..state.nodes as usize];
     marks.fill(0);
@@ -598,6 +610,7 @@ pub fn sound(state: &State, pool: &[u32], work: &mut [u32]) -> Option<u32> {
     free_nodes
 }
 
+#[inline(always)]
 fn judge(state: &State, pool: &[u32], marks: &mut [u32]) -> Option<u32> {
     let (nodes, _) = pool.as_chunks::<4>();
     if !numbers_sound(state, nodes.len()) || !frames_sound(state) {
