@@ -6,8 +6,7 @@ use mathlib.Core.Logic.{inl, inr}
 use mathlib.Core.List.{List, [], _∷_, _++_}
 use Prim.Native.Nat.{ℕ, zero, suc, _+_, _*_, _/_, _%_, _≤_, _<_}
 use native.Mathlib.Omega.{arith}
-use lib.ListN.{length, getD, set, drop, length-set, length-append}
-use lib.Seq.{getD-set-same, getD-set-other}
+use lib.ListN.{length, getD, length-append}
 use lib.Dec.{leb, ltb, eqb}
 use borrow.Author.Tests.{ltb-false}
 use Rattle.words.specs.Tests.{decided, neither}
@@ -30,9 +29,10 @@ use Rattle.semantics.specs.Theory.Pools.{Beyond}
 use Rattle.semantics.specs.Theory.FromSoundRelates.{map-append}
 use Rattle.semantics.specs.Theory.Simulation.{numbers-kept}
 use Rattle.semantics.specs.Theory.SoundSteps.{step-beyond, Carried, is-sound}
-use Rattle.semantics.specs.Theory.Lengths.{Fits, fits-true}
+use Rattle.semantics.specs.Promises.{Fits}
+use Rattle.semantics.specs.Theory.Fitting.{fits-true}
 use Rattle.semantics.specs.Theory.Words.{words-low, words-back, not-whole}
-use Rattle.semantics.specs.Theory.RefusedCalls.{length-records, put-long}
+use Rattle.semantics.specs.Theory.TapeWords.{length-records, records-from, put-long, put-before, put-first, put-second}
 
 -- ---- a core that the machine M follows
 
@@ -146,21 +146,6 @@ module _ {M : Machine} {c : Core} (K : Carried M c) where
 
   tape-not : (bytes work as′ : List ℕ) → unfitTape bytes as′ ≡ true → called (stateAndPool c) (tape bytes work as′) ≡ (stateAndPool c, [])
   tape-not bytes work as′ t = ap (tapeTold bytes) (tape-unfit K bytes work as′ t)
-
--- ---- the answer words of a tape
-
-records-from : (as′ : List ℕ) (k : ℕ) (ds : List Decoded) → recordsIn (exchangesFrom as′ k ds) ≡ ds
-records-from as′ k [] = refl
-records-from as′ k (d ∷ ds) = ap (λ z. d ∷ z) (records-from as′ (k + 2) ds)
-
-put-before : (as′ : List ℕ) (k j : ℕ) (a : Answer) → j < k → getD (putAnswer as′ k a) j 0 ≡ getD as′ j 0
-put-before as′ k j a h = getD-set-other (set as′ k (answerWords a .0)) (suc k) j (answerWords a .1) 0 (omega arith) ∙ getD-set-other as′ k j (answerWords a .0) 0 (omega arith)
-
-put-first : (as′ : List ℕ) (k : ℕ) (a : Answer) → suc k < length as′ → getD (putAnswer as′ k a) k 0 ≡ answerWords a .0
-put-first as′ k a h = getD-set-other (set as′ k (answerWords a .0)) (suc k) k (answerWords a .1) 0 (omega arith) ∙ getD-set-same as′ k (answerWords a .0) 0 (omega arith)
-
-put-second : (as′ : List ℕ) (k : ℕ) (a : Answer) → suc k < length as′ → getD (putAnswer as′ k a) (suc k) 0 ≡ answerWords a .1
-put-second as′ k a h = getD-set-same (set as′ k (answerWords a .0)) (suc k) (answerWords a .1) 0 (omega (arith, length-set as′ k (answerWords a .0)))
 
 -- ---- lists joined
 

@@ -23,7 +23,7 @@ use Rattle.semantics.specs.Calls.{HostCall, StateAndPool, coreIn}
 use Rattle.semantics.specs.Demands.{plainAfter, plainAnswer, withFree, fromSound, plainOf, SoundRun}
 use Rattle.semantics.specs.Theory.Refusals.{number-range}
 use Rattle.semantics.specs.Theory.SoundSteps.{Carried, is-sound, sound-carried, rebased, simulated, step-carried}
-use Rattle.semantics.specs.Theory.Lengths.{true-fits, state-back}
+use Rattle.semantics.specs.Theory.Fitting.{true-fits, state-back}
 use Rattle.semantics.specs.Theory.Runs.{freeLeft, Laws, answers-by}
 
 -- ---- a write's answer is the engine's own number of free nodes
