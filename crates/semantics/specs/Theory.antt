@@ -39,10 +39,12 @@ pub mod ToSoundDeques
 pub mod ToSoundFrames
 pub mod ToSound
 -- ---- runs
--- the lengths of a state's parts
+-- a state whose parts have their lengths; every entry leaves one
+pub mod Fitting
 pub mod Lengths
--- answer words
+-- answer words, of one record and of a tape
 pub mod Words
+pub mod TapeWords
 -- when a start is accepted
 pub mod Starts
 pub mod StartRelates
