@@ -14,7 +14,7 @@ use Rattle.frames.specs.Deques.{size, setSize, place, setPlace, bottom, top, pu
 use Rattle.frames.specs.Steps.{Table, spawn, steal, sync}
 use Rattle.soundness.specs.Numbers.{numbersIn}
 use Rattle.soundness.specs.Soundness.{oneMain, parentsLive, countsRight, placedOnce, holdLive, absentEmpty, restZero, linked, onlyBelow, placesFree, treeAt, nodesAt, rootsBelow}
-use Rattle.soundness.specs.Soundness.{Sentence, words, holds, sentences}
+use Rattle.soundness.specs.Soundness.{Sentence, words, holds, numberSentences, sentences}
 
 -- ---- sound states
 
@@ -280,3 +280,12 @@ frames-computed = refl
 pools-computed : map found poolRows ≡ map said poolRows
 unfolding table start stolen waiting stacked grown ended three with setNumber setDeques setField setPool changed _but_ _alone_ poolRows failing failingIn found said bottom top pop shiftUp dropTop spawn steal sync initPool initFree initLeaves initInner initLevel setNode height width treeNodes initDeques push setSize setPlace size place initFrames initPlaces setFrame frameAt rootsBelow oneMain parentsLive countsRight placedOnce holdLive absentEmpty restZero linked onlyBelow placesFree treeAt nodesAt refcount left right value δ count
 pools-computed = refl
+
+-- the two that need many nodes, 521 (which is T(257)) and 16,385: of the numbers' sentences this one alone is false; the sentences
+-- on trees are not computed
+few : List ℕ → ℕ → List String
+few ks N = failing (numberSentences (numbersIn ks) (replicate (4 * N) 0))
+
+many-computed : (few (2 ∷ 257 ∷ 521 ∷ 0 ∷ 0 ∷ []) 521 ≡ ".. to 256." ∷ []) × (few (2 ∷ 2 ∷ 16385 ∷ 0 ∷ 0 ∷ []) 16385 ≡ ".. to 16,384" ∷ [])
+unfolding few failing height width treeNodes
+many-computed = (refl, refl)
