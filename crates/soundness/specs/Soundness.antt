@@ -221,15 +221,16 @@ sentences s ds fs ws =
     (frameSentences (s .workers) (s .«free_place») ds fs ++
     poolSentences (s .splitters) (s .nodes) ws (s .«free_node») (liveRoots fs))
 
--- "State and pool are sound if all of this is true.": the sentences of its three parts, which are all of `sentences`
--- (Theory.Lists)
+abbrev pub soundParts : Numbers → List ℕ → List ℕ → List ℕ → List Sentence
+soundParts s ds fs ws =
+    says "numbers" (numbersSound s ws) ∷
+    says "frames and deques" (framesSound (s .workers) (s .«free_place») ds fs) ∷
+    says "trees" (poolSound (s .splitters) (s .nodes) ws (s .«free_node») (liveRoots fs)) ∷
+    []
+
+-- "State and pool are sound if all of this is true.": the three parts, which are all the sentences (Theory.Sentences.sound-is-all)
 unfoldable pub sound : Numbers → List ℕ → List ℕ → List ℕ → Bool
-sound s ds fs ws =
-    allOf (
-      says "numbers" (numbersSound s ws) ∷
-      says "frames and deques" (framesSound (s .workers) (s .«free_place») ds fs) ∷
-      says "trees" (poolSound (s .splitters) (s .nodes) ws (s .«free_node») (liveRoots fs)) ∷
-      [])
+sound s ds fs ws = allOf (soundParts s ds fs ws)
 
 -- the free nodes, counted on the chain
 abbrev pub freeCount : Numbers → List ℕ → ℕ

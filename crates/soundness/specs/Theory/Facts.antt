@@ -8,18 +8,17 @@ use native.Mathlib.Omega.{arith}
 use native.Mathlib.Decide.{ℕ-discrete}
 use lib.ListN.{length}
 use lib.Dec.{eqb}
-use borrow.Author.Tests.{eqb-true, eq-eqb, ne-eqb}
+use borrow.Author.Tests.{eq-eqb, ne-eqb}
 use Rattle.words.specs.Basics.{none, sum, howMany, δ, count}
-use Rattle.words.specs.Tests.{both}
 use Rattle.words.specs.Counting.{δ-same, δ-other, count-nil, count-cons, sum-cong, hit, miss}
 use Rattle.sizes.specs.Sizes.{treeNodes}
 use Rattle.frames.specs.Frames.{frameAt, freePlace}
 use Rattle.frames.specs.Deques.{size, place}
 use Rattle.frames.specs.Theory.Lists.{placesTo, dequeList}
 use Rattle.frames.specs.Theory.Places.{FreePlaces}
 use Rattle.soundness.specs.declared.Numbers.{Numbers}
-use Rattle.soundness.specs.Soundness.{lives, isChild, children, inDeques, poolSound, liveRoots}
-use Rattle.semantics.specs.Theory.FreeLists.{and-of}
+use Rattle.soundness.specs.Theory.Is.{Is, eq-is, and-is}
+use Rattle.soundness.specs.Soundness.{isChild, children, inDeques, poolSound, liveRoots}
 
 -- ---- terms
 
@@ -43,11 +42,14 @@ unfolding dequeList
 stands-is ds p = sum-cong 8 (λ w. howMany (size ds w) (λ k. eqb (place ds w k) p)) (λ w. count p (dequeList ds w)) (λ w b. places-count (size ds w) ds w p)
 
 -- c is a live child of the frame at p
+pub child-is : (fs : List ℕ) (p c : ℕ) → Is (isChild fs p c) (Lives fs c × (frameAt fs c .parent ≡ p))
+child-is fs p c = and-is (eq-is (frameAt fs c .live) 1) (eq-is (frameAt fs c .parent) p)
+
 pub child-at : (fs : List ℕ) (p c : ℕ) → isChild fs p c ≡ true → Lives fs c × (frameAt fs c .parent ≡ p)
-child-at fs p c e = (let r = both (lives fs c) (eqb (frameAt fs c .parent) p) e in (eqb-true (frameAt fs c .live) 1 (r .0), eqb-true (frameAt fs c .parent) p (r .1)))
+child-at fs p c = child-is fs p c .fact
 
 pub at-child : (fs : List ℕ) (p c : ℕ) → Lives fs c → frameAt fs c .parent ≡ p → isChild fs p c ≡ true
-at-child fs p c l e = and-of (lives fs c) (eqb (frameAt fs c .parent) p) (eq-eqb (frameAt fs c .live) 1 l) (eq-eqb (frameAt fs c .parent) p e)
+at-child fs p c l e = child-is fs p c .test (l, e)
 
 -- ---- the facts
 
