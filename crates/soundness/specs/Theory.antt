@@ -8,3 +8,5 @@ pub mod FreeLists
 pub mod Facts
 -- each test is its fact
 pub mod Sentences
+-- and the sentences on trees
+pub mod PoolSentences

@@ -27,7 +27,7 @@ use Rattle.model.specs.Theory.PoolBound.{inUse-main}
 use Rattle.semantics.specs.Core.{Core}
 use Rattle.semantics.specs.Theory.Relation.{childCount, rootsOf, placesOf, Recorded, Relates}
 use Rattle.semantics.specs.Theory.Pools.{LiveTrees}
-use Rattle.semantics.specs.Theory.Sentences.{Lives, FramesFacts, SoundFacts, sound-facts}
+use Rattle.soundness.specs.Theory.Sentences.{Lives, FramesFacts, SoundFacts, sound-facts}
 use Rattle.semantics.specs.Theory.PoolSentences.{pool-live}
 use Rattle.semantics.specs.SoundMachine.{nameOf, placeOf, frameOf, framesOf, waitingPlaces, runningPlaces, livePlaces, machineOf, coreWith}
 use Rattle.semantics.specs.Theory.FromSoundNames.{Rooted, rooted-facts, length-name, place-name, parent-name}
