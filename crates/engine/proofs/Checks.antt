@@ -1,5 +1,5 @@
--- The check's ways out, and those of the entries at a state, over plain variables.
-use mathlib.Core.Path.{_≡_, refl, sym, ap, _∙_}
+-- The check's ways out, and a tape's, over plain variables.
+use mathlib.Core.Path.{_≡_, refl, sym, ap, subst, _∙_}
 use mathlib.Core.Bool.{Bool, true, false, cond, not, _&&_}
 use mathlib.Core.List.{List, []}
 use Prim.Native.Nat.{ℕ, _*_, _/_, _%_, _≤_, _<_}
@@ -16,21 +16,17 @@ use Rattle.soundness.specs.Soundness.{numbersSound, framesSound, poolSound, liv
 use Rattle.pool_check.specs.declared.PoolChecked.{PoolChecked}
 use Rattle.pool_check.specs.declared.PoolChecked.the-variants.{Bad, Good}
 use Rattle.pool_check.specs.Answer.{poolChecked}
-use Rattle.model.specs.declared.Decoded.{Decoded}
-use Rattle.model.specs.declared.Step.{Step}
-use Rattle.semantics.specs.declared.State.{State}
+use Rattle.frames.specs.Widths.{frameWords, dequeWords}
+use Rattle.soundness.specs.Numbers.{numbersIn, numberWords}
 use Rattle.semantics.specs.declared.Head.{Head}
-use Rattle.semantics.specs.declared.Refusal.{Refusal}
-use Rattle.semantics.specs.declared.Refusal.the-variants.{Tape, Work}
-use Rattle.semantics.specs.declared.Answer.{Answer}
-use Rattle.semantics.specs.declared.Answer.the-variants.{Refused}
-use Rattle.semantics.specs.declared.Call.{Call}
-use Rattle.semantics.specs.declared.Call.the-variants.{Taken, Denied}
-use Rattle.semantics.specs.Core.{stepResult, stepOn}
-use Rattle.semantics.specs.Entries.{Entered, Played, numbersOf, headOf, coreOf, stateOf, enter, stepChecked, play, tapeChecked, unfitTape, ran, runOn, recordsOf}
+use Rattle.semantics.specs.declared.Refusal.the-variants.{Tape}
+use Rattle.semantics.specs.Answers.{refusalNumber}
+use Rattle.semantics.specs.Entries.{State, headOf, coreOf, TapeResult, tapeDone, tapeChecked, tapeWith, unfitTape, recordsResult, runOn, recordsOf}
+use Rattle.semantics.specs.Promises.{parts, IsTape}
+use Rattle.semantics.specs.Ranges.{Kept}
 use Rattle.semantics.specs.Theory.WorkSlice.{checked-room, no-room-keeps}
-use Rattle.semantics.specs.Theory.Kept.{Kept, kept-start}
-use Rattle.engine.specs.Promises.{core, IsStep, IsTape}
+use Rattle.semantics.specs.Theory.Kept.{kept-start}
+use Rattle.engine.specs.Promises.{core, checkNumber}
 
 -- ---- the check
 
@@ -73,19 +69,19 @@ module _ (s : Numbers) (ds fs ws ks : List ℕ) where
   unfolding checked cleared
   no-room l = (rw (lt-leb (s .nodes) (length ks) l), rw (lt-leb (s .nodes) (length ks) l))
 
-  module _ (room : s .nodes ≤ length ks) (b : Bool) (eb : b ≡ (numbersSound s ws && framesSound (s .workers) (s .vacant) ds fs)) (ks′ : List ℕ) where
+  module _ (room : s .nodes ≤ length ks) (b : Bool) (eb : b ≡ (numbersSound s ws && framesSound (s .workers) (s .«free_place») ds fs)) (ks′ : List ℕ) where
     pub tables-unsound : b ≡ false → ks′ ≡ cleared (s .nodes) ks → Checks s ds fs ws ks ks′ Checked.Unsound
     unfolding sound
     tables-unsound f ek =
-        let u : sound s ds fs ws ≡ false = unsound-first (numbersSound s ws) (framesSound (s .workers) (s .vacant) ds fs) _ (sym eb ∙ f) in
+        let u : sound s ds fs ws ≡ false = unsound-first (numbersSound s ws) (framesSound (s .workers) (s .«free_place») ds fs) _ (sym eb ∙ f) in
         (ek, sym (checked-room s ds fs ws ks (le-leb (s .nodes) (length ks) room) ∙ ap (λ t. cond t (Sound (freeCount s ws)) Checked.Unsound) u))
 
-    module _ (t : b ≡ true) (a : PoolChecked) (ea : (ks′ ≡ cleared (s .nodes) ks) × (a ≡ poolChecked (s .splitters) (s .nodes) (s .free) fs ws ks)) where
+    module _ (t : b ≡ true) (a : PoolChecked) (ea : (ks′ ≡ cleared (s .nodes) ks) × (a ≡ poolChecked (s .splitters) (s .nodes) (s .«free_node») fs ws ks)) where
       abbrev trees : Bool
-      trees = poolSound (s .splitters) (s .nodes) ws (s .free) (liveRoots fs)
+      trees = poolSound (s .splitters) (s .nodes) ws (s .«free_node») (liveRoots fs)
 
-      sound-tables : (numbersSound s ws ≡ true) × (framesSound (s .workers) (s .vacant) ds fs ≡ true)
-      sound-tables = both (numbersSound s ws) (framesSound (s .workers) (s .vacant) ds fs) (sym eb ∙ t)
+      sound-tables : (numbersSound s ws ≡ true) × (framesSound (s .workers) (s .«free_place») ds fs ≡ true)
+      sound-tables = both (numbersSound s ws) (framesSound (s .workers) (s .«free_place») ds fs) (sym eb ∙ t)
 
       sound-is : sound s ds fs ws ≡ trees
       unfolding sound
@@ -106,90 +102,56 @@ module _ (s : Numbers) (ds fs ws ks : List ℕ) where
       pub all-sound : (free : ℕ) → a ≡ Good free → Checks s ds fs ws ks ks′ (Sound free)
       all-sound free e = (ea .0, good trees (freeCount s ws) free (sym e ∙ answer-is) ∙ sym check-is)
 
-pub checks-state : (s : State) (n : Numbers) (ws ks ks′ : List ℕ) (k : Checked) → n ≡ numbersOf s
-    → Checks n (s .deques) (s .frames) ws ks ks′ k → Checks (numbersOf s) (s .deques) (s .frames) ws ks ks′ k
-checks-state s n ws ks ks′ k e h = rw e at h
+-- ---- a tape over parts that have their lengths
 
--- ---- a step and a tape at a sound state
-
-pub state-after : (g h : Head) (ds fs : List ℕ) (s : State) → s ≡ stateOf (core g ds fs []) → g ≡ h → s ≡ stateOf (core h ds fs [])
-state-after g h ds fs s e eg = e ∙ ap (λ (k : Head). stateOf (core k ds fs [])) eg
-
--- the check found the state sound
-pub found-sound : (s : State) (ws ks ks′ : List ℕ) (k : Checked) (free : ℕ) → length (s .deques) ≡ 520 → length (s .frames) ≡ 384
-    → Checks (numbersOf s) (s .deques) (s .frames) ws ks ks′ k → k ≡ Sound free → Kept (coreOf s ws free)
-found-sound s ws ks ks′ k free ed ef ek e = kept-start s ws ks free ed ef (sym e ∙ ek .1)
+-- the check found the parts sound
+pub found-sound : (s : Numbers) (ds fs ws ks ks′ : List ℕ) (k : Checked) (free : ℕ) (h : Head) → length ds ≡ dequeWords → length fs ≡ frameWords
+    → Checks s ds fs ws ks ks′ k → k ≡ Sound free → h ≡ headOf s free → Kept (core h ds fs ws)
+found-sound s ds fs ws ks ks′ k free h ed ef ek e eh = subst (λ (g : Head). Kept (core g ds fs ws)) (sym eh) (kept-start s ds fs ws ks free ed ef (sym e ∙ ek .1))
 
 -- a tape that fits has room for its answers
 pub fit-answers : (bytes rs : List ℕ) (b : Bool) → b ≡ unfitTape bytes rs → b ≡ false → 2 * (length bytes / 8) ≤ length rs
 fit-answers bytes rs b e f = ge-of (neither (not (eqb (length bytes % 8) 0)) (ltb (length rs) (2 * (length bytes / 8))) (sym e ∙ f) .1)
 
-module _ (s : State) (free : ℕ) (ws : List ℕ) (hd h′ : Head) (ds′ fs′ ws′ : List ℕ) (s′ : State) (eh : hd ≡ headOf s free) (es : s′ ≡ stateOf (core h′ ds′ fs′ [])) where
-  pub stepped : (st : Step) (a : Answer) → stepResult h′ ds′ fs′ ws′ a ≡ stepOn (core hd (s .deques) (s .frames) ws) st
-      → (s′ ≡ stateOf (stepOn (coreOf s ws free) st .core)) × (ws′ ≡ stepOn (coreOf s ws free) st .core .pool) × (a ≡ stepOn (coreOf s ws free) st .answer)
-  stepped st a eo =
-      let o : stepResult h′ ds′ fs′ ws′ a ≡ stepOn (coreOf s ws free) st = eo ∙ ap (λ g. stepOn (core g (s .deques) (s .frames) ws) st) eh in
-      (es ∙ ap (λ d. stateOf (d .core)) o, ap (λ d. d .core .pool) o, ap (λ d. d .answer) o)
+abbrev result : State → List ℕ → List ℕ → List ℕ → ℕ → TapeResult
+result s ws ks rs r = record { state = s; pool = ws; work = ks; answers = rs; result = r }
 
-  pub taped : (ds : List Decoded) (rs rs′ : List ℕ) → ran (core h′ ds′ fs′ ws′) rs′ ≡ runOn (ran (core hd (s .deques) (s .frames) ws) rs) 0 ds
-      → (s′ ≡ stateOf (runOn (ran (coreOf s ws free) rs) 0 ds .core)) × (ws′ ≡ runOn (ran (coreOf s ws free) rs) 0 ds .core .pool) × (rs′ ≡ runOn (ran (coreOf s ws free) rs) 0 ds .answers)
-  taped ds rs rs′ eo =
-      let o : ran (core h′ ds′ fs′ ws′) rs′ ≡ runOn (ran (coreOf s ws free) rs) 0 ds = eo ∙ ap (λ g. runOn (ran (core g (s .deques) (s .frames) ws) rs) 0 ds) eh in
-      (es ∙ ap (λ d. stateOf (d .core)) o, ap (λ d. d .core .pool) o, ap (λ d. d .answers) o)
+by-result : (o : TapeResult) (ns ds fs ws ks rs : List ℕ) (r : ℕ) → result (parts ns ds fs) ws ks rs r ≡ o → IsTape o ns ds fs ws ks rs r
+by-result o ns ds fs ws ks rs r e =
+    record { result = ap (λ q. q .result) e; state = ap (λ q. q .state) e; pool = ap (λ q. q .pool) e; work = ap (λ q. q .work) e; answers = ap (λ q. q .answers) e }
 
--- ---- the entries
+module _ (ns ds fs ws ks bytes rs : List ℕ) (b : Bool) (eb : b ≡ unfitTape bytes rs) where
+  abbrev s : State
+  s = parts ns ds fs
 
-abbrev leaves : State → List ℕ → List ℕ → Answer → Entered
-leaves s ws ks a = record { state = s; pool = ws; work = ks; answer = a }
+  pub tape-unfit : (r : ℕ) → b ≡ true → r ≡ refusalNumber Tape → IsTape (tapeWith (parts ns ds fs) ws ks bytes rs) ns ds fs ws ks rs r
+  unfolding tapeWith
+  tape-unfit r t er = rw (sym eb ∙ t, er) (by-result _ ns ds fs ws ks rs (refusalNumber Tape) refl)
 
-abbrev tapeLeaves : State → List ℕ → List ℕ → List ℕ → Call → Played
-tapeLeaves s ws ks rs a = record { state = s; pool = ws; work = ks; answers = rs; call = a }
+  module _ (fit : b ≡ false) (n : Numbers) (en : n ≡ numbersIn ns) (k : Checked) (ks′ : List ℕ) (ek : Checks n ds fs ws ks ks′ k) where
+    checks : Checks (numbersIn ns) ds fs ws ks ks′ k
+    checks = rw en at ek
 
-pub tape-unfit : (s : State) (ws ks bytes rs : List ℕ) (b : Bool) → b ≡ unfitTape bytes rs → b ≡ true → IsTape s ws ks bytes rs s ws ks rs (Denied Tape)
-unfolding play
-tape-unfit s ws ks bytes rs b e t =
-    let u : unfitTape bytes rs ≡ true = sym e ∙ t in
-    record { result = rw u; state = rw u; pool = rw u; work = rw u; answers = rw u }
+    -- the tape is what the check's answer says
+    by-check : (o : TapeResult) → o ≡ tapeChecked k s ws ks bytes rs → o ≡ tapeWith s ws ks bytes rs
+    unfolding tapeWith
+    by-check o e = rw (sym eb ∙ fit) (e ∙ ap (λ (j : Checked). tapeChecked j s ws ks bytes rs) (checks .1))
 
-module _ (s : State) (ws ks ks′ : List ℕ) (k : Checked) (ek : Checks (numbersOf s) (s .deques) (s .frames) ws ks ks′ k) where
-  kept : k ≡ NoRoom → ks′ ≡ ks
-  kept e = ek .0 ∙ no-room-keeps (numbersOf s) (s .deques) (s .frames) ws ks (sym (ek .1) ∙ e)
+    refused-by : (j : Checked) → k ≡ j → (r : ℕ) → r ≡ checkNumber k → ((free : ℕ) → k ≡ Sound free → ⊥) → result s ws ks′ rs r ≡ tapeChecked k s ws ks bytes rs
+    refused-by NoRoom e r er no =
+        let kept : ks′ ≡ ks = checks .0 ∙ no-room-keeps (numbersIn ns) ds fs ws ks (sym (checks .1) ∙ e) in
+        rw (er, e, kept)
+    refused-by Checked.Unsound e r er no = rw (er, e, checks .0)
+    refused-by (Sound free) e r er no = absurd (no free e)
 
-  module _ (st : Step) where
-    by-step : (s′ : State) (ws′ : List ℕ) (a : Answer) → leaves s′ ws′ ks′ a ≡ stepChecked k s ws ks st → IsStep s ws ks st s′ ws′ ks′ a
-    unfolding enter
-    by-step s′ ws′ a e =
-        let o : leaves s′ ws′ ks′ a ≡ enter s ws ks st = e ∙ ap (λ j. stepChecked j s ws ks st) (ek .1) in
-        record { result = ap (λ q. q .answer) o; state = ap (λ q. q .state) o; pool = ap (λ q. q .pool) o; work = ap (λ q. q .work) o }
+    pub tape-refused : (r : ℕ) → r ≡ checkNumber k → ((free : ℕ) → k ≡ Sound free → ⊥) → IsTape (tapeWith (parts ns ds fs) ws ks bytes rs) ns ds fs ws ks′ rs r
+    tape-refused r er no = by-result _ ns ds fs ws ks′ rs r (by-check (result s ws ks′ rs r) (refused-by k refl r er no))
 
-    pub step-no-room : k ≡ NoRoom → IsStep s ws ks st s ws ks′ (Refused Work)
-    step-no-room e = by-step s ws (Refused Work) (rw (e, kept e))
-
-    pub step-unsound : k ≡ Checked.Unsound → IsStep s ws ks st s ws ks′ (Refused Refusal.Unsound)
-    step-unsound e = by-step s ws (Refused Refusal.Unsound) (rw (e, ek .0))
-
-    pub step-taken : (free : ℕ) (s′ : State) (ws′ : List ℕ) (a : Answer) → k ≡ Sound free
-        → (s′ ≡ stateOf (stepOn (coreOf s ws free) st .core)) × (ws′ ≡ stepOn (coreOf s ws free) st .core .pool) × (a ≡ stepOn (coreOf s ws free) st .answer)
-        → IsStep s ws ks st s′ ws′ ks′ a
-    step-taken free s′ ws′ a e o = by-step s′ ws′ a (rw (e, ek .0, o .0, o .1, o .2))
-
-  module _ (bytes rs : List ℕ) (b : Bool) (eb : b ≡ unfitTape bytes rs) (fit : b ≡ false) where
-    by-tape : (s′ : State) (ws′ rs′ : List ℕ) (a : Call) → tapeLeaves s′ ws′ ks′ rs′ a ≡ tapeChecked k s ws ks bytes rs → IsTape s ws ks bytes rs s′ ws′ ks′ rs′ a
-    unfolding play
-    by-tape s′ ws′ rs′ a e =
-        let u : unfitTape bytes rs ≡ false = sym eb ∙ fit in
-        let p : tapeChecked k s ws ks bytes rs ≡ play s ws ks bytes rs = rw u (ap (λ j. tapeChecked j s ws ks bytes rs) (ek .1)) in
-        let o : tapeLeaves s′ ws′ ks′ rs′ a ≡ play s ws ks bytes rs = e ∙ p in
-        record { result = ap (λ q. q .call) o; state = ap (λ q. q .state) o; pool = ap (λ q. q .pool) o; work = ap (λ q. q .work) o; answers = ap (λ q. q .answers) o }
-
-    pub tape-no-room : k ≡ NoRoom → IsTape s ws ks bytes rs s ws ks′ rs (Denied Work)
-    tape-no-room e = by-tape s ws rs (Denied Work) (rw (e, kept e))
-
-    pub tape-unsound : k ≡ Checked.Unsound → IsTape s ws ks bytes rs s ws ks′ rs (Denied Refusal.Unsound)
-    tape-unsound e = by-tape s ws rs (Denied Refusal.Unsound) (rw (e, ek .0))
-
-    pub tape-taken : (free : ℕ) (s′ : State) (ws′ rs′ : List ℕ) → k ≡ Sound free
-        → (s′ ≡ stateOf (runOn (ran (coreOf s ws free) rs) 0 (recordsOf bytes) .core))
-        × (ws′ ≡ runOn (ran (coreOf s ws free) rs) 0 (recordsOf bytes) .core .pool) × (rs′ ≡ runOn (ran (coreOf s ws free) rs) 0 (recordsOf bytes) .answers)
-        → IsTape s ws ks bytes rs s′ ws′ ks′ rs′ Taken
-    tape-taken free s′ ws′ rs′ e o = by-tape s′ ws′ rs′ Taken (rw (e, ek .0, o .0, o .1, o .2))
+    pub tape-done : (free : ℕ) (h h′ : Head) (ns′ ds′ fs′ ws′ rs′ : List ℕ) → k ≡ Sound free → h ≡ headOf n free
+        → recordsResult (core h′ ds′ fs′ ws′) rs′ ≡ runOn (recordsResult (core h ds fs ws) rs) 0 (recordsOf bytes)
+        → ns′ ≡ numberWords (h′ .numbers) → IsTape (tapeWith (parts ns ds fs) ws ks bytes rs) ns′ ds′ fs′ ws′ ks′ rs′ 0
+    tape-done free h h′ ns′ ds′ fs′ ws′ rs′ e eh er en′ =
+        let o : recordsResult (core h′ ds′ fs′ ws′) rs′ ≡ runOn (recordsResult (coreOf s ws free) rs) 0 (recordsOf bytes) =
+            er ∙ ap (λ (g : Head). runOn (recordsResult (core g ds fs ws) rs) 0 (recordsOf bytes)) (eh ∙ ap (λ (m : Numbers). headOf m free) en) in
+        let d : tapeDone (recordsResult (core h′ ds′ fs′ ws′) rs′) (cleared (numbersIn ns .nodes) ks) ≡ tapeChecked k s ws ks bytes rs = rw e (ap (λ q. tapeDone q (cleared (numbersIn ns .nodes) ks)) o) in
+        by-result _ ns′ ds′ fs′ ws′ ks′ rs′ 0 (by-check _ (rw (en′, checks .0) d))

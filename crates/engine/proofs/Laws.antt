@@ -41,43 +41,43 @@ all-none f n h = let z : n ≡ 0 = omega arith in ap (λ (k : ℕ). all k f) z
 
 module _ (h : Head) (ds : List ℕ) where
   abbrev idles : Bool
-  idles = all (h .workers) (λ w. eqb (size ds w) 0)
+  idles = all (h .numbers .workers) (λ w. eqb (size ds w) 0)
 
   -- a worker that is not idle
-  busy : (w n : ℕ) → w < h .workers → n ≡ size ds w → (n ≡ 0 → ⊥) → idles ≡ false
-  busy w n l e z = all-not (h .workers) (λ v. eqb (size ds v) 0) w l (ne-eqb (size ds w) 0 (λ q. z (e ∙ q)))
+  busy : (w n : ℕ) → w < h .numbers .workers → n ≡ size ds w → (n ≡ 0 → ⊥) → idles ≡ false
+  busy w n l e z = all-not (h .numbers .workers) (λ v. eqb (size ds v) 0) w l (ne-eqb (size ds w) 0 (λ q. z (e ∙ q)))
 
   module _ (w : ℕ) where
-    pub acting-no-worker : h .workers ≤ w → Refuse NoWorker ≡ verdict (actingTests (core h ds [] []) w)
-    acting-no-worker l = rw (le-ltb w (h .workers) l)
+    pub acting-no-worker : h .numbers .workers ≤ w → verdict (actingTests (core h ds [] []) w) ≡ Refuse NoWorker
+    acting-no-worker l = rw (le-ltb w (h .numbers .workers) l)
 
-    pub acting-passes : (n : ℕ) → w < h .workers → n ≡ size ds w → (n ≡ 0 → ⊥) → Pass ≡ verdict (actingTests (core h ds [] []) w)
-    acting-passes n l e z = rw (lt-ltb w (h .workers) l, busy w n l e z, ne-eqb (size ds w) 0 (λ q. z (e ∙ q)))
+    pub acting-passes : (n : ℕ) → w < h .numbers .workers → n ≡ size ds w → (n ≡ 0 → ⊥) → verdict (actingTests (core h ds [] []) w) ≡ Pass
+    acting-passes n l e z = rw (lt-ltb w (h .numbers .workers) l, busy w n l e z, ne-eqb (size ds w) 0 (λ q. z (e ∙ q)))
 
-    pub acting-main-returned : w < h .workers → idles ≡ true → Refuse MainReturned ≡ verdict (actingTests (core h ds [] []) w)
-    acting-main-returned l a = rw (lt-ltb w (h .workers) l, a)
+    pub acting-main-returned : w < h .numbers .workers → idles ≡ true → verdict (actingTests (core h ds [] []) w) ≡ Refuse MainReturned
+    acting-main-returned l a = rw (lt-ltb w (h .numbers .workers) l, a)
 
-    pub acting-idle : (n : ℕ) → w < h .workers → n ≡ size ds w → n ≡ 0 → idles ≡ false → Refuse WorkerIdle ≡ verdict (actingTests (core h ds [] []) w)
-    acting-idle n l e z a = rw (lt-ltb w (h .workers) l, a, eq-eqb (size ds w) 0 (sym e ∙ z))
+    pub acting-idle : (n : ℕ) → w < h .numbers .workers → n ≡ size ds w → n ≡ 0 → idles ≡ false → verdict (actingTests (core h ds [] []) w) ≡ Refuse WorkerIdle
+    acting-idle n l e z a = rw (lt-ltb w (h .numbers .workers) l, a, eq-eqb (size ds w) 0 (sym e ∙ z))
 
     module _ (v : ℕ) where
-      pub steal-no-worker : h .workers ≤ w → Refuse NoWorker ≡ verdict (stealTests (core h ds [] []) w v)
-      steal-no-worker l = rw (le-ltb w (h .workers) l)
+      pub steal-no-worker : h .numbers .workers ≤ w → Refuse NoWorker ≡ verdict (stealTests (core h ds [] []) w v)
+      steal-no-worker l = rw (le-ltb w (h .numbers .workers) l)
 
-      module _ (l : w < h .workers) (n : ℕ) (e : n ≡ size ds w) where
+      module _ (l : w < h .numbers .workers) (n : ℕ) (e : n ≡ size ds w) where
         pub steal-busy : (n ≡ 0 → ⊥) → Refuse ThiefBusy ≡ verdict (stealTests (core h ds [] []) w v)
-        steal-busy z = rw (lt-ltb w (h .workers) l, busy w n l e z, ne-eqb (size ds w) 0 (λ q. z (e ∙ q)))
+        steal-busy z = rw (lt-ltb w (h .numbers .workers) l, busy w n l e z, ne-eqb (size ds w) 0 (λ q. z (e ∙ q)))
 
-        module _ (z : n ≡ 0) (b : Bool) (eb : b ≡ (not (ltb v (h .workers)) || ltb (size ds v) 2)) where
+        module _ (z : n ≡ 0) (b : Bool) (eb : b ≡ (not (ltb v (h .numbers .workers)) || ltb (size ds v) 2)) where
           pub steal-passes : b ≡ false → Pass ≡ verdict (stealTests (core h ds [] []) w v)
           steal-passes f =
-              let q = neither (not (ltb v (h .workers))) (ltb (size ds v) 2) (sym eb ∙ f) in
-              let lv : v < h .workers = lt-of (not-false (ltb v (h .workers)) (q .0)) in
+              let q = neither (not (ltb v (h .numbers .workers))) (ltb (size ds v) 2) (sym eb ∙ f) in
+              let lv : v < h .numbers .workers = lt-of (not-false (ltb v (h .numbers .workers)) (q .0)) in
               let two : 2 ≤ size ds v = ge-of (q .1) in
-              rw (lt-ltb w (h .workers) l, busy v (size ds v) lv refl (λ o. omega arith), eq-eqb (size ds w) 0 (sym e ∙ z), lt-ltb v (h .workers) lv, q .1)
+              rw (lt-ltb w (h .numbers .workers) l, busy v (size ds v) lv refl (λ o. omega arith), eq-eqb (size ds w) 0 (sym e ∙ z), lt-ltb v (h .numbers .workers) lv, q .1)
 
           pub steal-main-returned : idles ≡ true → Refuse MainReturned ≡ verdict (stealTests (core h ds [] []) w v)
-          steal-main-returned a = rw (lt-ltb w (h .workers) l, a)
+          steal-main-returned a = rw (lt-ltb w (h .numbers .workers) l, a)
 
           pub steal-no-victim : b ≡ true → idles ≡ false → Refuse NoVictim ≡ verdict (stealTests (core h ds [] []) w v)
-          steal-no-victim t a = rw (lt-ltb w (h .workers) l, a, eq-eqb (size ds w) 0 (sym e ∙ z), ← eb, t)
+          steal-no-victim t a = rw (lt-ltb w (h .numbers .workers) l, a, eq-eqb (size ds w) 0 (sym e ∙ z), ← eb, t)

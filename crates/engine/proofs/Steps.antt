@@ -1,11 +1,13 @@
--- The ways out of the six kinds of steps, over plain variables.
-use mathlib.Core.Path.{_≡_, refl, ap, _∙_}
-use mathlib.Core.Bool.{Bool, true, false, not}
+-- A step's ways out, over plain variables: refused by a test, or done.
+use mathlib.Core.Path.{_≡_, refl, sym, ap, ap₂, _∙_}
+use mathlib.Core.Logic.{inl, inr}
+use mathlib.Core.Bool.{Bool}
 use mathlib.Core.List.{List, [], _∷_, _++_}
-use Prim.Native.Nat.{ℕ}
-use borrow.Author.Tests.{eq-eqb, ne-eqb}
-use lib.Dec.{eqb, ltb, leb}
+use Prim.Native.Nat.{ℕ, _≤_, _<_}
+use native.Mathlib.Omega.{arith}
+use borrow.Author.Tests.{eq-eqb, ne-eqb, lt-ltb, le-ltb, le-leb, lt-leb}
 use Rattle.words.specs.Basics.{none, plus}
+use Rattle.words.specs.Tests.{decided}
 use Rattle.pool.specs.Pool.{readAt, retain, release, write}
 use Rattle.frames.specs.declared.Frame.{Frame}
 use Rattle.frames.specs.declared.Returned.{Returned}
@@ -24,151 +26,150 @@ use Rattle.semantics.specs.declared.Refusal.{Refusal}
 use Rattle.semantics.specs.declared.Refusal.the-variants.{Record, FramesFull, ChildLives, NoSplitter, PoolFull}
 use Rattle.semantics.specs.declared.Answer.{Answer}
 use Rattle.semantics.specs.declared.Answer.the-variants.{Accepted, Refused}
-use Rattle.semantics.specs.Core.{Core, StepResult, stepResult, withVacant, withFree, judged, actingTests, spawnOn, returnOn, stealOn, syncOn, readOn, writeOn, stepOn, stealTests}
+use Rattle.semantics.specs.Core.{Core, StepResult, stepResult, withFreePlace, withFreeNodes, judged, actingTests, kindTests, testsOf, spawnOn, returnOn, stealOn, syncOn, readOn, writeOn, doneBy, stepOn, stealTests}
 use Rattle.semantics.specs.Entries.{recordOn}
+use Rattle.engine.specs.declared.Out.{Out}
 use Rattle.engine.specs.declared.Verdict.{Verdict}
 use Rattle.engine.specs.declared.Verdict.the-variants.{Pass, Refuse}
-use Rattle.engine.specs.Promises.{core, verdict, orRefuse}
+use Rattle.engine.specs.Promises.{core, headAfter, Leaves, kindOn, verdict}
 
--- ---- a step is judged by its verdict
+-- ---- tests
 
-unfoldable pub by : Verdict → Core → StepResult → StepResult
-by Pass c d = d
-by (Refuse r) c d = record { core = c; answer = Refused r }
+abbrev refusedResult : Core → Refusal → StepResult
+refusedResult c r = record { core = c; answer = Refused r }
 
-pub judged-by : (ts : List (Bool × Refusal)) (c : Core) (d : StepResult) (v : Verdict) → v ≡ verdict ts → by v c d ≡ judged ts c d
-unfolding by
-judged-by ts c d v e = rw e (go ts)
-  where
-    go : (us : List (Bool × Refusal)) → by (verdict us) c d ≡ judged us c d
-    go [] = refl
-    go ((true, r) ∷ us) = refl
-    go ((false, r) ∷ us) = go us
+pub pass-refuse : {r : Refusal} → Refuse r ≡ Pass → ⊥
+pass-refuse {r} e = let z : _≡_ {A = ℕ} 0 1 = cc in omega arith
 
--- a test more
-pub verdict-more : (ts : List (Bool × Refusal)) (b : Bool) (r : Refusal) (u v : Verdict) → u ≡ verdict ts → v ≡ orRefuse u b r → v ≡ verdict (ts ++ (b, r) ∷ [])
-verdict-more ts b r u v eu ev = rw (ev, eu) (go ts)
-  where
-    go : (us : List (Bool × Refusal)) → orRefuse (verdict us) b r ≡ verdict (us ++ (b, r) ∷ [])
-    go [] = refl
-    go ((true, q) ∷ us) = refl
-    go ((false, q) ∷ us) = go us
+-- tests that pass leave the judgement to the others; one that refuses ends it
+passed : (ts us : List (Bool × Refusal)) (c : Core) (d : StepResult) → verdict ts ≡ Pass → judged (ts ++ us) c d ≡ judged us c d
+passed [] us c d e = refl
+passed (t ∷ ts) us c d e = elim (decided (t .0)) [ inl b ↦ absurd (pass-refuse (rw b at e)) | inr b ↦ rw b (passed ts us c d (rw b at e)) ]
 
--- refused: nothing changes
-pub refused-out : (h h′ : Head) (ds fs ws : List ℕ) (d : StepResult) (v : Verdict) (q : Refusal) (a : Answer)
-    → v ≡ Refuse q → (h′ ≡ h) × (a ≡ Refused q) → stepResult h′ ds fs ws a ≡ by v (core h ds fs ws) d
-unfolding by
-refused-out h h′ ds fs ws d v q a ev e = rw (ev, e .0, e .1)
+abbrev refusalIn : Verdict → Refusal → Refusal
+refusalIn Pass q = q
+refusalIn (Refuse r) q = r
 
-pub passed-out : (c : Core) (d d′ : StepResult) (v : Verdict) → v ≡ Pass → d′ ≡ d → d′ ≡ by v c d
-unfolding by
-passed-out c d d′ v ev e = rw ev e
+refuses : (ts us : List (Bool × Refusal)) (c : Core) (d : StepResult) (r : Refusal) → verdict ts ≡ Refuse r → judged (ts ++ us) c d ≡ refusedResult c r
+refuses [] us c d r e = absurd (pass-refuse (sym e))
+refuses (t ∷ ts) us c d r e = elim (decided (t .0)) [
+  | inl b ↦ rw b (ap (refusedResult c) (ap (λ v. refusalIn v r) (rw b at e)))
+  | inr b ↦ rw b (refuses ts us c d r (rw b at e))
+]
 
--- ---- the kinds' verdicts
+-- a step of worker w's bottom frame: refused by 8, 9 or 10, or left to its kind
+pub step-refused : (c : Core) (st : Step) (w : ℕ) (r : Refusal) → testsOf c st ≡ actingTests c w ++ kindTests c st → verdict (actingTests c w) ≡ Refuse r → refusedResult c r ≡ stepOn c st
+unfolding stepOn
+step-refused c st w r t e = sym (ap (λ ts. judged ts c (doneBy c st)) t ∙ refuses (actingTests c w) (kindTests c st) c (doneBy c st) r e)
 
-judged-more : (c : Core) (ts : List (Bool × Refusal)) (b : Bool) (r : Refusal) (u v : Verdict) (d : StepResult) → u ≡ verdict ts → v ≡ orRefuse u b r
-    → by v c d ≡ judged (ts ++ (b, r) ∷ []) c d
-judged-more c ts b r u v d eu ev = judged-by (ts ++ (b, r) ∷ []) c d v (verdict-more ts b r u v eu ev)
+pub step-passed : (c : Core) (st : Step) (w : ℕ) → testsOf c st ≡ actingTests c w ++ kindTests c st → verdict (actingTests c w) ≡ Pass → kindOn c st ≡ stepOn c st
+unfolding stepOn
+step-passed c st w t e = sym (ap (λ ts. judged ts c (doneBy c st)) t ∙ passed (actingTests c w) (kindTests c st) c (doneBy c st) e)
+
+-- what a refused step leaves
+pub out-refused : (h : Head) (o : Out) (ds fs ws : List ℕ) (r : Refusal) → (headAfter h o ≡ h) × (o .answer ≡ Refused r) → Leaves h o ds fs ws (refusedResult (core h ds fs ws) r)
+out-refused h o ds fs ws r e = ap₂ (λ (g : Head) (a : Answer). stepResult g ds fs ws a) (e .0) (e .1)
+
+-- ---- the kinds
 
 module _ (h : Head) (ds fs ws : List ℕ) (w : ℕ) where
   abbrev c : Core
   c = core h ds fs ws
 
-  module _ (u : Verdict) (eu : u ≡ verdict (actingTests (core h ds [] []) w)) where
-    pub spawn-by : (v : Verdict) → v ≡ orRefuse u (eqb (h .vacant) none) FramesFull → by v (core h ds fs ws) (spawnOn (core h ds fs ws) w) ≡ stepOn (core h ds fs ws) (Spawn w)
-    unfolding stepOn
-    spawn-by v e = judged-more c (actingTests c w) _ _ u v (spawnOn c w) eu e
+  -- refused by a test of the kind
+  module _ (o : Out) where
+    pub spawn-full : h .numbers .«free_place» ≡ none → (headAfter h o ≡ h) × (o .answer ≡ Refused FramesFull) → Leaves h o ds fs ws (kindOn (core h ds fs ws) (Spawn w))
+    spawn-full e q = rw (eq-eqb (h .numbers .«free_place») none e) (out-refused h o ds fs ws FramesFull q)
 
-    pub return-by : (v : Verdict) (p : ℕ) (f : Frame) → p ≡ bottom ds w → f ≡ frameAt fs p → v ≡ orRefuse u (not (eqb (f .outstanding) 0)) ChildLives
-        → by v (core h ds fs ws) (returnOn (core h ds fs ws) w) ≡ stepOn (core h ds fs ws) (Return w)
-    unfolding stepOn
-    return-by v p f ep ef e =
-        let o : ℕ = frameAt fs (bottom ds w) .outstanding in
-        let eo : v ≡ orRefuse u (not (eqb o 0)) ChildLives = rw (← ep, ← ef) e in
-        judged-more c (actingTests c w) _ _ u v (returnOn c w) eu eo
+    pub return-child : (p : ℕ) (f : Frame) → p ≡ bottom ds w → f ≡ frameAt fs p → (f .outstanding ≡ 0 → ⊥) → (headAfter h o ≡ h) × (o .answer ≡ Refused ChildLives)
+        → Leaves h o ds fs ws (kindOn (core h ds fs ws) (Return w))
+    return-child p f ep ef n q = rw (ne-eqb (frameAt fs (bottom ds w) .outstanding) 0 (λ z. n (ap (λ (g : Frame). g .outstanding) (ef ∙ ap (frameAt fs) ep) ∙ z))) (out-refused h o ds fs ws ChildLives q)
 
-    -- a return: refused as a step, for a live child, or done
-    pub return-refused : (h′ : Head) (a : Answer) (q : Refusal) → u ≡ Refuse q → (h′ ≡ h) × (a ≡ Refused q) → stepResult h′ ds fs ws a ≡ stepOn (core h ds fs ws) (Return w)
-    return-refused h′ a q e o =
-        let b : Bool = not (eqb (frameAt fs (bottom ds w) .outstanding) 0) in
-        let v : Verdict = orRefuse u b ChildLives in
-        let ev : v ≡ Refuse q = ap (λ (t : Verdict). orRefuse t b ChildLives) e in
-        refused-out h h′ ds fs ws (returnOn c w) v q a ev o ∙ return-by v (bottom ds w) (frameAt fs (bottom ds w)) refl refl refl
+    module _ (x : ℕ) where
+      pub read-none : h .numbers .splitters ≤ x → (headAfter h o ≡ h) × (o .answer ≡ Refused NoSplitter) → Leaves h o ds fs ws (kindOn (core h ds fs ws) (Read w x))
+      read-none l q = rw (le-ltb x (h .numbers .splitters) l) (out-refused h o ds fs ws NoSplitter q)
 
-    module _ (p : ℕ) (f : Frame) (ep : p ≡ bottom ds w) (ef : f ≡ frameAt fs p) (pass : u ≡ Pass) where
-      pub return-child : (h′ : Head) (a : Answer) → (f .outstanding ≡ 0 → ⊥) → (h′ ≡ h) × (a ≡ Refused ChildLives) → stepResult h′ ds fs ws a ≡ stepOn (core h ds fs ws) (Return w)
-      return-child h′ a n o =
-          let v : Verdict = orRefuse u (not (eqb (f .outstanding) 0)) ChildLives in
-          let ev : v ≡ Refuse ChildLives = rw (pass, ne-eqb (f .outstanding) 0 n) in
-          refused-out h h′ ds fs ws (returnOn c w) v ChildLives a ev o ∙ return-by v p f ep ef refl
+      pub write-none : (v : ℕ) → h .numbers .splitters ≤ x → (headAfter h o ≡ h) × (o .answer ≡ Refused NoSplitter) → Leaves h o ds fs ws (kindOn (core h ds fs ws) (Write w x v))
+      write-none v l q = rw (le-ltb x (h .numbers .splitters) l) (out-refused h o ds fs ws NoSplitter q)
 
-      pub return-done : (d : StepResult) → f .outstanding ≡ 0 → d ≡ returnOn (core h ds fs ws) w → d ≡ stepOn (core h ds fs ws) (Return w)
-      return-done d z e =
-          let v : Verdict = orRefuse u (not (eqb (f .outstanding) 0)) ChildLives in
-          let ev : v ≡ Pass = rw (pass, eq-eqb (f .outstanding) 0 z) in
-          passed-out c (returnOn c w) d v ev e ∙ return-by v p f ep ef refl
+      pub write-full : (v : ℕ) → x < h .numbers .splitters → h .«free_count» ≤ h .height → (headAfter h o ≡ h) × (o .answer ≡ Refused PoolFull)
+          → Leaves h o ds fs ws (kindOn (core h ds fs ws) (Write w x v))
+      write-full v l f q = rw (lt-ltb x (h .numbers .splitters) l, le-leb (h .«free_count») (h .height) f) (out-refused h o ds fs ws PoolFull q)
 
-    pub sync-by : by u (core h ds fs ws) (syncOn (core h ds fs ws) w) ≡ stepOn (core h ds fs ws) (Sync w)
-    unfolding stepOn
-    sync-by = judged-by (actingTests c w) c (syncOn c w) u eu
+  -- done
+  module _ (p : ℕ) (f : Frame) (ep : p ≡ bottom ds w) (ef : f ≡ frameAt fs p) where
+    pub spawn-done : (h .numbers .«free_place» ≡ none → ⊥) → (ds′ fs′ ws′ : List ℕ) (k place : ℕ) → ws′ ≡ retain ws (f .root)
+        → table ds′ fs′ place ≡ spawn (table ds fs (h .numbers .«free_place»)) w → k ≡ plus (f .depth) 1
+        → stepResult (withFreePlace h place) ds′ fs′ ws′ (Accepted (Spawned k)) ≡ kindOn (core h ds fs ws) (Spawn w)
+    unfolding spawnOn
+    spawn-done n ds′ fs′ ws′ k place ew et ek = rw (ne-eqb (h .numbers .«free_place») none n, ek, ew, ← et, ← ep, ← ef)
 
-    module _ (x : ℕ) (v : Verdict) (ev : v ≡ orRefuse u (not (ltb x (h .splitters))) NoSplitter) where
-      pub read-by : by v (core h ds fs ws) (readOn (core h ds fs ws) w x) ≡ stepOn (core h ds fs ws) (Read w x)
-      unfolding stepOn
-      read-by = judged-more c (actingTests c w) _ _ u v (readOn c w x) eu ev
+    pub return-done : f .outstanding ≡ 0 → (ds′ fs′ ws′ : List ℕ) (first count place : ℕ) (o : Returned)
+        → (ws′ ≡ release (h .height) ws (h .numbers .«free_node») (h .«free_count») (f .root) .0)
+        × (first ≡ release (h .height) ws (h .numbers .«free_node») (h .«free_count») (f .root) .1)
+        × (count ≡ release (h .height) ws (h .numbers .«free_node») (h .«free_count») (f .root) .2)
+        → IsReturn (table ds fs (h .numbers .«free_place»)) w (table ds′ fs′ place) o
+        → stepResult (withFreeNodes (withFreePlace h place) first count) ds′ fs′ ws′ (Accepted (Ended o)) ≡ kindOn (core h ds fs ws) (Return w)
+    unfolding returnOn
+    return-done z ds′ fs′ ws′ first count place o er et =
+        rw (eq-eqb (frameAt fs (bottom ds w) .outstanding) 0 (sym (ap (λ (g : Frame). g .outstanding) (ef ∙ ap (frameAt fs) ep)) ∙ z))
+        (rw (et .outcome, er .0, er .1, er .2, ← et .after, ← ep, ← ef))
 
-      pub write-by : (y : ℕ) (t : Verdict) → t ≡ orRefuse v (leb (h .spare) (h .height)) PoolFull
-          → by t (core h ds fs ws) (writeOn (core h ds fs ws) w x y) ≡ stepOn (core h ds fs ws) (Write w x y)
-      unfolding stepOn
-      write-by y t e =
-          let ts : List (Bool × Refusal) = actingTests c w ++ (not (ltb x (h .splitters)), NoSplitter) ∷ [] in
-          judged-more c ts _ _ v t (writeOn c w x y) (verdict-more (actingTests c w) _ _ u v eu ev) e
+  pub sync-done : (o : Out) (ds′ fs′ : List ℕ) (s : Synced) → IsSync ds fs w ds′ fs′ s → (headAfter h o ≡ h) × (o .answer ≡ Accepted (Waited s)) → Leaves h o ds′ fs′ ws (kindOn (core h ds fs ws) (Sync w))
+  unfolding syncOn
+  sync-done o ds′ fs′ s e u =
+      ap₂ (λ (g : Head) (a : Answer). stepResult g ds′ fs′ ws a) (u .0) (u .1) ∙ rw (e .outcome (h .numbers .«free_place»), ← e .after (h .numbers .«free_place»))
 
-  pub steal-by : (x : ℕ) (v : Verdict) → v ≡ verdict (stealTests (core h ds [] []) w x) → by v (core h ds fs ws) (stealOn (core h ds fs ws) w x) ≡ stepOn (core h ds fs ws) (Steal w x)
+  module _ (p root x : ℕ) (ep : p ≡ bottom ds w) (er : root ≡ frameAt fs p .root) (l : x < h .numbers .splitters) where
+    pub read-done : (o : Out) (y : ℕ) → y ≡ readAt (h .height) ws root x → (headAfter h o ≡ h) × (o .answer ≡ Accepted (Value y)) → Leaves h o ds fs ws (kindOn (core h ds fs ws) (Read w x))
+    unfolding readOn
+    read-done o y e u =
+        ap₂ (λ (g : Head) (a : Answer). stepResult g ds fs ws a) (u .0) (u .1) ∙ rw (lt-ltb x (h .numbers .splitters) l, e, er, ep)
+
+    pub write-done : h .height < h .«free_count» → (fs′ ws′ : List ℕ) (v first count : ℕ)
+        → (ws′ ≡ write (h .height) ws (h .numbers .«free_node») (h .«free_count») root x v .0)
+        × (first ≡ write (h .height) ws (h .numbers .«free_node») (h .«free_count») root x v .1)
+        × (count ≡ write (h .height) ws (h .numbers .«free_node») (h .«free_count») root x v .2)
+        → fs′ ≡ setFrame fs p (withRoot (frameAt fs p) (h .numbers .«free_node»))
+        → stepResult (withFreeNodes h first count) ds fs′ ws′ (Accepted (Written count)) ≡ kindOn (core h ds fs ws) (Write w x v)
+    unfolding writeOn
+    write-done f fs′ ws′ v first count ew es =
+        rw (lt-ltb x (h .numbers .splitters) l, lt-leb (h .«free_count») (h .height) f) (rw (es, ew .0, ew .1, ew .2, er, ep))
+
+-- ---- a steal
+
+nothing-more : (ts : List (Bool × Refusal)) → ts ++ [] ≡ ts
+nothing-more [] = refl
+nothing-more (t ∷ ts) = ap (λ us. t ∷ us) (nothing-more ts)
+
+module _ (h : Head) (ds fs ws : List ℕ) (w v : ℕ) where
+  abbrev tests : List (Bool × Refusal)
+  tests = stealTests (core h ds fs ws) w v
+
+  steal-judged : (d : StepResult) → judged (tests ++ []) (core h ds fs ws) d ≡ judged tests (core h ds fs ws) d
+  steal-judged d = ap (λ ts. judged ts (core h ds fs ws) d) (nothing-more tests)
+
+  pub steal-refused : (o : Out) (u : Verdict) (r : Refusal) → u ≡ verdict (stealTests (core h ds [] []) w v) → u ≡ Refuse r → (headAfter h o ≡ h) × (o .answer ≡ Refused r)
+      → Leaves h o ds fs ws (stepOn (core h ds fs ws) (Steal w v))
   unfolding stepOn
-  steal-by x v e = judged-by (stealTests c w x) c (stealOn c w x) v e
+  steal-refused o u r eu e q =
+      out-refused h o ds fs ws r q ∙ sym (refuses tests [] (core h ds fs ws) (stealOn (core h ds fs ws) w v) r (sym eu ∙ e)) ∙ steal-judged (stealOn (core h ds fs ws) w v)
 
--- ---- accepted
-
-module _ (h : Head) (ds fs ws : List ℕ) (w p : ℕ) (f : Frame) (ep : p ≡ bottom ds w) (ef : f ≡ frameAt fs p) where
-  pub spawn-acts : (ds′ fs′ ws′ : List ℕ) (k vacant : ℕ) → ws′ ≡ retain ws (f .root) → table ds′ fs′ vacant ≡ spawn (table ds fs (h .vacant)) w → k ≡ plus (f .depth) 1
-      → stepResult (withVacant h vacant) ds′ fs′ ws′ (Accepted (Spawned k)) ≡ spawnOn (core h ds fs ws) w
-  unfolding spawnOn
-  spawn-acts ds′ fs′ ws′ k vacant ew et ek = rw (ek, ew, ← et, ← ep, ← ef)
-
-  pub return-acts : (ds′ fs′ ws′ : List ℕ) (first count vacant : ℕ) (o : Returned) → (ws′ ≡ release (h .height) ws (h .free) (h .spare) (f .root) .0)
-      × (first ≡ release (h .height) ws (h .free) (h .spare) (f .root) .1)
-      × (count ≡ release (h .height) ws (h .free) (h .spare) (f .root) .2)
-      → IsReturn (table ds fs (h .vacant)) w (table ds′ fs′ vacant) o → stepResult (withFree (withVacant h vacant) first count) ds′ fs′ ws′ (Accepted (Ended o)) ≡ returnOn (core h ds fs ws) w
-  unfolding returnOn
-  return-acts ds′ fs′ ws′ first count vacant o er et = rw (et .outcome, er .0, er .1, er .2, ← et .after, ← ep, ← ef)
-
-module _ (h : Head) (ds fs ws : List ℕ) (w p root : ℕ) (ep : p ≡ bottom ds w) (er : root ≡ frameAt fs p .root) where
-  pub read-acts : (h′ : Head) (a : Answer) (x y : ℕ) → y ≡ readAt (h .height) ws root x → (h′ ≡ h) × (a ≡ Accepted (Value y)) → stepResult h′ ds fs ws a ≡ readOn (core h ds fs ws) w x
-  unfolding readOn
-  read-acts h′ a x y e o = rw (o .0, o .1, e, er, ep)
-
-  pub write-acts : (fs′ ws′ : List ℕ) (x y first count : ℕ) → (ws′ ≡ write (h .height) ws (h .free) (h .spare) root x y .0)
-      × (first ≡ write (h .height) ws (h .free) (h .spare) root x y .1)
-      × (count ≡ write (h .height) ws (h .free) (h .spare) root x y .2)
-      → fs′ ≡ setFrame fs p (withRoot (frameAt fs p) (h .free)) → stepResult (withFree h first count) ds fs′ ws′ (Accepted (Written count)) ≡ writeOn (core h ds fs ws) w x y
-  unfolding writeOn
-  write-acts fs′ ws′ x y first count ew es = rw (es, ew .0, ew .1, ew .2, er, ep)
-
-pub steal-acts : (h h′ : Head) (ds fs ws ds′ : List ℕ) (a : Answer) (w v p : ℕ) (f : Frame) → p ≡ top ds v → f ≡ frameAt fs p
-    → ((gs : List ℕ) (free : ℕ) → table ds′ gs free ≡ steal (table ds gs free) w v) → (h′ ≡ h) × (a ≡ Accepted (Stolen (f .depth))) → stepResult h′ ds′ fs ws a ≡ stealOn (core h ds fs ws) w v
-unfolding stealOn
-steal-acts h h′ ds fs ws ds′ a w v p f ep ef et o = rw (o .0, o .1, ← et fs (h .vacant), ← ep, ← ef)
-
-pub sync-acts : (h h′ : Head) (ds fs ws ds′ fs′ : List ℕ) (a : Answer) (w : ℕ) (o : Synced) → IsSync ds fs w ds′ fs′ o → (h′ ≡ h) × (a ≡ Accepted (Waited o)) → stepResult h′ ds′ fs′ ws a ≡ syncOn (core h ds fs ws) w
-unfolding syncOn
-sync-acts h h′ ds fs ws ds′ fs′ a w o e u = rw (u .0, u .1, e .outcome (h .vacant), ← e .after (h .vacant))
+  pub steal-done : (o : Out) (u : Verdict) (ds′ : List ℕ) (p : ℕ) (f : Frame) → u ≡ verdict (stealTests (core h ds [] []) w v) → u ≡ Pass → p ≡ top ds v → f ≡ frameAt fs p
+      → ((gs : List ℕ) (free : ℕ) → table ds′ gs free ≡ steal (table ds gs free) w v) → (headAfter h o ≡ h) × (o .answer ≡ Accepted (Stolen (f .depth)))
+      → Leaves h o ds′ fs ws (stepOn (core h ds fs ws) (Steal w v))
+  unfolding stepOn stealOn
+  steal-done o u ds′ p f eu e ep ef et q =
+      ap₂ (λ (g : Head) (a : Answer). stepResult g ds′ fs ws a) (q .0) (q .1)
+      ∙ rw (← et fs (h .numbers .«free_place»), ← ep, ← ef)
+      ∙ sym (passed tests [] (core h ds fs ws) (stealOn (core h ds fs ws) w v) (sym eu ∙ e))
+      ∙ steal-judged (stealOn (core h ds fs ws) w v)
 
 -- ---- a record
 
-pub record-refused : (h h′ : Head) (ds fs ws : List ℕ) (e d : Decoded) (a : Answer) → e ≡ d → e ≡ Invalid → (h′ ≡ h) × (a ≡ Refused Record)
-    → stepResult h′ ds fs ws a ≡ recordOn (core h ds fs ws) d
-record-refused h h′ ds fs ws e d a ed ei eo = rw (← ed, ei, eo .0, eo .1)
+pub record-refused : (h : Head) (o : Out) (ds fs ws : List ℕ) (e d : Decoded) → e ≡ d → e ≡ Invalid → (headAfter h o ≡ h) × (o .answer ≡ Refused Record)
+    → Leaves h o ds fs ws (recordOn (core h ds fs ws) d)
+record-refused h o ds fs ws e d ed ei q = rw (← ed, ei) (out-refused h o ds fs ws Record q)
 
 pub record-steps : (c : Core) (e d : Decoded) (s : Step) (o : StepResult) → e ≡ d → e ≡ Valid s → o ≡ stepOn c s → o ≡ recordOn c d
 record-steps c e d s o ed ev eo = rw (← ed, ev) eo

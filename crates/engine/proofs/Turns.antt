@@ -9,16 +9,17 @@ use Rattle.semantics.specs.Answers.{answerWords}
 use Rattle.semantics.specs.declared.Head.{Head}
 use Rattle.semantics.specs.declared.Answer.{Answer}
 use Rattle.semantics.specs.Core.{Core, StepResult, stepResult}
-use Rattle.semantics.specs.Entries.{Ran, ran, runOn, recordOn, recordsFrom, putAnswer}
-use Rattle.semantics.specs.Theory.Kept.{Kept, kept-record}
-use Rattle.semantics.specs.Theory.Ready.{Ready, kept-ready}
+use Rattle.semantics.specs.Entries.{RecordsResult, recordsResult, runOn, recordOn, recordsFrom, putAnswer}
+use Rattle.semantics.specs.Ranges.{Kept, Ready}
+use Rattle.semantics.specs.Theory.Kept.{kept-record}
+use Rattle.semantics.specs.Theory.Ready.{kept-ready}
 use Rattle.engine.specs.Promises.{core, renewed}
 
 -- where the loop begins, what is left when a record has been run, and when none is left
 module _ (tape : List ℕ) (n : ℕ) where
   pub turn : (c : Core) (a a′ : List ℕ) (i x y : ℕ) (o : StepResult) → i < n → o ≡ recordOn c (decodeAt tape (i * 8))
       → x ≡ answerWords (o .answer) .0 → y ≡ answerWords (o .answer) .1 → a′ ≡ set (set a (i * 2) x) (i * 2 + 1) y
-      → runOn (ran (o .core) a′) ((i + 1) * 2) (recordsFrom (n - (i + 1)) tape ((i + 1) * 8)) ≡ runOn (ran c a) (i * 2) (recordsFrom (n - i) tape (i * 8))
+      → runOn (recordsResult (o .core) a′) ((i + 1) * 2) (recordsFrom (n - (i + 1)) tape ((i + 1) * 8)) ≡ runOn (recordsResult c a) (i * 2) (recordsFrom (n - i) tape (i * 8))
   unfolding recordsFrom runOn
   turn c a a′ i x y o l eo ex ey ea =
       let k = i * 2 in
@@ -27,35 +28,35 @@ module _ (tape : List ℕ) (n : ℕ) where
       let e1 : k + 1 ≡ suc k = omega arith in
       let e2 : (i + 1) * 2 ≡ k + 2 = omega arith in
       let e8 : (i + 1) * 8 ≡ i * 8 + 8 = omega arith in
-      ap (λ (z : List ℕ). runOn (ran (o .core) z) ((i + 1) * 2) (recordsFrom m tape ((i + 1) * 8)))
+      ap (λ (z : List ℕ). runOn (recordsResult (o .core) z) ((i + 1) * 2) (recordsFrom m tape ((i + 1) * 8)))
       (ea ∙ ap (λ (j : ℕ). set (set a k x) j y) e1 ∙ ap (λ (v : ℕ). set (set a k v) (suc k) y) ex ∙ ap (λ (v : ℕ). set (set a k (answerWords (o .answer) .0)) (suc k) v) ey)
-      ∙ ap (λ (j : ℕ). runOn (ran (o .core) (putAnswer a k (o .answer))) j (recordsFrom m tape ((i + 1) * 8))) e2
-      ∙ ap (λ (j : ℕ). runOn (ran (o .core) (putAnswer a k (o .answer))) (k + 2) (recordsFrom m tape j)) e8
-      ∙ ap (λ (q : StepResult). runOn (ran (q .core) (putAnswer a k (q .answer))) (k + 2) (recordsFrom m tape (i * 8 + 8))) eo
-      ∙ ap (λ (z : ℕ). runOn (ran c a) k (recordsFrom z tape (i * 8))) (sym em)
+      ∙ ap (λ (j : ℕ). runOn (recordsResult (o .core) (putAnswer a k (o .answer))) j (recordsFrom m tape ((i + 1) * 8))) e2
+      ∙ ap (λ (j : ℕ). runOn (recordsResult (o .core) (putAnswer a k (o .answer))) (k + 2) (recordsFrom m tape j)) e8
+      ∙ ap (λ (q : StepResult). runOn (recordsResult (q .core) (putAnswer a k (q .answer))) (k + 2) (recordsFrom m tape (i * 8 + 8))) eo
+      ∙ ap (λ (z : ℕ). runOn (recordsResult c a) k (recordsFrom z tape (i * 8))) (sym em)
 
-  pub finish : (r : Ran) (i k j : ℕ) → n ≤ i → runOn r k (recordsFrom (n - i) tape j) ≡ r
+  pub finish : (r : RecordsResult) (i k j : ℕ) → n ≤ i → runOn r k (recordsFrom (n - i) tape j) ≡ r
   unfolding recordsFrom runOn
   finish r i k j l =
       let z : n - i ≡ 0 = omega arith in
       ap (λ (m : ℕ). runOn r k (recordsFrom m tape j)) z
 
-  pub begin : (r : Ran) → runOn r 0 (recordsFrom (n - 0) tape 0) ≡ runOn r 0 (recordsFrom n tape 0)
+  pub begin : (r : RecordsResult) → runOn r 0 (recordsFrom (n - 0) tape 0) ≡ runOn r 0 (recordsFrom n tape 0)
   begin r =
       let z : n - 0 ≡ n = omega arith in
       ap (λ (m : ℕ). runOn r 0 (recordsFrom m tape 0)) z
 
   -- a record, from a sound core: what is left, and that the core is sound again
-  pub turn-kept : (h head : Head) (ds fs ws ds′ fs′ ws′ a a′ : List ℕ) (free vacant spare free′ vacant′ spare′ : ℕ) (r : Answer) (i x y : ℕ) → head ≡ renewed h free vacant spare
-      → Kept (core (renewed h free vacant spare) ds fs ws) → i < n → stepResult (renewed head free′ vacant′ spare′) ds′ fs′ ws′ r ≡ recordOn (core head ds fs ws) (decodeAt tape (i * 8))
+  pub turn-kept : (h head : Head) (ds fs ws ds′ fs′ ws′ a a′ : List ℕ) (node place count node′ place′ count′ : ℕ) (r : Answer) (i x y : ℕ) → head ≡ renewed h node place count
+      → Kept (core (renewed h node place count) ds fs ws) → i < n → stepResult (renewed head node′ place′ count′) ds′ fs′ ws′ r ≡ recordOn (core head ds fs ws) (decodeAt tape (i * 8))
       → x ≡ answerWords r .0 → y ≡ answerWords r .1 → a′ ≡ set (set a (i * 2) x) (i * 2 + 1) y
-      → Kept (core (renewed h free′ vacant′ spare′) ds′ fs′ ws′)
-      × (runOn (ran (core (renewed h free′ vacant′ spare′) ds′ fs′ ws′) a′) ((i + 1) * 2) (recordsFrom (n - (i + 1)) tape ((i + 1) * 8))
-      ≡ runOn (ran (core (renewed h free vacant spare) ds fs ws) a) (i * 2) (recordsFrom (n - i) tape (i * 8)))
-  turn-kept h head ds fs ws ds′ fs′ ws′ a a′ free vacant spare free′ vacant′ spare′ r i x y eh K l eo ex ey ea =
-      let c : Core = core (renewed h free vacant spare) ds fs ws in
-      let o : StepResult = stepResult (renewed h free′ vacant′ spare′) ds′ fs′ ws′ r in
-      let e : o ≡ recordOn c (decodeAt tape (i * 8)) = subst (λ (g : Head). stepResult (renewed g free′ vacant′ spare′) ds′ fs′ ws′ r ≡ recordOn (core g ds fs ws) (decodeAt tape (i * 8))) eh eo in
+      → Kept (core (renewed h node′ place′ count′) ds′ fs′ ws′)
+      × (runOn (recordsResult (core (renewed h node′ place′ count′) ds′ fs′ ws′) a′) ((i + 1) * 2) (recordsFrom (n - (i + 1)) tape ((i + 1) * 8))
+      ≡ runOn (recordsResult (core (renewed h node place count) ds fs ws) a) (i * 2) (recordsFrom (n - i) tape (i * 8)))
+  turn-kept h head ds fs ws ds′ fs′ ws′ a a′ node place count node′ place′ count′ r i x y eh K l eo ex ey ea =
+      let c : Core = core (renewed h node place count) ds fs ws in
+      let o : StepResult = stepResult (renewed h node′ place′ count′) ds′ fs′ ws′ r in
+      let e : o ≡ recordOn c (decodeAt tape (i * 8)) = subst (λ (g : Head). stepResult (renewed g node′ place′ count′) ds′ fs′ ws′ r ≡ recordOn (core g ds fs ws) (decodeAt tape (i * 8))) eh eo in
       (subst (λ (q : StepResult). Kept (q .core)) (sym e) (kept-record c K (decodeAt tape (i * 8))), turn c a a′ i x y o l e ex ey ea)
 
 -- the numbers are those of a sound core

@@ -1,69 +1,93 @@
--- What the promises of the engine's functions are said in, beside the definitions of the crate semantics.
+-- What the promises of the engine's inner functions are said in, beside the definitions of the crate semantics.
 use mathlib.Core.Path.{_≡_}
 use mathlib.Core.Bool.{Bool, cond, _||_}
 use mathlib.Core.List.{List, [], _∷_}
-use Prim.Native.Nat.{ℕ}
+use Prim.Native.Nat.{ℕ, _≤_, _<_}
+use lib.ListN.{length}
+use Rattle.pool.specs.Links.{PathIn}
+use Rattle.frames.specs.Widths.{maxWorkers, places, dequePlaces, dequeWords}
+use Rattle.frames.specs.Frames.{frameAt}
+use Rattle.frames.specs.Ranges.{ParentOf}
 use lib.Dec.{eqb, ltb}
 use Rattle.sizes.specs.Sizes.{treeNodes}
+use Rattle.frames.specs.Deques.{size, bottom}
+use Rattle.soundness.specs.declared.Checked.{Checked}
+use Rattle.soundness.specs.declared.Checked.the-variants.{NoRoom, Sound}
+use Rattle.soundness.specs.Numbers.{setFreeNode, setFreePlace}
 use Rattle.model.specs.declared.Step.{Step}
-use Rattle.semantics.specs.declared.State.{State}
 use Rattle.semantics.specs.declared.Head.{Head}
-use Rattle.semantics.specs.declared.Answer.{Answer}
-use Rattle.semantics.specs.declared.Call.{Call}
 use Rattle.semantics.specs.declared.Refusal.{Refusal}
-use Rattle.semantics.specs.declared.Refusal.the-variants.{Values, Workers, Nodes}
-use Rattle.semantics.specs.Core.{Core}
-use Rattle.semantics.specs.Entries.{startOn, enter, play}
+use Rattle.semantics.specs.declared.Refusal.the-variants.{Values, Workers, Nodes, Work}
+use Rattle.semantics.specs.Answers.{refusalNumber}
+use Rattle.semantics.specs.Core.{Core, StepResult, stepResult, judged, actingTests, kindTests, doneBy}
 use Rattle.engine.specs.declared.Out.{Out}
 use Rattle.engine.specs.declared.Verdict.{Verdict}
-use Rattle.engine.specs.declared.Verdict.the-variants.{Pass, Refuse}
+use Rattle.engine.specs.declared.Verdict.the-variants.{Pass}
+use Rattle.engine.specs.declared.Acting.{Acting}
+use Rattle.engine.specs.declared.Acting.the-variants.{At}
 
 abbrev pub core : Head → List ℕ → List ℕ → List ℕ → Core
 core h ds fs ws = record { head = h; deques = ds; frames = fs; pool = ws }
 
 -- the numbers with another first free node, first free place and number of free nodes
 abbrev pub renewed : Head → ℕ → ℕ → ℕ → Head
-renewed h free vacant spare =
-    record { workers = h .workers; splitters = h .splitters; nodes = h .nodes; free = free; vacant = vacant; height = h .height; spare = spare }
+renewed h node place count = record { numbers = setFreePlace (setFreeNode (h .numbers) node) place; height = h .height; «free_count» = count }
 
 -- what a step leaves of the numbers h
 abbrev pub headAfter : Head → Out → Head
-headAfter h o = renewed h (o .free) (o .vacant) (o .spare)
+headAfter h o = renewed h (o .«free_node») (o .«free_place») (o .«free_count»)
+
+-- ---- a step: the numbers h, the words ds, fs, ws and the answer become those of the result d
+
+abbrev pub Leaves : Head → Out → List ℕ → List ℕ → List ℕ → StepResult → Type 0
+Leaves h o ds fs ws d = stepResult (headAfter h o) ds fs ws (o .answer) ≡ d
+
+-- a step of worker w's bottom frame, once refusals 8, 9 and 10 are tested: those of the kind, then the step
+abbrev pub kindOn : Core → Step → StepResult
+kindOn c st = judged (kindTests c st) c (doneBy c st)
+
+-- worker w executes the frame at place p, by the deques alone
+pub record ActsOn (ds : List ℕ) (w p : ℕ) : Type 0 where
+  pub busy : 0 < size ds w
+  pub acting : p ≡ bottom ds w
+
+-- and what a sound core says of this frame
+pub record ActsAt (c : Core) (w p : ℕ) : Type 0 where
+  pub worker : w < maxWorkers
+  pub busy : 0 < size (c .deques) w
+  pub most : size (c .deques) w ≤ dequePlaces
+  pub acting : p ≡ bottom (c .deques) w
+  pub within : p < places
+  pub room : c .head .numbers .«free_place» < places → size (c .deques) w < dequePlaces
+  pub root : frameAt (c .frames) p .root < c .head .numbers .nodes
+  pub parent : ParentOf p (frameAt (c .frames) p)
+  pub path : (x : ℕ) → x < c .head .numbers .splitters → PathIn (c .head .numbers .nodes) (c .pool) (c .head .height) (frameAt (c .frames) p .root) x
+
+-- deques of so many workers, as long as they may be
+pub record SizesIn (workers : ℕ) (ds : List ℕ) : Type 0 where
+  pub long : length ds ≡ dequeWords
+  pub workers-le : workers ≤ maxWorkers
+  pub sizes : (w : ℕ) → w < maxWorkers → size ds w ≤ dequePlaces
+
+-- ---- tests
 
 -- the first test that holds refuses
 abbrev pub verdict : List (Bool × Refusal) → Verdict
 verdict [] = Pass
-verdict (t ∷ ts) = cond (t .0) (Refuse (t .1)) (verdict ts)
+verdict (t ∷ ts) = cond (t .0) (Verdict.Refuse (t .1)) (verdict ts)
 
--- a test more
-abbrev pub orRefuse : Verdict → Bool → Refusal → Verdict
-orRefuse Pass b r = cond b (Refuse r) Pass
-orRefuse (Refuse q) b r = Refuse q
+-- refusals 8, 9 and 10, or the place of the frame that worker w executes
+abbrev pub IsActing : Core → ℕ → Acting → Type 0
+IsActing c w (At p) = (w < c .head .numbers .workers) × (verdict (actingTests c w) ≡ Pass) × ActsOn (c .deques) w p
+IsActing c w (Acting.Refuse r) = verdict (actingTests c w) ≡ Verdict.Refuse r
 
 -- refusals 1, 2 and 3, of a start with n initial values and a pool of so many whole nodes
 abbrev pub startTests : ℕ → ℕ → ℕ → List (Bool × Refusal)
 startTests workers n nodes =
     (eqb n 0 || ltb 256 n, Values) ∷ (eqb workers 0 || ltb 8 workers, Workers) ∷ (ltb nodes (treeNodes n) || ltb 16384 nodes, Nodes) ∷ []
 
--- ---- the entries: what each returns and leaves, on all inputs
-
--- of a start with these workers, initial values vs and pool ws
-pub record IsStart (workers : ℕ) (vs ws : List ℕ) (s : State) (ws′ : List ℕ) (a : Call) : Type 0 where
-  pub result : a ≡ startOn workers vs ws .call
-  pub state : s ≡ startOn workers vs ws .state
-  pub pool : ws′ ≡ startOn workers vs ws .pool
-
--- of a step entered from outside at the state s, with the pool ws and the work slice ks
-pub record IsStep (s : State) (ws ks : List ℕ) (step : Step) (s′ : State) (ws′ ks′ : List ℕ) (a : Answer) : Type 0 where
-  pub result : a ≡ enter s ws ks step .answer
-  pub state : s′ ≡ enter s ws ks step .state
-  pub pool : ws′ ≡ enter s ws ks step .pool
-  pub work : ks′ ≡ enter s ws ks step .work
-
--- of a tape with these bytes at the state s, with the pool ws, the work slice ks and the answer slice rs
-pub record IsTape (s : State) (ws ks bytes rs : List ℕ) (s′ : State) (ws′ ks′ rs′ : List ℕ) (a : Call) : Type 0 where
-  pub result : a ≡ play s ws ks bytes rs .call
-  pub state : s′ ≡ play s ws ks bytes rs .state
-  pub pool : ws′ ≡ play s ws ks bytes rs .pool
-  pub work : ks′ ≡ play s ws ks bytes rs .work
-  pub answers : rs′ ≡ play s ws ks bytes rs .answers
+-- the number that the check's answer refuses a call by, or 0
+abbrev pub checkNumber : Checked → ℕ
+checkNumber NoRoom = refusalNumber Work
+checkNumber Checked.Unsound = refusalNumber Refusal.Unsound
+checkNumber (Sound k) = 0

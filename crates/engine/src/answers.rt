@@ -29,6 +29,7 @@ pub fn refusal_number(refusal: Refusal) -> u32
         Refusal::ChildLives => 14,
         Refusal::NoSplitter => 15,
         Refusal::PoolFull => 16,
+        Refusal::Lengths => 99,
     }
 }
 

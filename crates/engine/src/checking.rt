@@ -1,6 +1,8 @@
 // Soundness, checked once a call: numbers first, then frames and deques, then the pool.
 ghost use mathlib.Core.Path.{_≡_};
 ghost use mathlib.Core.Bool.{_&&_};
+ghost use lib.ListN.{length};
+ghost use Rattle.frames.specs.Widths.{frameWords, dequeWords};
 ghost use Rattle.soundness.specs.Soundness.{numbersSound, framesSound, checked, cleared};
 use frame_check::check_frames;
 use pool_check::PoolChecked;
@@ -20,13 +22,14 @@ fn check_numbers(numbers: Numbers, pool: &[u32]) -> bool
 
 // All but the pool.
 fn check_tables(numbers: Numbers, deques: &[u32], frames: &[u32], pool: &[u32]) -> bool
+    requires { ⌜ (length (now deques) ≡ dequeWords) × (length (now frames) ≡ frameWords) ⌝ }
     ensures { λ r. ⌜ r ≡ (numbersSound numbers (now (pool .entry))
-        && framesSound (numbers .workers) (numbers .vacant) (now (deques .entry)) (now (frames .entry))) ⌝ }
+        && framesSound (numbers .workers) (numbers .«free_place») (now (deques .entry)) (now (frames .entry))) ⌝ }
 {
     if !check_numbers(numbers, pool) {
         return false;
     }
-    check_frames(numbers.workers, numbers.vacant, deques, frames)
+    check_frames(numbers.workers, numbers.free_place, deques, frames)
 }
 
 // Are state and pool sound? The work slice's first words, one for each recorded node, are zero afterwards, unless it has fewer.
@@ -37,6 +40,7 @@ pub fn check(
     pool: &[u32],
     work: &mut [u32],
 ) -> Checked
+    requires { ⌜ (length (now deques) ≡ dequeWords) × (length (now frames) ≡ frameWords) ⌝ }
     ensures { λ r. ⌜ (now (work .exit) ≡ cleared (numbers .nodes) (now (work .entry)))
         × (r ≡ checked numbers (now (deques .entry)) (now (frames .entry)) (now (pool .entry)) (now (work .entry))) ⌝ }
 {
@@ -48,7 +52,7 @@ pub fn check(
         clear(work, nodes);
         return Checked::Unsound;
     }
-    let answer = check_pool(numbers.splitters, nodes, numbers.free, frames, pool, work);
+    let answer = check_pool(numbers.splitters, nodes, numbers.free_node, frames, pool, work);
     let PoolChecked::Good(free) = answer else {
         return Checked::Unsound;
     };

@@ -1,18 +1,18 @@
-// The six kinds of steps over the numbers h and the lent words of the deques, the frame table and the pool: each is refused,
-// and changes nothing, or acts. The core is ready (it is sound), so that reads and writes test no index.
+// The six kinds of steps over the numbers h and the lent words of the deques, the frame table and the pool: each is refused, and
+// changes nothing, or acts. The core is ready (it is sound), so that reads and stores test no index. For a kind that acts on a worker's
+// bottom frame, `.._at` is the step once that frame's place p is known.
 ghost use mathlib.Core.Path.{_≡_};
 ghost use Rattle.model.specs.declared.Step.the-variants.{Spawn, Return, Steal, Sync, Read, Write};
-ghost use Rattle.semantics.specs.Core.{stepResult, stepOn};
-ghost use Rattle.semantics.specs.Theory.Ready.{Ready};
+ghost use Rattle.semantics.specs.Core.{stepOn};
+ghost use Rattle.semantics.specs.Ranges.{Ready};
 ghost use Rattle.semantics.specs.declared.Answer.the-variants.{Accepted, Refused};
-ghost use Rattle.engine.specs.Promises.{core, headAfter};
+ghost use Rattle.engine.specs.Promises.{core, headAfter, Leaves, kindOn, ActsAt};
+use crate::Acting;
 use crate::Out;
 use crate::Verdict;
-use crate::refusals::acting_verdict;
-use crate::refusals::or_refuse;
+use crate::refusals::acting;
 use crate::refusals::steal_verdict;
 use frames::NONE;
-use frames::acting_place;
 use frames::frame_at;
 use frames::return_frame;
 use frames::root_at;
@@ -35,9 +35,9 @@ fn unchanged(h: Head, answer: Answer) -> Out
     ensures { λ r. ⌜ (headAfter h r ≡ h) × (r .answer ≡ answer) ⌝ }
 {
     Out {
-        free: h.free,
-        vacant: h.vacant,
-        spare: h.spare,
+        free_node: h.numbers.free_node,
+        free_place: h.numbers.free_place,
+        free_count: h.free_count,
         answer,
     }
 }
@@ -49,90 +49,195 @@ pub fn refused(h: Head, refusal: Refusal) -> Out
     unchanged(h, Answer::Refused(refusal))
 }
 
-pub fn step_spawn(h: Head, deques: &mut [u32], frames: &mut [u32], pool: &mut [u32], w: u32) -> Out
-    requires { ⌜ Ready (core h (now deques) (now frames) (now pool)) ⌝ }
-    ensures { λ r. ⌜ stepResult (headAfter h r) (now (deques .exit)) (now (frames .exit)) (now (pool .exit)) (r .answer)
-        ≡ stepOn (core h (now (deques .entry)) (now (frames .entry)) (now (pool .entry))) (Spawn w) ⌝ }
-{
-    let verdict = or_refuse(
-        acting_verdict(h, deques, w),
-        h.vacant == NONE,
-        Refusal::FramesFull,
-    );
-    if let Verdict::Refuse(refusal) = verdict {
-        return refused(h, refusal);
-    }
-    let p = acting_place(deques, w);
-    let f = frame_at(frames, p);
-    retain(pool, h.nodes, f.root);
-    let vacant = spawn_frame(deques, frames, h.vacant, w, p, f);
-    Out {
-        free: h.free,
-        vacant,
-        spare: h.spare,
-        answer: Answer::Accepted(Done::Spawned(words::add(f.depth, 1))),
-    }
-}
-
-pub fn step_return(h: Head, deques: &mut [u32], frames: &mut [u32], pool: &mut [u32], w: u32) -> Out
-    requires { ⌜ Ready (core h (now deques) (now frames) (now pool)) ⌝ }
-    ensures { λ r. ⌜ stepResult (headAfter h r) (now (deques .exit)) (now (frames .exit)) (now (pool .exit)) (r .answer)
-        ≡ stepOn (core h (now (deques .entry)) (now (frames .entry)) (now (pool .entry))) (Return w) ⌝ }
-{
-    let verdict = acting_verdict(h, deques, w);
-    if let Verdict::Refuse(refusal) = verdict {
-        return refused(h, refusal);
-    }
-    let p = acting_place(deques, w);
-    let f = frame_at(frames, p);
-    if f.outstanding != 0 {
-        return refused(h, Refusal::ChildLives);
-    }
-    let mut spare = h.spare;
-    let free = release(pool, h.nodes, &mut spare, h.free, f.root, h.height);
-    let ended = return_frame(deques, frames, h.vacant, w, p, f);
-    let outcome = ended.outcome;
-    Out {
-        free,
-        vacant: ended.free,
-        spare,
-        answer: Answer::Accepted(Done::Ended(outcome)),
-    }
-}
-
-pub fn step_steal(
+fn spawn_at(
     h: Head,
     deques: &mut [u32],
     frames: &mut [u32],
     pool: &mut [u32],
     w: u32,
-    v: u32,
+    p: u32,
 ) -> Out
-    requires { ⌜ Ready (core h (now deques) (now frames) (now pool)) ⌝ }
-    ensures { λ r. ⌜ stepResult (headAfter h r) (now (deques .exit)) (now (frames .exit)) (now (pool .exit)) (r .answer)
-        ≡ stepOn (core h (now (deques .entry)) (now (frames .entry)) (now (pool .entry))) (Steal w v) ⌝ }
+    requires { ⌜ Ready (core h (now deques) (now frames) (now pool)) × ActsAt (core h (now deques) (now frames) (now pool)) w p ⌝ }
+    ensures { λ r. ⌜ Leaves h r (now (deques .exit)) (now (frames .exit)) (now (pool .exit))
+        (kindOn (core h (now (deques .entry)) (now (frames .entry)) (now (pool .entry))) (Spawn w)) ⌝ }
 {
-    let verdict = steal_verdict(h, deques, w, v);
-    if let Verdict::Refuse(refusal) = verdict {
-        return refused(h, refusal);
+    if h.numbers.free_place == NONE {
+        return refused(h, Refusal::FramesFull);
     }
-    let f = frame_at(frames, top_at(deques, v));
-    steal_frame(deques, w, v);
-    unchanged(h, Answer::Accepted(Done::Stolen(f.depth)))
+    let f = frame_at(frames, p);
+    retain(pool, h.numbers.nodes, f.root);
+    let free_place = spawn_frame(deques, frames, h.numbers.free_place, w, p, f);
+    Out {
+        free_node: h.numbers.free_node,
+        free_place,
+        free_count: h.free_count,
+        answer: Answer::Accepted(Done::Spawned(words::add(f.depth, 1))),
+    }
 }
 
-pub fn step_sync(h: Head, deques: &mut [u32], frames: &mut [u32], pool: &mut [u32], w: u32) -> Out
-    requires { ⌜ Ready (core h (now deques) (now frames) (now pool)) ⌝ }
-    ensures { λ r. ⌜ stepResult (headAfter h r) (now (deques .exit)) (now (frames .exit)) (now (pool .exit)) (r .answer)
-        ≡ stepOn (core h (now (deques .entry)) (now (frames .entry)) (now (pool .entry))) (Sync w) ⌝ }
+fn return_at(
+    h: Head,
+    deques: &mut [u32],
+    frames: &mut [u32],
+    pool: &mut [u32],
+    w: u32,
+    p: u32,
+) -> Out
+    requires { ⌜ Ready (core h (now deques) (now frames) (now pool)) × ActsAt (core h (now deques) (now frames) (now pool)) w p ⌝ }
+    ensures { λ r. ⌜ Leaves h r (now (deques .exit)) (now (frames .exit)) (now (pool .exit))
+        (kindOn (core h (now (deques .entry)) (now (frames .entry)) (now (pool .entry))) (Return w)) ⌝ }
 {
-    let verdict = acting_verdict(h, deques, w);
-    if let Verdict::Refuse(refusal) = verdict {
-        return refused(h, refusal);
+    let f = frame_at(frames, p);
+    if f.outstanding != 0 {
+        return refused(h, Refusal::ChildLives);
     }
-    let p = acting_place(deques, w);
+    let mut free_count = h.free_count;
+    let free_node = release(
+        pool,
+        h.numbers.nodes,
+        &mut free_count,
+        h.numbers.free_node,
+        f.root,
+        h.height,
+    );
+    let ended = return_frame(deques, frames, h.numbers.free_place, w, p, f);
+    let outcome = ended.outcome;
+    Out {
+        free_node,
+        free_place: ended.free_place,
+        free_count,
+        answer: Answer::Accepted(Done::Ended(outcome)),
+    }
+}
+
+fn sync_at(
+    h: Head,
+    deques: &mut [u32],
+    frames: &mut [u32],
+    pool: &mut [u32],
+    w: u32,
+    p: u32,
+) -> Out
+    requires { ⌜ Ready (core h (now deques) (now frames) (now pool)) × ActsAt (core h (now deques) (now frames) (now pool)) w p ⌝ }
+    ensures { λ r. ⌜ Leaves h r (now (deques .exit)) (now (frames .exit)) (now (pool .exit))
+        (kindOn (core h (now (deques .entry)) (now (frames .entry)) (now (pool .entry))) (Sync w)) ⌝ }
+{
     let outcome = sync_frame(deques, frames, w, p, frame_at(frames, p));
     unchanged(h, Answer::Accepted(Done::Waited(outcome)))
+}
+
+fn value_at(
+    h: Head,
+    deques: &mut [u32],
+    frames: &mut [u32],
+    pool: &mut [u32],
+    w: u32,
+    p: u32,
+    x: u32,
+) -> Out
+    requires { ⌜ Ready (core h (now deques) (now frames) (now pool)) × ActsAt (core h (now deques) (now frames) (now pool)) w p ⌝ }
+    ensures { λ r. ⌜ Leaves h r (now (deques .exit)) (now (frames .exit)) (now (pool .exit))
+        (kindOn (core h (now (deques .entry)) (now (frames .entry)) (now (pool .entry))) (Read w x)) ⌝ }
+{
+    if x >= h.numbers.splitters {
+        return refused(h, Refusal::NoSplitter);
+    }
+    let value = read_at(pool, h.numbers.nodes, h.height, root_at(frames, p), x);
+    unchanged(h, Answer::Accepted(Done::Value(value)))
+}
+
+fn write_at(
+    h: Head,
+    deques: &mut [u32],
+    frames: &mut [u32],
+    pool: &mut [u32],
+    w: u32,
+    p: u32,
+    x: u32,
+    v: u32,
+) -> Out
+    requires { ⌜ Ready (core h (now deques) (now frames) (now pool)) × ActsAt (core h (now deques) (now frames) (now pool)) w p ⌝ }
+    ensures { λ r. ⌜ Leaves h r (now (deques .exit)) (now (frames .exit)) (now (pool .exit))
+        (kindOn (core h (now (deques .entry)) (now (frames .entry)) (now (pool .entry))) (Write w x v)) ⌝ }
+{
+    if x >= h.numbers.splitters {
+        return refused(h, Refusal::NoSplitter);
+    }
+    if h.free_count <= h.height {
+        return refused(h, Refusal::PoolFull);
+    }
+    let root = root_at(frames, p);
+    let list = write_path(
+        pool,
+        h.numbers.nodes,
+        h.height,
+        h.numbers.free_node,
+        h.free_count,
+        root,
+        x,
+        v,
+    );
+    set_root(frames, p, h.numbers.free_node);
+    Out {
+        free_node: list.first,
+        free_place: h.numbers.free_place,
+        free_count: list.count,
+        answer: Answer::Accepted(Done::Written(list.count)),
+    }
+}
+
+pub fn step_spawn(
+    h: Head,
+    deques: &mut [u32],
+    frames: &mut [u32],
+    pool: &mut [u32],
+    w: u32,
+) -> Out
+    requires { ⌜ Ready (core h (now deques) (now frames) (now pool)) ⌝ }
+    ensures { λ r. ⌜ Leaves h r (now (deques .exit)) (now (frames .exit)) (now (pool .exit))
+        (stepOn (core h (now (deques .entry)) (now (frames .entry)) (now (pool .entry))) (Spawn w)) ⌝ }
+{
+    let acting = acting(h, deques, w);
+    match acting {
+        Acting::Refuse(refusal) => refused(h, refusal),
+        Acting::At(p) => spawn_at(h, deques, frames, pool, w, p),
+    }
+}
+
+pub fn step_return(
+    h: Head,
+    deques: &mut [u32],
+    frames: &mut [u32],
+    pool: &mut [u32],
+    w: u32,
+) -> Out
+    requires { ⌜ Ready (core h (now deques) (now frames) (now pool)) ⌝ }
+    ensures { λ r. ⌜ Leaves h r (now (deques .exit)) (now (frames .exit)) (now (pool .exit))
+        (stepOn (core h (now (deques .entry)) (now (frames .entry)) (now (pool .entry))) (Return w)) ⌝ }
+{
+    let acting = acting(h, deques, w);
+    match acting {
+        Acting::Refuse(refusal) => refused(h, refusal),
+        Acting::At(p) => return_at(h, deques, frames, pool, w, p),
+    }
+}
+
+pub fn step_sync(
+    h: Head,
+    deques: &mut [u32],
+    frames: &mut [u32],
+    pool: &mut [u32],
+    w: u32,
+) -> Out
+    requires { ⌜ Ready (core h (now deques) (now frames) (now pool)) ⌝ }
+    ensures { λ r. ⌜ Leaves h r (now (deques .exit)) (now (frames .exit)) (now (pool .exit))
+        (stepOn (core h (now (deques .entry)) (now (frames .entry)) (now (pool .entry))) (Sync w)) ⌝ }
+{
+    let acting = acting(h, deques, w);
+    match acting {
+        Acting::Refuse(refusal) => refused(h, refusal),
+        Acting::At(p) => sync_at(h, deques, frames, pool, w, p),
+    }
 }
 
 pub fn step_read(
@@ -144,20 +249,14 @@ pub fn step_read(
     x: u32,
 ) -> Out
     requires { ⌜ Ready (core h (now deques) (now frames) (now pool)) ⌝ }
-    ensures { λ r. ⌜ stepResult (headAfter h r) (now (deques .exit)) (now (frames .exit)) (now (pool .exit)) (r .answer)
-        ≡ stepOn (core h (now (deques .entry)) (now (frames .entry)) (now (pool .entry))) (Read w x) ⌝ }
+    ensures { λ r. ⌜ Leaves h r (now (deques .exit)) (now (frames .exit)) (now (pool .exit))
+        (stepOn (core h (now (deques .entry)) (now (frames .entry)) (now (pool .entry))) (Read w x)) ⌝ }
 {
-    let verdict = or_refuse(
-        acting_verdict(h, deques, w),
-        !(x < h.splitters),
-        Refusal::NoSplitter,
-    );
-    if let Verdict::Refuse(refusal) = verdict {
-        return refused(h, refusal);
+    let acting = acting(h, deques, w);
+    match acting {
+        Acting::Refuse(refusal) => refused(h, refusal),
+        Acting::At(p) => value_at(h, deques, frames, pool, w, p, x),
     }
-    let root = root_at(frames, acting_place(deques, w));
-    let value = read_at(pool, h.nodes, h.height, root, x);
-    unchanged(h, Answer::Accepted(Done::Value(value)))
 }
 
 pub fn step_write(
@@ -170,26 +269,33 @@ pub fn step_write(
     v: u32,
 ) -> Out
     requires { ⌜ Ready (core h (now deques) (now frames) (now pool)) ⌝ }
-    ensures { λ r. ⌜ stepResult (headAfter h r) (now (deques .exit)) (now (frames .exit)) (now (pool .exit)) (r .answer)
-        ≡ stepOn (core h (now (deques .entry)) (now (frames .entry)) (now (pool .entry))) (Write w x v) ⌝ }
+    ensures { λ r. ⌜ Leaves h r (now (deques .exit)) (now (frames .exit)) (now (pool .exit))
+        (stepOn (core h (now (deques .entry)) (now (frames .entry)) (now (pool .entry))) (Write w x v)) ⌝ }
 {
-    let within = or_refuse(
-        acting_verdict(h, deques, w),
-        !(x < h.splitters),
-        Refusal::NoSplitter,
-    );
-    let verdict = or_refuse(within, h.spare <= h.height, Refusal::PoolFull);
+    let acting = acting(h, deques, w);
+    match acting {
+        Acting::Refuse(refusal) => refused(h, refusal),
+        Acting::At(p) => write_at(h, deques, frames, pool, w, p, x, v),
+    }
+}
+
+pub fn step_steal(
+    h: Head,
+    deques: &mut [u32],
+    frames: &mut [u32],
+    pool: &mut [u32],
+    w: u32,
+    v: u32,
+) -> Out
+    requires { ⌜ Ready (core h (now deques) (now frames) (now pool)) ⌝ }
+    ensures { λ r. ⌜ Leaves h r (now (deques .exit)) (now (frames .exit)) (now (pool .exit))
+        (stepOn (core h (now (deques .entry)) (now (frames .entry)) (now (pool .entry))) (Steal w v)) ⌝ }
+{
+    let verdict = steal_verdict(h, deques, w, v);
     if let Verdict::Refuse(refusal) = verdict {
         return refused(h, refusal);
     }
-    let p = acting_place(deques, w);
-    let root = root_at(frames, p);
-    let list = write_path(pool, h.nodes, h.height, h.free, h.spare, root, x, v);
-    set_root(frames, p, h.free);
-    Out {
-        free: list.first,
-        vacant: h.vacant,
-        spare: list.count,
-        answer: Answer::Accepted(Done::Written(list.count)),
-    }
+    let f = frame_at(frames, top_at(deques, v));
+    steal_frame(deques, w, v);
+    unchanged(h, Answer::Accepted(Done::Stolen(f.depth)))
 }

@@ -3,11 +3,10 @@ ghost use mathlib.Core.Path.{_≡_};
 ghost use Prim.Native.Nat.{_+_, _*_, _/_, _≤_, _<_};
 ghost use lib.ListN.{length, set};
 ghost use Rattle.model.specs.Record.{decodeAt};
-ghost use Rattle.semantics.specs.Core.{stepResult, stepOn};
-ghost use Rattle.semantics.specs.Entries.{recordOn, recordsOf, ran, runOn};
-ghost use Rattle.semantics.specs.Theory.Kept.{Kept};
-ghost use Rattle.semantics.specs.Theory.Ready.{Ready};
-ghost use Rattle.engine.specs.Promises.{core, renewed, headAfter};
+ghost use Rattle.semantics.specs.Core.{stepOn};
+ghost use Rattle.semantics.specs.Entries.{recordOn, recordsOf, recordsResult, runOn};
+ghost use Rattle.semantics.specs.Ranges.{Kept, Ready};
+ghost use Rattle.engine.specs.Promises.{core, renewed, Leaves};
 use crate::Out;
 use crate::answers::done_kind;
 use crate::answers::done_number;
@@ -34,8 +33,8 @@ pub fn take_step(
     step: Step,
 ) -> Out
     requires { ⌜ Ready (core h (now deques) (now frames) (now pool)) ⌝ }
-    ensures { λ r. ⌜ stepResult (headAfter h r) (now (deques .exit)) (now (frames .exit)) (now (pool .exit)) (r .answer)
-        ≡ stepOn (core h (now (deques .entry)) (now (frames .entry)) (now (pool .entry))) step ⌝ }
+    ensures { λ r. ⌜ Leaves h r (now (deques .exit)) (now (frames .exit)) (now (pool .exit))
+        (stepOn (core h (now (deques .entry)) (now (frames .entry)) (now (pool .entry))) step) ⌝ }
 {
     match step {
         Step::Spawn(w) => step_spawn(h, deques, frames, pool, w),
@@ -57,8 +56,8 @@ pub fn step_record(
     at: usize,
 ) -> Out
     requires { ⌜ Ready (core h (now deques) (now frames) (now pool)) × (at + 8 ≤ length (now tape)) ⌝ }
-    ensures { λ r. ⌜ stepResult (headAfter h r) (now (deques .exit)) (now (frames .exit)) (now (pool .exit)) (r .answer)
-        ≡ recordOn (core h (now (deques .entry)) (now (frames .entry)) (now (pool .entry))) (decodeAt (now (tape .entry)) at) ⌝ }
+    ensures { λ r. ⌜ Leaves h r (now (deques .exit)) (now (frames .exit)) (now (pool .exit))
+        (recordOn (core h (now (deques .entry)) (now (frames .entry)) (now (pool .entry))) (decodeAt (now (tape .entry)) at)) ⌝ }
 {
     let decoded = decode(tape, at);
     let Decoded::Valid(step) = decoded else {
@@ -77,17 +76,16 @@ fn put_answer(answers: &mut [u32], to: usize, first: u32, second: u32)
 }
 
 // The numbers with what a step left.
-pub fn head_with(h: Head, free: u32, vacant: u32, spare: u32) -> Head
-    ensures { λ r. ⌜ r ≡ renewed h free vacant spare ⌝ }
+fn head_with(h: Head, node: u32, place: u32, count: u32) -> Head
+    ensures { λ r. ⌜ r ≡ renewed h node place count ⌝ }
 {
+    let mut numbers = h.numbers;
+    numbers.free_node = node;
+    numbers.free_place = place;
     Head {
-        workers: h.workers,
-        splitters: h.splitters,
-        nodes: h.nodes,
-        free,
-        vacant,
+        numbers,
         height: h.height,
-        spare,
+        free_count: count,
     }
 }
 
@@ -101,22 +99,22 @@ pub fn run_tape(
     answers: &mut [u32],
 ) -> Head
     requires { ⌜ Kept (core h (now deques) (now frames) (now pool)) × (2 * (length (now tape) / 8) ≤ length (now answers)) ⌝ }
-    ensures { λ r. ⌜ ran (core r (now (deques .exit)) (now (frames .exit)) (now (pool .exit))) (now (answers .exit))
-        ≡ runOn (ran (core h (now (deques .entry)) (now (frames .entry)) (now (pool .entry))) (now (answers .entry))) 0 (recordsOf (now (tape .entry))) ⌝ }
+    ensures { λ r. ⌜ recordsResult (core r (now (deques .exit)) (now (frames .exit)) (now (pool .exit))) (now (answers .exit))
+        ≡ runOn (recordsResult (core h (now (deques .entry)) (now (frames .entry)) (now (pool .entry))) (now (answers .entry))) 0 (recordsOf (now (tape .entry))) ⌝ }
 {
-    let mut free = h.free;
-    let mut vacant = h.vacant;
-    let mut spare = h.spare;
+    let mut free_node = h.numbers.free_node;
+    let mut free_place = h.numbers.free_place;
+    let mut free_count = h.free_count;
     let mut i: usize = 0;
     while i < tape.len() / 8 {
         let to = i * 2;
         let at = i * 8;
         i += 1;
-        let head = head_with(h, free, vacant, spare);
+        let head = head_with(h, free_node, free_place, free_count);
         let out = step_record(head, deques, frames, pool, tape, at);
-        free = out.free;
-        vacant = out.vacant;
-        spare = out.spare;
+        free_node = out.free_node;
+        free_place = out.free_place;
+        free_count = out.free_count;
         let answer = out.answer;
         let Answer::Accepted(done) = answer else {
             put_answer(answers, to, first_word(answer), 0);
@@ -124,5 +122,5 @@ pub fn run_tape(
         };
         put_answer(answers, to, done_kind(done), done_number(done));
     }
-    head_with(h, free, vacant, spare)
+    head_with(h, free_node, free_place, free_count)
 }

@@ -1,4 +1,4 @@
-// Refusals 8 to 16, tested in the order of document 01. Whether all workers are idle is asked only on the way to a refusal.
+// Refusals 8 to 12, tested in the order of document 01. Whether all workers are idle is asked only on the way to a refusal.
 ghost use mathlib.Core.Path.{_≡_};
 ghost use mathlib.Core.Bool.{not, _||_};
 ghost use mathlib.Core.List.{[]};
@@ -6,63 +6,52 @@ ghost use Prim.Native.Nat.{_≤_};
 ghost use lib.Dec.{eqb, ltb};
 ghost use lib.ListN.{length};
 ghost use Rattle.words.specs.Basics.{all};
+ghost use Rattle.frames.specs.Widths.{maxWorkers, dequePlaces, dequeWords};
 ghost use Rattle.frames.specs.Deques.{size};
-ghost use Rattle.semantics.specs.Core.{actingTests, stealTests};
-ghost use Rattle.engine.specs.Promises.{core, verdict, orRefuse};
+ghost use Rattle.semantics.specs.Core.{stealTests};
+ghost use Rattle.engine.specs.Promises.{core, verdict, SizesIn, IsActing};
+use crate::Acting;
 use crate::Verdict;
-use frames::deque_size;
+use frames::acting_place;
 use frames::size_at;
 use semantics::Head;
 use semantics::Refusal;
 
 // Has every worker an empty deque?
 fn all_idle(workers: u32, deques: &[u32]) -> bool
+    requires { ⌜ (length (now deques) ≡ dequeWords) × (workers ≤ maxWorkers) ⌝ }
     ensures { λ r. ⌜ r ≡ all workers (λ w. eqb (size (now (deques .entry)) w) 0) ⌝ }
 {
     let mut left = workers;
     while left > 0 {
         left -= 1;
-        if deque_size(deques, left) != 0 {
+        if size_at(deques, left) != 0 {
             return false;
         }
     }
     true
 }
 
-// 8, 9 and 10: of a step that is not a steal.
-pub fn acting_verdict(h: Head, deques: &[u32], w: u32) -> Verdict
-    requires { ⌜ (length (now deques) ≡ 520) × (h .workers ≤ 8) ⌝ }
-    ensures { λ r. ⌜ r ≡ verdict (actingTests (core h (now (deques .entry)) [] []) w) ⌝ }
+// 8, 9 and 10, or the place of the frame that worker w executes.
+pub fn acting(h: Head, deques: &[u32], w: u32) -> Acting
+    requires { ⌜ SizesIn (h .numbers .workers) (now deques) ⌝ }
+    ensures { λ r. ⌜ IsActing (core h (now (deques .entry)) [] []) w r ⌝ }
 {
-    if w >= h.workers {
-        return Verdict::Refuse(Refusal::NoWorker);
+    if w >= h.numbers.workers {
+        return Acting::Refuse(Refusal::NoWorker);
     }
     if size_at(deques, w) != 0 {
-        return Verdict::Pass;
+        return Acting::At(acting_place(deques, w));
     }
-    if all_idle(h.workers, deques) {
-        return Verdict::Refuse(Refusal::MainReturned);
+    if all_idle(h.numbers.workers, deques) {
+        return Acting::Refuse(Refusal::MainReturned);
     }
-    Verdict::Refuse(Refusal::WorkerIdle)
-}
-
-// A test more.
-pub fn or_refuse(verdict: Verdict, test: bool, refusal: Refusal) -> Verdict
-    ensures { λ r. ⌜ r ≡ orRefuse verdict test refusal ⌝ }
-{
-    let Verdict::Pass = verdict else {
-        return verdict;
-    };
-    if test {
-        Verdict::Refuse(refusal)
-    } else {
-        Verdict::Pass
-    }
+    Acting::Refuse(Refusal::WorkerIdle)
 }
 
 // Does v not exist, or has it fewer than two frames?
 fn no_victim(workers: u32, deques: &[u32], v: u32) -> bool
-    requires { ⌜ (length (now deques) ≡ 520) × (workers ≤ 8) ⌝ }
+    requires { ⌜ (length (now deques) ≡ dequeWords) × (workers ≤ maxWorkers) ⌝ }
     ensures { λ r. ⌜ r ≡ (not (ltb v workers) || ltb (size (now (deques .entry)) v) 2) ⌝ }
 {
     if v >= workers {
@@ -73,19 +62,19 @@ fn no_victim(workers: u32, deques: &[u32], v: u32) -> bool
 
 // 8, 9, 11 and 12: of a steal.
 pub fn steal_verdict(h: Head, deques: &[u32], w: u32, v: u32) -> Verdict
-    requires { ⌜ (length (now deques) ≡ 520) × (h .workers ≤ 8) ⌝ }
+    requires { ⌜ (length (now deques) ≡ dequeWords) × (h .numbers .workers ≤ maxWorkers) ⌝ }
     ensures { λ r. ⌜ r ≡ verdict (stealTests (core h (now (deques .entry)) [] []) w v) ⌝ }
 {
-    if w >= h.workers {
+    if w >= h.numbers.workers {
         return Verdict::Refuse(Refusal::NoWorker);
     }
     if size_at(deques, w) != 0 {
         return Verdict::Refuse(Refusal::ThiefBusy);
     }
-    if !no_victim(h.workers, deques, v) {
+    if !no_victim(h.numbers.workers, deques, v) {
         return Verdict::Pass;
     }
-    if all_idle(h.workers, deques) {
+    if all_idle(h.numbers.workers, deques) {
         return Verdict::Refuse(Refusal::MainReturned);
     }
     Verdict::Refuse(Refusal::NoVictim)

@@ -1,21 +1,26 @@
 // The deques: what each has to be by itself, and its frames.
 ghost use mathlib.Core.Path.{_≡_};
+ghost use Prim.Native.Nat.{ℕ, _≤_, _<_};
+ghost use lib.ListN.{length};
+ghost use Rattle.frames.specs.Widths.{maxWorkers, frameWords, dequePlaces, dequeWords};
+ghost use Rattle.frames.specs.Deques.{size};
 ghost use Rattle.words.specs.Basics.{all};
 ghost use Rattle.frame_check.specs.Algorithm.{tallyDeque, tallyDeques, zeroPast, dequeFits, childBelow, inDeque, dequeSound};
 use super::tallies::bump;
 use frames::Frame;
-use frames::deque_place;
-use frames::deque_size;
-use frames::frame_in;
+use frames::place_at;
+use frames::size_at;
+use frames::frame_or_zero;
 
 // The places past the first n are zero.
 fn rest_zero(deques: &[u32], w: u32, n: u32) -> bool
+    requires { ⌜ (length (now deques) ≡ dequeWords) × (w < maxWorkers) ⌝ }
     ensures { λ r. ⌜ r ≡ all 64 (zeroPast (now (deques .entry)) w n) ⌝ }
 {
     let mut sound = true;
     let mut k: u32 = 0;
     while k < 64 {
-        sound = sound & ((k < n) | (deque_place(deques, w, k) == 0));
+        sound = sound & ((k < n) | (place_at(deques, w, k) == 0));
         k += 1;
     }
     sound
@@ -23,13 +28,15 @@ fn rest_zero(deques: &[u32], w: u32, n: u32) -> bool
 
 // What deque w has to be whatever its frames are.
 fn deque_fits(workers: u32, deques: &[u32], w: u32) -> bool
+    requires { ⌜ (length (now deques) ≡ dequeWords) × (w < maxWorkers) ⌝ }
     ensures { λ r. ⌜ r ≡ dequeFits workers (now (deques .entry)) w ⌝ }
 {
-    let n = deque_size(deques, w);
+    let n = size_at(deques, w);
     (n <= 64) & (((w < workers) | (n == 0)) & rest_zero(deques, w, n))
 }
 
 pub fn deques_fit(workers: u32, deques: &[u32]) -> bool
+    requires { ⌜ length (now deques) ≡ dequeWords ⌝ }
     ensures { λ r. ⌜ r ≡ all 8 (dequeFits workers (now (deques .entry))) ⌝ }
 {
     let mut sound = true;
@@ -62,16 +69,17 @@ fn in_deque(f: Frame, p: u32, above: u32, k: u32, n: u32) -> bool
 
 // Counts the frames of deque w; whether they are sound.
 fn tally_deque(tallies: &mut [u32], deques: &[u32], frames: &[u32], w: u32) -> bool
+    requires { ⌜ (length (now deques) ≡ dequeWords) × (length (now frames) ≡ frameWords) × (w < maxWorkers) × (size (now deques) w ≤ dequePlaces) ⌝ }
     ensures { λ r. ⌜ (now (tallies .exit) ≡ tallyDeque (now (deques .entry)) w (now (tallies .entry))) × (r ≡ dequeSound (now (deques .entry)) (now (frames .entry)) w) ⌝ }
 {
-    let n = deque_size(deques, w);
+    let n = size_at(deques, w);
     let mut sound = true;
     let mut k: u32 = 0;
     while k < n {
-        let p = deque_place(deques, w, k);
-        let above = deque_place(deques, w, words::sub(k, 1));
+        let p = place_at(deques, w, k);
+        let above = place_at(deques, w, words::sub(k, 1));
         bump(tallies, p);
-        sound = sound & in_deque(frame_in(frames, p), p, above, k, n);
+        sound = sound & in_deque(frame_or_zero(frames, p), p, above, k, n);
         k += 1;
     }
     sound
@@ -79,6 +87,7 @@ fn tally_deque(tallies: &mut [u32], deques: &[u32], frames: &[u32], w: u32) -> b
 
 // The same of all deques.
 pub fn tally_deques(tallies: &mut [u32], deques: &[u32], frames: &[u32]) -> bool
+    requires { ⌜ (length (now deques) ≡ dequeWords) × (length (now frames) ≡ frameWords) × ((w : ℕ) → w < maxWorkers → size (now deques) w ≤ dequePlaces) ⌝ }
     ensures { λ r. ⌜ (now (tallies .exit) ≡ tallyDeques 8 (now (deques .entry)) (now (tallies .entry))) × (r ≡ all 8 (dequeSound (now (deques .entry)) (now (frames .entry)))) ⌝ }
 {
     let mut sound = true;

@@ -4,10 +4,13 @@ mod places;
 mod tallies;
 
 ghost use mathlib.Core.Path.{_≡_};
+ghost use lib.ListN.{length};
+ghost use Rattle.frames.specs.Widths.{frameWords, dequeWords};
 ghost use Rattle.soundness.specs.Soundness.{framesSound};
 
 // first is the first free place.
 pub fn check_frames(workers: u32, first: u32, deques: &[u32], frames: &[u32]) -> bool
+    requires { ⌜ (length (now deques) ≡ dequeWords) × (length (now frames) ≡ frameWords) ⌝ }
     ensures { λ r. ⌜ r ≡ framesSound workers first (now (deques .entry)) (now (frames .entry)) ⌝ }
 {
     if !deques::deques_fit(workers, deques) {

@@ -1,11 +1,13 @@
 // The frame places: what each has to be, given its tallies.
 ghost use mathlib.Core.Path.{_≡_};
+ghost use lib.ListN.{length};
+ghost use Rattle.frames.specs.Widths.{frameWords};
 ghost use mathlib.Core.Bool.{cond};
 ghost use Rattle.words.specs.Basics.{all};
 ghost use Rattle.frame_check.specs.Algorithm.{isMain, mains, parentSound, placedSound, liveSound, freeSound, placeSound, placeTallied};
 use frames::Frame;
 use frames::NONE;
-use frames::frame_in;
+use frames::frame_or_zero;
 
 // Main has no parent, any other live frame f a live one, one shallower, whose record is g.
 fn parent_sound(f: Frame, g: Frame) -> bool
@@ -41,17 +43,19 @@ fn free_sound(f: Frame, free: u32) -> bool
 }
 
 fn place_sound(frames: &[u32], p: u32, children: u32, seen: u32, free: u32) -> bool
+    requires { ⌜ length (now frames) ≡ frameWords ⌝ }
     ensures { λ r. ⌜ r ≡ placeSound (now (frames .entry)) p children seen free ⌝ }
 {
-    let f = frame_in(frames, p);
+    let f = frame_or_zero(frames, p);
     if f.live == 1 {
-        return live_sound(f, frame_in(frames, f.parent), children, seen, free);
+        return live_sound(f, frame_or_zero(frames, f.parent), children, seen, free);
     }
     free_sound(f, free)
 }
 
 // Every place, with its tallies of children, of places of deques and of places of the free chain.
 pub fn places_sound(frames: &[u32], children: &[u32], seen: &[u32], free: &[u32]) -> bool
+    requires { ⌜ length (now frames) ≡ frameWords ⌝ }
     ensures { λ r. ⌜ r ≡ all 64 (placeTallied (now (frames .entry)) (now (children .entry)) (now (seen .entry)) (now (free .entry))) ⌝ }
 {
     let mut sound = true;
@@ -76,12 +80,13 @@ fn main_in(f: Frame) -> u32
 
 // How many live frames have depth 0.
 pub fn count_mains(frames: &[u32]) -> u32
+    requires { ⌜ length (now frames) ≡ frameWords ⌝ }
     ensures { λ r. ⌜ r ≡ mains (now (frames .entry)) ⌝ }
 {
     let mut n: u32 = 0;
     let mut p: u32 = 0;
     while p < 64 {
-        n += main_in(frame_in(frames, p));
+        n += main_in(frame_or_zero(frames, p));
         p += 1;
     }
     n

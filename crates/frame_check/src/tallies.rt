@@ -1,10 +1,12 @@
 // How often each place stands somewhere, counted in a word for each place.
 ghost use mathlib.Core.Path.{_≡_};
+ghost use lib.ListN.{length};
+ghost use Rattle.frames.specs.Widths.{frameWords};
 ghost use Rattle.words.specs.Basics.{below};
 ghost use Rattle.frame_check.specs.Algorithm.{bump, tallyList, childAt, tallyChildren, chain};
 use frames::Frame;
 use frames::NONE;
-use frames::frame_in;
+use frames::frame_or_zero;
 
 // One more at p; past the end, nothing.
 pub fn bump(tallies: &mut [u32], p: u32)
@@ -24,17 +26,19 @@ fn child_at(f: Frame) -> u32
 
 // Counts each place's live children.
 pub fn tally_children(tallies: &mut [u32], frames: &[u32])
+    requires { ⌜ length (now frames) ≡ frameWords ⌝ }
     ensures { λ _. ⌜ now (tallies .exit) ≡ tallyChildren (now (frames .entry)) (now (tallies .entry)) ⌝ }
 {
     let mut c: u32 = 0;
     while c < 64 {
-        bump(tallies, child_at(frame_in(frames, c)));
+        bump(tallies, child_at(frame_or_zero(frames, c)));
         c += 1;
     }
 }
 
 // Counts the places of the free chain; whether all are places.
 pub fn tally_chain(tallies: &mut [u32], frames: &[u32], first: u32) -> bool
+    requires { ⌜ length (now frames) ≡ frameWords ⌝ }
     ensures { λ r. ⌜ (now (tallies .exit) ≡ tallyList (chain (now (frames .entry)) first) (now (tallies .entry))) × (r ≡ below 64 (chain (now (frames .entry)) first)) ⌝ }
 {
     let mut left: u32 = 65;
@@ -46,7 +50,7 @@ pub fn tally_chain(tallies: &mut [u32], frames: &[u32], first: u32) -> bool
         }
         bump(tallies, p);
         sound = sound & (p < 64);
-        p = frame_in(frames, p).parent;
+        p = frame_or_zero(frames, p).parent;
         left -= 1;
     }
     sound

@@ -1,24 +1,40 @@
--- A law for each way out of a step's function, over plain variables.
+-- A law for each way out of a function, over plain variables.
 use mathlib.Core.Path.{_≡_, sym, ap, _∙_}
-use mathlib.Core.Bool.{true, false, cond}
-use mathlib.Core.Logic.{_⊎_, inl, inr}
+use mathlib.Core.Bool.{true, false}
+use mathlib.Core.Logic.{_≢_, _⊎_, inl, inr}
 use mathlib.Core.List.{List}
-use Prim.Native.Nat.{ℕ}
+use Prim.Native.Nat.{ℕ, _-_, _<_}
 use lib.Dec.{eqb}
+use lib.ListN.{length, replicate}
 use borrow.Author.Tests.{eq-eqb, ne-eqb}
-use Rattle.words.specs.Basics.{none}
-use Rattle.words.specs.Tests.{both}
+use Rattle.words.specs.Basics.{none, plus}
 use Rattle.frames.specs.declared.Frame.{Frame}
 use Rattle.frames.specs.declared.Returned.{Returned}
 use Rattle.frames.specs.declared.Returned.the-variants.{Continued, Idle, Resumed, Finished}
 use Rattle.frames.specs.declared.Synced.the-variants.{Passed, Suspended}
-use Rattle.frames.specs.Frames.{frameAt, setFrame, childOf, withChild, withoutChild, withSuspended, freePlace}
-use Rattle.frames.specs.Deques.{size, bottom, push, pop}
-use Rattle.frames.specs.Steps.{resumes, return, returned, sync, synced, spawn}
+use Rattle.frames.specs.Widths.{places, frameWords}
+use Rattle.frames.specs.Frames.{frameAt, setFrame, withOutstanding, withSuspended, withoutChild, childOf, freePlace, mainFrame, initPlaces, initFrames}
+use Rattle.frames.specs.Deques.{size, setSize, setPlace, bottom, push, pop, shiftUp, dropTop}
+use Rattle.frames.specs.Steps.{return, returned, sync, synced, spawn}
 use Rattle.frames.specs.Promises.{table, IsReturn, IsParentAfter, IsSync}
+use Rattle.frames.specs.Theory.Records.{frame-set-same, frame-set-other, frame-set-again}
 
-pub resumes-if : (left : ℕ) (f : Frame) → left ≡ 0 → f .suspended ≡ 1 → eqb (f .outstanding) 0 ≡ resumes left f
-resumes-if left f e s = rw (eq-eqb left 0 e, eq-eqb (f .suspended) 1 s)
+-- ---- a deque: n is its length before
+
+module _ (ds ds₁ ds₂ : List ℕ) (w n : ℕ) (en : n ≡ size ds w) where
+  pub pushed : (p m : ℕ) → ds₁ ≡ setPlace ds w n p → m ≡ plus n 1 → ds₂ ≡ setSize ds₁ w m → ds₂ ≡ push ds w p
+  unfolding push
+  pushed p m e₁ em e₂ = rw (e₂, e₁, em, en)
+
+  pub popped : ds₁ ≡ setPlace ds w (n - 1) 0 → ds₂ ≡ setSize ds₁ w (n - 1) → ds₂ ≡ pop ds w
+  unfolding pop
+  popped e₁ e₂ = rw (e₂, e₁, en)
+
+  pub dropped : (ds₃ : List ℕ) → ds₁ ≡ shiftUp (n - 1) ds w 0 → ds₂ ≡ setPlace ds₁ w (n - 1) 0 → ds₃ ≡ setSize ds₂ w (n - 1) → ds₃ ≡ dropTop ds w
+  unfolding dropTop
+  dropped ds₃ e₁ e₂ e₃ = rw (e₃, e₂, e₁, en)
+
+-- ---- the steps
 
 -- one of the two, and not the second
 pub one-of : {A B : Type 0} → A ⊎ B → (B → ⊥) → A
@@ -26,13 +42,42 @@ one-of (inl a) n = a
 one-of (inr b) n = absurd (n b)
 
 module _ (ds fs : List ℕ) (w : ℕ) where
-  module _ (q left : ℕ) (f : Frame) (fs′ : List ℕ) (el : left ≡ size ds w) where
-    pub resumed : (ds′ : List ℕ) (g : Frame) → resumes left f ≡ true → g ≡ withSuspended f 0 → fs′ ≡ setFrame fs q g → ds′ ≡ push ds w q → IsParentAfter ds fs w q f ds′ fs′ Resumed
-    resumed ds′ g r eg ef ed = record { after = λ free. rw (ed, ef, eg, ← el, r); outcome = rw (← el, r, both (eqb left 0) _ r .0) }
+  -- ---- the parent, of which f is the record, at place q: n live children are left, and s frames are on the worker's deque
+  module _ (q n s : ℕ) (f : Frame) (fs₁ : List ℕ) (ef : f ≡ frameAt fs q) (en : n ≡ f .outstanding - 1)
+      (e₁ : fs₁ ≡ setFrame fs q (withOutstanding (frameAt fs q) n)) (es : s ≡ size ds w) where
+    stored : fs₁ ≡ setFrame fs q (withoutChild (frameAt fs q))
+    stored = rw (e₁, en, ef)
 
-    pub stayed : (o : Returned) → resumes left f ≡ false → fs′ ≡ setFrame fs q f → o ≡ cond (eqb left 0) Idle Continued → IsParentAfter ds fs w q f ds fs′ o
-    stayed o r ef eo = record { after = λ free. rw (ef, ← el, r); outcome = rw (eo, ← el, r) }
+    empty : s ≡ 0 → eqb (size ds w) 0 ≡ true
+    empty z = eq-eqb (size ds w) 0 (sym es ∙ z)
 
+    waiting : f .suspended ≡ 1 → eqb (frameAt fs q .suspended) 1 ≡ true
+    waiting z = eq-eqb (frameAt fs q .suspended) 1 (rw ef at z)
+
+    pub continued : s ≢ 0 → IsParentAfter ds fs w q ds fs₁ Continued
+    continued z =
+        let t = ne-eqb (size ds w) 0 (λ e. z (es ∙ e)) in
+        record { after = λ free. rw (stored, t); outcome = rw t }
+
+    pub not-waiting : s ≡ 0 → f .suspended ≢ 1 → IsParentAfter ds fs w q ds fs₁ Idle
+    not-waiting z m =
+        let t = ne-eqb (frameAt fs q .suspended) 1 (λ e. m (ap (λ (g : Frame). g .suspended) ef ∙ e)) in
+        record { after = λ free. rw (stored, empty z, t); outcome = rw (empty z, t) }
+
+    pub more-children : s ≡ 0 → f .suspended ≡ 1 → n ≢ 0 → IsParentAfter ds fs w q ds fs₁ Idle
+    more-children z m c =
+        let t = ne-eqb (frameAt fs q .outstanding - 1) 0 (λ e. c (en ∙ ap (λ (g : Frame). g .outstanding - 1) ef ∙ e)) in
+        record { after = λ free. rw (stored, empty z, waiting m, t); outcome = rw (empty z, waiting m, t) }
+
+    pub resumed : length fs ≡ frameWords → q < places → (ds′ fs′ : List ℕ) → s ≡ 0 → f .suspended ≡ 1 → n ≡ 0
+        → fs′ ≡ setFrame fs₁ q (withSuspended (frameAt fs₁ q) 0) → ds′ ≡ push ds w q → IsParentAfter ds fs w q ds′ fs′ Resumed
+    resumed l b ds′ fs′ z m c e₂ e₃ =
+        let g = withoutChild (frameAt fs q) in
+        let t = eq-eqb (frameAt fs q .outstanding - 1) 0 (sym (en ∙ ap (λ (g : Frame). g .outstanding - 1) ef) ∙ c) in
+        let e : fs′ ≡ setFrame fs q (withSuspended g 0) = e₂ ∙ rw (stored, frame-set-same fs q g l b) (frame-set-again fs q g (withSuspended g 0)) in
+        record { after = λ free. rw (e₃, e, empty z, waiting m, t); outcome = rw (empty z, waiting m, t) }
+
+  -- ---- a return: worker w's frame, of which f is the record, at place p
   module _ (free p : ℕ) (f : Frame) (ep : p ≡ bottom ds w) (ef : f ≡ frameAt fs p) where
     parent-is : frameAt fs (bottom ds w) .parent ≡ f .parent
     parent-is = sym (ap (λ (g : Frame). g .parent) (ef ∙ ap (frameAt fs) ep))
@@ -44,31 +89,33 @@ module _ (ds fs : List ℕ) (w : ℕ) where
           let t = eq-eqb (frameAt fs (bottom ds w) .parent) none (parent-is ∙ n) in
           record { after = rw (e₁, e₂, eg, ep, t); outcome = rw t }
 
-      pub returned-to : (h k : Frame) (ds′ fs′ : List ℕ) (o : Returned) → (f .parent ≡ none → ⊥) → h ≡ frameAt fs (f .parent) → k ≡ withoutChild h
-          → IsParentAfter ds₁ fs₁ w (f .parent) k ds′ fs′ o → IsReturn (table ds fs free) w (table ds′ fs′ p) o
+      pub returned-to : (ds′ fs′ : List ℕ) (o : Returned) → f .parent ≢ none → f .parent ≢ p
+          → IsParentAfter ds₁ fs₁ w (f .parent) ds′ fs′ o → IsReturn (table ds fs free) w (table ds′ fs′ p) o
       unfolding return returned
-      returned-to h k ds′ fs′ o n eh ek a =
+      returned-to ds′ fs′ o n d a =
           let t = ne-eqb (frameAt fs (bottom ds w) .parent) none (λ e. n (sym parent-is ∙ e)) in
-          record {
-            after = a .after p ∙ rw (e₁, e₂, eg, ek, eh, ← parent-is, ep, t);
-            outcome = a .outcome ∙ rw (e₁, ek, eh, ← parent-is, t);
-          }
+          let h : frameAt fs₁ (f .parent) ≡ frameAt fs (f .parent) = rw e₂ (frame-set-other fs p (f .parent) g d) in
+          record { after = a .after p ∙ rw (h, e₁, e₂, eg, ← parent-is, ep, t); outcome = a .outcome ∙ rw (h, e₁, ← parent-is, t) }
 
+  -- ---- a sync
   module _ (p : ℕ) (f : Frame) (ep : p ≡ bottom ds w) (ef : f ≡ frameAt fs p) where
     pub passed : f .outstanding ≡ 0 → IsSync ds fs w ds fs Passed
     unfolding sync synced
     passed z = record { after = λ free. rw (← ep, ← ef, eq-eqb (f .outstanding) 0 z); outcome = λ free. rw (← ep, ← ef, eq-eqb (f .outstanding) 0 z) }
 
-    pub waits : (g : Frame) (ds′ fs′ : List ℕ) → (f .outstanding ≡ 0 → ⊥) → g ≡ withSuspended f 1 → fs′ ≡ setFrame fs p g → ds′ ≡ pop ds w → IsSync ds fs w ds′ fs′ Suspended
+    pub waits : (ds′ fs′ : List ℕ) → f .outstanding ≢ 0 → fs′ ≡ setFrame fs p (withSuspended (frameAt fs p) 1) → ds′ ≡ pop ds w → IsSync ds fs w ds′ fs′ Suspended
     unfolding sync synced
-    waits g ds′ fs′ z eg e₁ e₂ =
-        record {
-          after = λ free. rw (e₂, e₁, eg, ← ep, ← ef, ne-eqb (f .outstanding) 0 z);
-          outcome = λ free. rw (← ep, ← ef, ne-eqb (f .outstanding) 0 z);
-        }
+    waits ds′ fs′ z e₁ e₂ =
+        let t = ne-eqb (f .outstanding) 0 z in
+        record { after = λ free. rw (e₂, e₁, ← ep, ← ef, t); outcome = λ free. rw (← ep, ← ef, t) }
 
-pub spawned : (ds fs ds′ fs₁ fs₂ : List ℕ) (free p w : ℕ) (f g h k : Frame) → p ≡ bottom ds w → f ≡ frameAt fs p → h ≡ frameAt fs free
-    → g ≡ withChild f → fs₁ ≡ setFrame fs p g → k ≡ childOf f p → fs₂ ≡ setFrame fs₁ free k → ds′ ≡ push ds w free
+pub spawned : (ds fs ds′ fs₁ fs₂ : List ℕ) (free p w n : ℕ) (f h k : Frame) → p ≡ bottom ds w → f ≡ frameAt fs p → h ≡ frameAt fs free
+    → n ≡ plus (f .outstanding) 1 → fs₁ ≡ setFrame fs p (withOutstanding (frameAt fs p) n) → k ≡ childOf f p → fs₂ ≡ setFrame fs₁ free k → ds′ ≡ push ds w free
     → table ds′ fs₂ (h .parent) ≡ spawn (table ds fs free) w
 unfolding spawn
-spawned ds fs ds′ fs₁ fs₂ free p w f g h k ep ef eh eg e₁ ek e₂ e₃ = rw (e₃, e₂, e₁, ek, eg, eh, ef, ep)
+spawned ds fs ds′ fs₁ fs₂ free p w n f h k ep ef eh en e₁ ek e₂ e₃ = rw (e₃, e₂, e₁, ek, en, eh, ef, ep)
+
+pub begun : (fs fs₁ fs₂ fs₃ : List ℕ) (f : Frame) → length fs ≡ frameWords → fs₁ ≡ replicate (length fs) 0 → f ≡ mainFrame 0 → fs₂ ≡ setFrame fs₁ 0 f
+    → fs₃ ≡ initPlaces (places - 1) fs₂ 1 → fs₃ ≡ initFrames (replicate frameWords 0)
+unfolding initFrames
+begun fs fs₁ fs₂ fs₃ f l e₁ ef e₂ e₃ = rw (e₃, e₂, e₁, ef, l)

@@ -1,21 +1,22 @@
--- The deques in a list of words: for each worker its length, then 64 places for its frames from the top. Definitions only.
-use mathlib.Core.List.{List}
+-- The deques in a list of words: for each worker its length, then places for its frames from the top. Definitions only.
+use mathlib.Core.List.{List, [], _∷_}
 use Prim.Native.Nat.{ℕ, zero, suc, _+_, _-_, _*_}
 use lib.ListN.{getD, set}
 use Rattle.words.specs.Basics.{plus}
+use Rattle.frames.specs.Widths.{dequeStride}
 
 -- document 02: "for each of 8 workers its deque length and 64 places for its frames from the top"
 unfoldable pub size : List ℕ → ℕ → ℕ
-size ds w = getD ds (65 * w) 0
+size ds w = getD ds (dequeStride * w) 0
 
 unfoldable pub setSize : List ℕ → ℕ → ℕ → List ℕ
-setSize ds w c = set ds (65 * w) c
+setSize ds w c = set ds (dequeStride * w) c
 
 unfoldable pub place : List ℕ → ℕ → ℕ → ℕ
-place ds w k = getD ds (65 * w + (1 + k)) 0
+place ds w k = getD ds (dequeStride * w + (1 + k)) 0
 
 unfoldable pub setPlace : List ℕ → ℕ → ℕ → ℕ → List ℕ
-setPlace ds w k p = set ds (65 * w + (1 + k)) p
+setPlace ds w k p = set ds (dequeStride * w + (1 + k)) p
 
 -- document 01: "the bottom one is being executed"
 unfoldable pub bottom : List ℕ → ℕ → ℕ
@@ -23,6 +24,15 @@ bottom ds w = place ds w (size ds w - 1)
 
 unfoldable pub top : List ℕ → ℕ → ℕ
 top ds w = place ds w 0
+
+-- the places n - 1, .., 0
+unfoldable pub placesTo : ℕ → List ℕ → ℕ → List ℕ
+placesTo zero ds w = []
+placesTo (suc n) ds w = place ds w n ∷ placesTo n ds w
+
+-- worker w's frames from the bottom to the top
+unfoldable pub dequeList : List ℕ → ℕ → List ℕ
+dequeList ds w = placesTo (size ds w) ds w
 
 -- a frame more at the bottom
 unfoldable pub push : List ℕ → ℕ → ℕ → List ℕ

@@ -1,45 +1,115 @@
-// The deques: for each worker its length, then 64 places for its frames from the top.
+// The deques: for each worker its length, then places for its frames from the top.
 ghost use mathlib.Core.Path.{_≡_};
-ghost use Rattle.frames.specs.Deques.{size, setSize, place, setPlace, push, initDeques};
+ghost use Prim.Native.Nat.{_+_, _≤_, _<_};
+ghost use lib.ListN.{length, getD, replicate};
+ghost use Rattle.frames.specs.Widths.{maxWorkers, dequePlaces, dequeWords};
+ghost use Rattle.frames.specs.Deques.{size, setSize, place, setPlace, bottom, top, push, pop, shiftUp, dropTop, initDeques};
+use super::DEQUE_STRIDE;
 
 // How many frames worker w has.
-pub fn deque_size(deques: &[u32], w: u32) -> u32
+pub fn size_at(deques: &[u32], w: u32) -> u32
+    requires { ⌜ (length (now deques) ≡ dequeWords) × (w < maxWorkers) ⌝ }
     ensures { λ r. ⌜ r ≡ size (now (deques .entry)) w ⌝ }
 {
-    words::word(deques, 65 * (w as usize))
+    deques[DEQUE_STRIDE * (w as usize)]
 }
 
-fn set_size(deques: &mut [u32], w: u32, n: u32)
+fn put_size(deques: &mut [u32], w: u32, n: u32)
+    requires { ⌜ (length (now deques) ≡ dequeWords) × (w < maxWorkers) ⌝ }
     ensures { λ _. ⌜ now (deques .exit) ≡ setSize (now (deques .entry)) w n ⌝ }
 {
-    words::put(deques, 65 * (w as usize), n);
+    deques[DEQUE_STRIDE * (w as usize)] = n;
 }
 
 // The frame that is k places below worker w's top.
-pub fn deque_place(deques: &[u32], w: u32, k: u32) -> u32
+pub fn place_at(deques: &[u32], w: u32, k: u32) -> u32
+    requires { ⌜ (length (now deques) ≡ dequeWords) × (w < maxWorkers) × (k < dequePlaces) ⌝ }
     ensures { λ r. ⌜ r ≡ place (now (deques .entry)) w k ⌝ }
 {
-    words::word(deques, 65 * (w as usize) + (1 + (k as usize)))
+    deques[DEQUE_STRIDE * (w as usize) + (1 + (k as usize))]
 }
 
-fn set_place(deques: &mut [u32], w: u32, k: u32, p: u32)
+fn put_place(deques: &mut [u32], w: u32, k: u32, p: u32)
+    requires { ⌜ (length (now deques) ≡ dequeWords) × (w < maxWorkers) × (k < dequePlaces) ⌝ }
     ensures { λ _. ⌜ now (deques .exit) ≡ setPlace (now (deques .entry)) w k p ⌝ }
 {
-    words::put(deques, 65 * (w as usize) + (1 + (k as usize)), p);
+    deques[DEQUE_STRIDE * (w as usize) + (1 + (k as usize))] = p;
+}
+
+// The frame that a thief takes.
+pub fn top_at(deques: &[u32], w: u32) -> u32
+    requires { ⌜ (length (now deques) ≡ dequeWords) × (w < maxWorkers) ⌝ }
+    ensures { λ r. ⌜ r ≡ top (now (deques .entry)) w ⌝ }
+{
+    deques[DEQUE_STRIDE * (w as usize) + 1]
+}
+
+// The word n places past `at`.
+fn word_past(words: &[u32], at: usize, n: u32) -> u32
+    requires { ⌜ at + n < length (now words) ⌝ }
+    ensures { λ r. ⌜ r ≡ getD (now (words .entry)) (at + n) 0 ⌝ }
+{
+    words[at + (n as usize)]
+}
+
+// The place of the frame that worker w executes.
+pub fn acting_place(deques: &[u32], w: u32) -> u32
+    requires { ⌜ (length (now deques) ≡ dequeWords) × (w < maxWorkers) × (0 < size (now deques) w) × (size (now deques) w ≤ dequePlaces) ⌝ }
+    ensures { λ r. ⌜ r ≡ bottom (now (deques .entry)) w ⌝ }
+{
+    let at = DEQUE_STRIDE * (w as usize);
+    word_past(deques, at, deques[at])
 }
 
 // A frame more at the bottom.
-pub fn push_frame(deques: &mut [u32], w: u32, p: u32)
+pub fn push_on(deques: &mut [u32], w: u32, p: u32)
+    requires { ⌜ (length (now deques) ≡ dequeWords) × (w < maxWorkers) × (size (now deques) w < dequePlaces) ⌝ }
     ensures { λ _. ⌜ now (deques .exit) ≡ push (now (deques .entry)) w p ⌝ }
 {
-    let n = deque_size(deques, w);
-    set_place(deques, w, n, p);
-    set_size(deques, w, words::add(n, 1));
+    let n = size_at(deques, w);
+    put_place(deques, w, n, p);
+    put_size(deques, w, words::add(n, 1));
 }
 
-// The start: Main, in place 0, is alone on worker 0's deque.
-pub fn init_deques(deques: &mut [u32])
-    ensures { λ _. ⌜ now (deques .exit) ≡ initDeques (now (deques .entry)) ⌝ }
+// The bottom frame taken off.
+pub fn pop_off(deques: &mut [u32], w: u32)
+    requires { ⌜ (length (now deques) ≡ dequeWords) × (w < maxWorkers) × (0 < size (now deques) w) × (size (now deques) w ≤ dequePlaces) ⌝ }
+    ensures { λ _. ⌜ now (deques .exit) ≡ pop (now (deques .entry)) w ⌝ }
 {
-    push_frame(deques, 0, 0);
+    let n = size_at(deques, w) - 1;
+    put_place(deques, w, n, 0);
+    put_size(deques, w, n);
+}
+
+// The first count places take the frame of the next place.
+fn move_up(deques: &mut [u32], w: u32, count: u32)
+    requires { ⌜ (length (now deques) ≡ dequeWords) × (w < maxWorkers) × (count < dequePlaces) ⌝ }
+    ensures { λ _. ⌜ now (deques .exit) ≡ shiftUp count (now (deques .entry)) w 0 ⌝ }
+{
+    let mut at = DEQUE_STRIDE * (w as usize) + 1;
+    let end = at + (count as usize);
+    while at < end {
+        deques[at] = deques[at + 1];
+        at += 1;
+    }
+}
+
+// The top frame taken off: the rest moves up.
+pub fn top_off(deques: &mut [u32], w: u32)
+    requires { ⌜ (length (now deques) ≡ dequeWords) × (w < maxWorkers) × (0 < size (now deques) w) × (size (now deques) w ≤ dequePlaces) ⌝ }
+    ensures { λ _. ⌜ now (deques .exit) ≡ dropTop (now (deques .entry)) w ⌝ }
+{
+    let n = size_at(deques, w) - 1;
+    move_up(deques, w, n);
+    put_place(deques, w, n, 0);
+    put_size(deques, w, n);
+}
+
+// The start, whatever the words held: Main, in place 0, is alone on worker 0's deque.
+pub fn init_deques(deques: &mut [u32])
+    requires { ⌜ length (now deques) ≡ dequeWords ⌝ }
+    ensures { λ _. ⌜ now (deques .exit) ≡ initDeques (replicate dequeWords 0) ⌝ }
+{
+    words::clear_all(deques);
+    push_on(deques, 0, 0);
 }

@@ -1,28 +1,19 @@
-// The frame table and the workers' deques, in lent words; what the steps do to them.
+// The frame table and the workers' deques, in lent words; what the steps do to them. The lent words have their exact lengths,
+// so no function tests an index, but for frame_or_zero.
 mod deques;
-mod fast;
 mod records;
 mod steps;
 
-pub use deques::deque_place;
-pub use deques::deque_size;
+pub use deques::acting_place;
 pub use deques::init_deques;
-pub use deques::push_frame;
-pub use fast::acting_place;
-pub use fast::frame_at;
-pub use fast::root_at;
-pub use fast::set_root;
-pub use fast::size_at;
-pub use fast::top_at;
-pub use records::child_of;
-pub use records::frame_in;
-pub use records::free_place;
+pub use deques::place_at;
+pub use deques::size_at;
+pub use deques::top_at;
+pub use records::frame_at;
+pub use records::frame_or_zero;
 pub use records::init_frames;
-pub use records::main_frame;
-pub use records::store_frame;
-pub use records::with_child;
-pub use records::with_suspended;
-pub use records::without_child;
+pub use records::root_at;
+pub use records::set_root;
 pub use steps::return_frame;
 pub use steps::spawn_frame;
 pub use steps::steal_frame;
@@ -30,6 +21,15 @@ pub use steps::sync_frame;
 
 // document 01: "None is 4,294,967,295"
 pub const NONE: u32 = 4294967295;
+
+// The widths of specs/Widths.antt.
+pub const MAX_WORKERS: u32 = 8;
+pub const PLACES: u32 = 64;
+pub const RECORD_WORDS: usize = 6;
+pub const FRAME_WORDS: usize = PLACES as usize * RECORD_WORDS;
+pub const DEQUE_PLACES: u32 = 64;
+pub const DEQUE_STRIDE: usize = 1 + DEQUE_PLACES as usize;
+pub const DEQUE_WORDS: usize = MAX_WORKERS as usize * DEQUE_STRIDE;
 
 // A frame record. live and suspended are 0 or 1; parent is the parent's place, none for Main, and for a free place the
 // next free place or none.

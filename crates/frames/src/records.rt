@@ -1,39 +1,18 @@
-// Frame records: the two functions that know where a record lies, single records by value, and the table at the start.
+// Frame records: single records by value, the record at a place and its words, and the table at the start.
 ghost use mathlib.Core.Path.{_≡_};
 ghost use mathlib.Core.Bool.{cond};
+ghost use Prim.Native.Nat.{_+_, _≤_, _<_};
 ghost use lib.Dec.{eqb};
+ghost use lib.ListN.{length, replicate};
 ghost use Rattle.words.specs.Basics.{none};
-ghost use Rattle.frames.specs.Frames.{frameAt, setFrame, childOf, withChild, withoutChild, withSuspended, freePlace, mainFrame, initPlaces, initFrames};
+ghost use Rattle.frames.specs.Widths.{places, frameWords};
+ghost use Rattle.frames.specs.Frames.{frameAt, setFrame, withOutstanding, withSuspended, withRoot, childOf, freePlace, mainFrame, initPlaces, initFrames};
 use super::Frame;
 use super::NONE;
+use super::PLACES;
+use super::RECORD_WORDS;
 
-// The record at place p; past the end, zeros.
-pub fn frame_in(frames: &[u32], p: u32) -> Frame
-    ensures { λ r. ⌜ r ≡ frameAt (now (frames .entry)) p ⌝ }
-{
-    let at = 6 * (p as usize);
-    Frame {
-        live: words::word(frames, at),
-        parent: words::word(frames, at + 1),
-        depth: words::word(frames, at + 2),
-        outstanding: words::word(frames, at + 3),
-        suspended: words::word(frames, at + 4),
-        root: words::word(frames, at + 5),
-    }
-}
-
-// Stores the record at place p; past the end, nothing.
-pub fn store_frame(frames: &mut [u32], p: u32, f: Frame)
-    ensures { λ _. ⌜ now (frames .exit) ≡ setFrame (now (frames .entry)) p f ⌝ }
-{
-    let at = 6 * (p as usize);
-    words::put(frames, at, f.live);
-    words::put(frames, at + 1, f.parent);
-    words::put(frames, at + 2, f.depth);
-    words::put(frames, at + 3, f.outstanding);
-    words::put(frames, at + 4, f.suspended);
-    words::put(frames, at + 5, f.root);
-}
+// ---- single records
 
 // A spawned child of the frame f at place p.
 pub fn child_of(f: Frame, p: u32) -> Frame
@@ -47,33 +26,6 @@ pub fn child_of(f: Frame, p: u32) -> Frame
         suspended: 0,
         root: f.root,
     }
-}
-
-// One live child more.
-pub fn with_child(f: Frame) -> Frame
-    ensures { λ r. ⌜ r ≡ withChild f ⌝ }
-{
-    let mut g = f;
-    g.outstanding = words::add(f.outstanding, 1);
-    g
-}
-
-// One live child less.
-pub fn without_child(f: Frame) -> Frame
-    ensures { λ r. ⌜ r ≡ withoutChild f ⌝ }
-{
-    let mut g = f;
-    g.outstanding = words::sub(f.outstanding, 1);
-    g
-}
-
-// Suspended (1) or not (0).
-pub fn with_suspended(f: Frame, s: u32) -> Frame
-    ensures { λ r. ⌜ r ≡ withSuspended f s ⌝ }
-{
-    let mut g = f;
-    g.suspended = s;
-    g
 }
 
 // A free place, with the next one.
@@ -91,7 +43,7 @@ pub fn free_place(next: u32) -> Frame
 }
 
 // Main, with the tree of this root.
-pub fn main_frame(root: u32) -> Frame
+fn main_frame(root: u32) -> Frame
     ensures { λ r. ⌜ r ≡ mainFrame root ⌝ }
 {
     Frame {
@@ -104,6 +56,84 @@ pub fn main_frame(root: u32) -> Frame
     }
 }
 
+// ---- the table
+
+// The record at place p.
+pub fn frame_at(frames: &[u32], p: u32) -> Frame
+    requires { ⌜ (length (now frames) ≡ frameWords) × (p < places) ⌝ }
+    ensures { λ r. ⌜ r ≡ frameAt (now (frames .entry)) p ⌝ }
+{
+    let at = RECORD_WORDS * (p as usize);
+    Frame {
+        live: frames[at],
+        parent: frames[at + 1],
+        depth: frames[at + 2],
+        outstanding: frames[at + 3],
+        suspended: frames[at + 4],
+        root: frames[at + 5],
+    }
+}
+
+// The record at place p, and zeros where p is no place.
+pub fn frame_or_zero(frames: &[u32], p: u32) -> Frame
+    requires { ⌜ length (now frames) ≡ frameWords ⌝ }
+    ensures { λ r. ⌜ r ≡ frameAt (now (frames .entry)) p ⌝ }
+{
+    if p < PLACES {
+        frame_at(frames, p)
+    } else {
+        free_place(0)
+    }
+}
+
+// Stores the record at place p.
+pub fn put_frame(frames: &mut [u32], p: u32, f: Frame)
+    requires { ⌜ (length (now frames) ≡ frameWords) × (p < places) ⌝ }
+    ensures { λ _. ⌜ now (frames .exit) ≡ setFrame (now (frames .entry)) p f ⌝ }
+{
+    let at = RECORD_WORDS * (p as usize);
+    frames[at] = f.live;
+    frames[at + 1] = f.parent;
+    frames[at + 2] = f.depth;
+    frames[at + 3] = f.outstanding;
+    frames[at + 4] = f.suspended;
+    frames[at + 5] = f.root;
+}
+
+// The root of the frame at place p.
+pub fn root_at(frames: &[u32], p: u32) -> u32
+    requires { ⌜ (length (now frames) ≡ frameWords) × (p < places) ⌝ }
+    ensures { λ r. ⌜ r ≡ frameAt (now (frames .entry)) p .root ⌝ }
+{
+    frames[RECORD_WORDS * (p as usize) + 5]
+}
+
+// Gives the frame at place p another number of live children.
+pub fn set_outstanding(frames: &mut [u32], p: u32, n: u32)
+    requires { ⌜ (length (now frames) ≡ frameWords) × (p < places) ⌝ }
+    ensures { λ _. ⌜ now (frames .exit) ≡ setFrame (now (frames .entry)) p (withOutstanding (frameAt (now (frames .entry)) p) n) ⌝ }
+{
+    frames[RECORD_WORDS * (p as usize) + 3] = n;
+}
+
+// The frame at place p is suspended (1) or not (0).
+pub fn set_suspended(frames: &mut [u32], p: u32, s: u32)
+    requires { ⌜ (length (now frames) ≡ frameWords) × (p < places) ⌝ }
+    ensures { λ _. ⌜ now (frames .exit) ≡ setFrame (now (frames .entry)) p (withSuspended (frameAt (now (frames .entry)) p) s) ⌝ }
+{
+    frames[RECORD_WORDS * (p as usize) + 4] = s;
+}
+
+// Gives the frame at place p another tree.
+pub fn set_root(frames: &mut [u32], p: u32, root: u32)
+    requires { ⌜ (length (now frames) ≡ frameWords) × (p < places) ⌝ }
+    ensures { λ _. ⌜ now (frames .exit) ≡ setFrame (now (frames .entry)) p (withRoot (frameAt (now (frames .entry)) p) root) ⌝ }
+{
+    frames[RECORD_WORDS * (p as usize) + 5] = root;
+}
+
+// ---- the start
+
 // The link of a free place with so many free places after it, the first of them at next.
 fn link(left: u32, next: u32) -> u32
     ensures { λ r. ⌜ r ≡ cond (eqb left 0) none next ⌝ }
@@ -113,6 +143,7 @@ fn link(left: u32, next: u32) -> u32
 
 // count free places from place first on, in rising order.
 fn init_places(frames: &mut [u32], count: u32, first: u32)
+    requires { ⌜ (length (now frames) ≡ frameWords) × (first + count ≤ places) ⌝ }
     ensures { λ _. ⌜ now (frames .exit) ≡ initPlaces count (now (frames .entry)) first ⌝ }
 {
     let mut left = count;
@@ -120,15 +151,17 @@ fn init_places(frames: &mut [u32], count: u32, first: u32)
     while left > 0 {
         left -= 1;
         let next = words::add(p, 1);
-        store_frame(frames, p, free_place(link(left, next)));
+        put_frame(frames, p, free_place(link(left, next)));
         p = next;
     }
 }
 
-// The start: Main in place 0, with node 0 as its root, then 63 free places.
+// The start, whatever the words held: Main in place 0, with node 0 as its root; the other places are free.
 pub fn init_frames(frames: &mut [u32])
-    ensures { λ _. ⌜ now (frames .exit) ≡ initFrames (now (frames .entry)) ⌝ }
+    requires { ⌜ length (now frames) ≡ frameWords ⌝ }
+    ensures { λ _. ⌜ now (frames .exit) ≡ initFrames (replicate frameWords 0) ⌝ }
 {
-    store_frame(frames, 0, main_frame(0));
-    init_places(frames, 63, 1);
+    words::clear_all(frames);
+    put_frame(frames, 0, main_frame(0));
+    init_places(frames, PLACES - 1, 1);
 }

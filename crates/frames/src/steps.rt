@@ -2,31 +2,29 @@
 // caller's to see to.
 ghost use mathlib.Core.Path.{_≡_};
 ghost use mathlib.Core.List.{List};
-ghost use mathlib.Core.Logic.{_⊎_};
 ghost use Prim.Native.Nat.{ℕ, _≤_, _<_};
 ghost use lib.ListN.{length};
-ghost use Rattle.words.specs.Basics.{none};
+ghost use Rattle.frames.specs.Widths.{maxWorkers, places, frameWords, dequePlaces, dequeWords};
 ghost use Rattle.frames.specs.Deques.{size};
-ghost use Rattle.frames.specs.Steps.{resumes, spawn, steal};
+ghost use Rattle.frames.specs.Steps.{spawn, steal};
 ghost use Rattle.frames.specs.Promises.{table, IsReturn, IsParentAfter, IsSync};
-ghost use Rattle.frames.specs.Ranges.{Acts};
+ghost use Rattle.frames.specs.Ranges.{Acts, ParentOf};
 use super::Ended;
 use super::Frame;
 use super::NONE;
 use super::Returned;
 use super::Synced;
-use super::fast::frame_at;
-use super::fast::pop_off;
-use super::fast::push_on;
-use super::fast::put_frame;
-use super::fast::size_at;
-use super::fast::top_at;
-use super::fast::top_off;
+use super::deques::pop_off;
+use super::deques::push_on;
+use super::deques::size_at;
+use super::deques::top_at;
+use super::deques::top_off;
 use super::records::child_of;
+use super::records::frame_at;
 use super::records::free_place;
-use super::records::with_child;
-use super::records::with_suspended;
-use super::records::without_child;
+use super::records::put_frame;
+use super::records::set_outstanding;
+use super::records::set_suspended;
 
 // A child of worker w's bottom frame, which is f at place p, in the first free place, goes to the bottom of the same deque. Gives the first
 // free place.
@@ -38,46 +36,36 @@ pub fn spawn_frame(
     p: u32,
     f: Frame,
 ) -> u32
-    requires { ⌜ Acts (now deques) (now frames) w p f × (size (now deques) w < 64) × (free < 64) ⌝ }
+    requires { ⌜ Acts (now deques) (now frames) w p f × (size (now deques) w < dequePlaces) × (free < places) ⌝ }
     ensures { λ r. ⌜ table (now (deques .exit)) (now (frames .exit)) r ≡ spawn (table (now (deques .entry)) (now (frames .entry)) free) w ⌝ }
 {
     let next = frame_at(frames, free);
-    put_frame(frames, p, with_child(f));
+    set_outstanding(frames, p, words::add(f.outstanding, 1));
     put_frame(frames, free, child_of(f, p));
     push_on(deques, w, free);
     next.parent
 }
 
-// Whether the parent resumes: of its record, already without this child, and the deque's length without this frame.
-fn parent_resumes(left: u32, parent: Frame) -> bool
-    ensures { λ r. ⌜ r ≡ resumes left parent ⌝ }
+// The parent at place q has a live child less; perhaps it resumes.
+fn return_to(deques: &mut [u32], frames: &mut [u32], w: u32, q: u32) -> Returned
+    requires { ⌜ (length (now deques) ≡ dequeWords) × (length (now frames) ≡ frameWords) × (w < maxWorkers) × (q < places) × (size (now deques) w < dequePlaces) ⌝ }
+    ensures { λ r. ⌜ IsParentAfter (now (deques .entry)) (now (frames .entry)) w q (now (deques .exit)) (now (frames .exit)) r ⌝ }
 {
-    if left != 0 {
-        return false;
+    let parent = frame_at(frames, q);
+    let left = words::sub(parent.outstanding, 1);
+    set_outstanding(frames, q, left);
+    if size_at(deques, w) != 0 {
+        return Returned::Continued;
     }
     if parent.suspended != 1 {
-        return false;
+        return Returned::Idle;
     }
-    parent.outstanding == 0
-}
-
-// The parent at place q, whose record is f, has a live child less; perhaps it resumes.
-fn return_to(deques: &mut [u32], frames: &mut [u32], w: u32, q: u32, f: Frame) -> Returned
-    requires { ⌜ (length (now deques) ≡ 520) × (length (now frames) ≡ 384) × (w < 8) × (q < 64) × (size (now deques) w < 64) ⌝ }
-    ensures { λ r. ⌜ IsParentAfter (now (deques .entry)) (now (frames .entry)) w q f (now (deques .exit)) (now (frames .exit)) r ⌝ }
-{
-    let left = size_at(deques, w);
-    if parent_resumes(left, f) {
-        put_frame(frames, q, with_suspended(f, 0));
-        push_on(deques, w, q);
-        return Returned::Resumed;
+    if left != 0 {
+        return Returned::Idle;
     }
-    put_frame(frames, q, f);
-    if left == 0 {
-        Returned::Idle
-    } else {
-        Returned::Continued
-    }
+    set_suspended(frames, q, 0);
+    push_on(deques, w, q);
+    Returned::Resumed
 }
 
 // Worker w's bottom frame, which is f at place p, ends, and its place is the first free one.
@@ -89,21 +77,19 @@ pub fn return_frame(
     p: u32,
     f: Frame,
 ) -> Ended
-    requires { ⌜ Acts (now deques) (now frames) w p f × ((f .parent < 64) ⊎ (f .parent ≡ none)) ⌝ }
+    requires { ⌜ Acts (now deques) (now frames) w p f × ParentOf p f ⌝ }
     ensures { λ r. ⌜ IsReturn (table (now (deques .entry)) (now (frames .entry)) free) w (table (now (deques .exit)) (now (frames .exit)) (r .«free_place»)) (r .outcome) ⌝ }
 {
     pop_off(deques, w);
+    put_frame(frames, p, free_place(free));
     let q = f.parent;
     if q == NONE {
-        put_frame(frames, p, free_place(free));
         return Ended {
             free_place: p,
             outcome: Returned::Finished,
         };
     }
-    let parent = without_child(frame_at(frames, q));
-    put_frame(frames, p, free_place(free));
-    let outcome = return_to(deques, frames, w, q, parent);
+    let outcome = return_to(deques, frames, w, q);
     Ended {
         free_place: p,
         outcome,
@@ -112,7 +98,7 @@ pub fn return_frame(
 
 // Worker w takes the top frame of worker v.
 pub fn steal_frame(deques: &mut [u32], w: u32, v: u32)
-    requires { ⌜ (length (now deques) ≡ 520) × (w < 8) × (v < 8) × (size (now deques) w ≡ 0) × (2 ≤ size (now deques) v) × (size (now deques) v ≤ 64) ⌝ }
+    requires { ⌜ (length (now deques) ≡ dequeWords) × (w < maxWorkers) × (v < maxWorkers) × (size (now deques) w ≡ 0) × (2 ≤ size (now deques) v) × (size (now deques) v ≤ dequePlaces) ⌝ }
     ensures { λ _. ⌜ ((fs : List ℕ) (free : ℕ) → table (now (deques .exit)) fs free ≡ steal (table (now (deques .entry)) fs free) w v) ⌝ }
 {
     let p = top_at(deques, v);
@@ -128,7 +114,7 @@ pub fn sync_frame(deques: &mut [u32], frames: &mut [u32], w: u32, p: u32, f: Fra
     if f.outstanding == 0 {
         return Synced::Passed;
     }
-    put_frame(frames, p, with_suspended(f, 1));
+    set_suspended(frames, p, 1);
     pop_off(deques, w);
     Synced::Suspended
 }

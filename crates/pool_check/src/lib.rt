@@ -2,6 +2,7 @@
 // A contract is an equation with a definition of specs/, on all inputs; only the functions below run_check require room for the
 // nodes, which run_check tests first.
 ghost use mathlib.Core.Path.{_≡_};
+ghost use Rattle.frames.specs.Widths.{frameWords};
 ghost use Prim.Native.Nat.{_*_, _≤_};
 ghost use lib.ListN.{length};
 ghost use Rattle.soundness.specs.Soundness.{cleared};
@@ -48,6 +49,7 @@ fn run_check(
     pool: &[u32],
     work: &mut [u32],
 ) -> PoolChecked
+    requires { ⌜ length (now frames) ≡ frameWords ⌝ }
     ensures { λ r. ⌜ (now (work .exit) ≡ runCheck n nodes first (now (frames .entry)) (now (pool .entry)) (now (work .entry)) .0)
         × (r ≡ runCheck n nodes first (now (frames .entry)) (now (pool .entry)) (now (work .entry)) .1) ⌝ }
 {
@@ -79,6 +81,7 @@ pub fn check_pool(
     pool: &[u32],
     work: &mut [u32],
 ) -> PoolChecked
+    requires { ⌜ length (now frames) ≡ frameWords ⌝ }
     ensures { λ r. ⌜ (now (work .exit) ≡ cleared nodes (now (work .entry)))
         × (r ≡ poolChecked n nodes first (now (frames .entry)) (now (pool .entry)) (now (work .entry))) ⌝ }
 {

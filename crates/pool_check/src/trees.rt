@@ -1,5 +1,6 @@
 // The live frames' trees are visited: each node reached is stamped, and the links to it are counted.
 ghost use mathlib.Core.Path.{_≡_};
+ghost use Rattle.frames.specs.Widths.{frameWords};
 ghost use Prim.Native.Nat.{_+_, _*_, _^_, _≤_, _<_, min};
 ghost use lib.ListN.{length};
 ghost use Rattle.pool_check.specs.Algorithm.{shaped, visit, below, Met, Roomy, visitPlace, visitPlaces};
@@ -112,11 +113,11 @@ fn visit_place(
     nodes: u32,
     p: u32,
 ) -> bool
-    requires { ⌜ Roomy nodes (now pool) (now work) height n ⌝ }
+    requires { ⌜ Roomy nodes (now pool) (now work) height n × (length (now frames) ≡ frameWords) ⌝ }
     ensures { λ r. ⌜ (now (work .exit) ≡ visitPlace n height nodes (now (frames .entry)) (now (pool .entry)) p (now (work .entry)) .0)
         × (r ≡ visitPlace n height nodes (now (frames .entry)) (now (pool .entry)) p (now (work .entry)) .1) ⌝ }
 {
-    let f = frames::frame_in(frames, p);
+    let f = frames::frame_or_zero(frames, p);
     if f.live != 1 {
         return true;
     }
@@ -132,7 +133,7 @@ pub fn visit_places(
     height: u32,
     nodes: u32,
 ) -> bool
-    requires { ⌜ Roomy nodes (now pool) (now work) height n ⌝ }
+    requires { ⌜ Roomy nodes (now pool) (now work) height n × (length (now frames) ≡ frameWords) ⌝ }
     ensures { λ r. ⌜ (now (work .exit) ≡ visitPlaces n height nodes (now (frames .entry)) (now (pool .entry)) 64 (now (work .entry)) .0)
         × (r ≡ visitPlaces n height nodes (now (frames .entry)) (now (pool .entry)) 64 (now (work .entry)) .1) ⌝ }
 {

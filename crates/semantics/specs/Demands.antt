@@ -1,14 +1,14 @@
 -- Demands 1 to 3 of document 01 over the entries, as a host calls them. Statements only; Theory proves them.
 use mathlib.Core.Path.{_≡_}
 use mathlib.Core.Logic.{_↔_}
-use mathlib.Core.Bool.{true, cond}
+use mathlib.Core.Bool.{Bool, true, cond, _||_}
 use mathlib.Core.List.{List·Memᴰ as In}
 use mathlib.Core.List.{List, [], _∷_, map}
-use Prim.Native.Nat.{ℕ, suc, _+_, _*_, _≤_, _<_}
+use Prim.Native.Nat.{ℕ, suc, _+_, _*_, _/_, _≤_, _<_}
 use lib.ListN.{length, drop}
 use lib.Dec.{eqb}
 use Rattle.words.specs.Basics.{count}
-use Rattle.soundness.specs.Soundness.{freeNodes}
+use Rattle.soundness.specs.Soundness.{freeNodes, cleared}
 use Rattle.model.specs.declared.Step.{Step}
 use Rattle.model.specs.declared.Step.the-variants.{Spawn, Return, Steal, Sync, Read, Write}
 use Rattle.model.specs.declared.Decoded.{Decoded}
@@ -121,6 +121,34 @@ answersBefore (tape bytes work answers) = answers
 pub record RefusedCall (h : StateAndPool) (c : HostCall) : Type 0 where
   pub same : afterCall h c ≡ h
   pub same-answers : answersAfter h c ≡ answersBefore c
+
+-- ---- the slices after any call, refused or not
+
+-- "Answer words past the last record's never change."
+pub record SamePast (h : StateAndPool) (bytes work answers : List ℕ) : Type 0 where
+  pub same-length : length (tapeResult h bytes work answers .answers) ≡ length answers
+  pub past : drop (2 * (length bytes / 8)) (tapeResult h bytes work answers .answers) ≡ drop (2 * (length bytes / 8)) answers
+
+-- a step's first answer word; a tape's result
+abbrev pub callResult : StateAndPool → HostCall → ℕ
+callResult h (outside kind worker field value work) = wordsIn (outsideResult h kind worker field value work .result) .0
+callResult h (tape bytes work answers) = tapeResult h bytes work answers .result
+
+abbrev pub workBefore : HostCall → List ℕ
+workBefore (outside kind worker field value work) = work
+workBefore (tape bytes work answers) = work
+
+abbrev pub workAfter : StateAndPool → HostCall → List ℕ
+workAfter h (outside kind worker field value work) = outsideResult h kind worker field value work .work
+workAfter h (tape bytes work answers) = tapeResult h bytes work answers .work
+
+-- refusals 99, 4 and 5 come before the check
+abbrev pub beforeCheck : ℕ → Bool
+beforeCheck r = eqb r 99 || (eqb r 4 || eqb r 5)
+
+-- "after a call that reached it, its first words, one per recorded node, are zero and the others are unchanged"
+abbrev pub WorkAfter : StateAndPool → HostCall → Type 0
+WorkAfter h c = workAfter h c ≡ cond (beforeCheck (callResult h c)) (workBefore c) (cleared (numbersOf (h .state) .nodes) (workBefore c))
 
 -- ---- demand 3
 

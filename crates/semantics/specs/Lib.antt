@@ -1,6 +1,8 @@
 pub mod Answers
 pub mod Core
 pub mod Entries
+pub mod Promises
+pub mod Ranges
 pub mod SoundMachine
 pub mod Calls
 pub mod Demands

@@ -1,4 +1,3 @@
--- What a reader must believe: Interface, Run. What is proved of it: Theory.
-pub mod Interface
-pub mod Run
+-- OneRecord: what the inner contracts of the entries cite. What the entries promise is in the crate semantics (Promises, Entries).
+pub mod OneRecord
 pub mod Theory

@@ -1,60 +1,42 @@
-// The exported functions. A state slice that is too short is refused first, by a number of its own, and nothing changes.
+// The entries, over the state's lent parts: its numbers, its deques and its frames. A part that has another length than it must have is
+// refused first, by a number of its own, and nothing changes.
 ghost use mathlib.Core.Path.{_≡_};
 ghost use Prim.Native.Nat.{_%_, _^_, min};
 ghost use Rattle.sizes.specs.Sizes.{treeNodes};
 ghost use Rattle.model.specs.Record.{recordOf, decodeAt};
-ghost use Rattle.splitter.specs.Interface.{callNumber, IsHostStart, IsHostStep, IsHostTape};
-ghost use Rattle.splitter.specs.Theory.OneRecord.{bytesOf, callWords};
-use crate::image::load;
-use crate::image::store;
+ghost use Rattle.semantics.specs.Entries.{fits, startOn, outsideOn, tapeOn};
+ghost use Rattle.semantics.specs.Promises.{parts, IsStart, IsOutside, IsTape};
+ghost use Rattle.splitter.specs.OneRecord.{bytesOf, resultWords};
 use engine::refusal_number;
-use engine::start;
-use engine::tape;
-use semantics::Call;
+use engine::start_on;
+use engine::tape_on;
+use frames::DEQUE_WORDS;
+use frames::FRAME_WORDS;
+use semantics::Refusal;
 
-// The words of a state slice.
-const STATE_WORDS: usize = 909;
-
-// The interface's own refusal.
-const SHORT_STATE: u32 = 99;
-
-// 0, or the refusal's number.
-fn call_number(call: Call) -> u32
-    ensures { λ r. ⌜ r ≡ callNumber call ⌝ }
+// Has each part its length?
+fn fit(numbers: &[u32], deques: &[u32], frames: &[u32]) -> bool
+    ensures { λ r. ⌜ r ≡ fits (parts (now (numbers .entry)) (now (deques .entry)) (now (frames .entry))) ⌝ }
 {
-    match call {
-        Call::Taken => 0,
-        Call::Denied(refusal) => refusal_number(refusal),
-    }
-}
-
-// The number of the call's refusal, or both answer words, the first in the low half.
-fn both_words(call: Call, first: u32, second: u32) -> u64
-    ensures { λ r. ⌜ r ≡ callWords call first second ⌝ }
-{
-    match call {
-        Call::Taken => first as u64 + 4294967296 * (second as u64),
-        Call::Denied(refusal) => refusal_number(refusal) as u64,
-    }
+    (numbers.len() == 5) & ((deques.len() == DEQUE_WORDS) & (frames.len() == FRAME_WORDS))
 }
 
 #[no_mangle]
 pub extern "C" fn splitter_start(
-    state: &mut [u32],
+    numbers: &mut [u32],
+    deques: &mut [u32],
+    frames: &mut [u32],
     workers: u32,
     values: &[u32],
     pool: &mut [u32],
 ) -> u32
-    ensures { λ r. ⌜ IsHostStart (now (state .entry)) workers (now (values .entry)) (now (pool .entry)) (now (state .exit)) (now (pool .exit)) r ⌝ }
+    ensures { λ r. ⌜ IsStart (startOn (parts (now (numbers .entry)) (now (deques .entry)) (now (frames .entry))) workers (now (values .entry)) (now (pool .entry)))
+        (now (numbers .exit)) (now (deques .exit)) (now (frames .exit)) (now (pool .exit)) r ⌝ }
 {
-    if state.len() < STATE_WORDS {
-        return SHORT_STATE;
+    if !fit(numbers, deques, frames) {
+        return refusal_number(Refusal::Lengths);
     }
-    let started = start(workers, values, pool);
-    let first = started.state;
-    let call = started.call;
-    store(state, first);
-    call_number(call)
+    start_on(numbers, deques, frames, workers, values, pool)
 }
 
 // The lesser of the two.
@@ -99,9 +81,22 @@ fn record_of(kind: u32, worker: u32, field: u32, value: u32) -> [u8; 8]
     )
 }
 
+// The number that the tape was refused by, or both answer words, the first in the low half.
+fn result_words(refused: u32, first: u32, second: u32) -> u64
+    ensures { λ r. ⌜ r ≡ resultWords refused first second ⌝ }
+{
+    if refused != 0 {
+        return refused as u64;
+    }
+    first as u64 + 4294967296 * (second as u64)
+}
+
+// A step runs as a tape of one record.
 #[no_mangle]
 pub extern "C" fn splitter_step(
-    state: &mut [u32],
+    numbers: &mut [u32],
+    deques: &mut [u32],
+    frames: &mut [u32],
     pool: &mut [u32],
     work: &mut [u32],
     kind: u32,
@@ -109,40 +104,43 @@ pub extern "C" fn splitter_step(
     field: u32,
     value: u32,
 ) -> u64
-    ensures { λ r. ⌜ IsHostStep (now (state .entry)) (now (pool .entry)) (now (work .entry)) kind worker field value
-        (now (state .exit)) (now (pool .exit)) (now (work .exit)) r ⌝ }
+    ensures { λ r. ⌜ IsOutside (outsideOn (parts (now (numbers .entry)) (now (deques .entry)) (now (frames .entry))) (now (pool .entry)) (now (work .entry)) (recordOf kind worker field value))
+        (now (numbers .exit)) (now (deques .exit)) (now (frames .exit)) (now (pool .exit)) (now (work .exit)) r ⌝ }
 {
-    if state.len() < STATE_WORDS {
-        return SHORT_STATE as u64;
+    if !fit(numbers, deques, frames) {
+        return refusal_number(Refusal::Lengths) as u64;
     }
     let bytes = record_of(kind, worker, field, value);
     let mut answers = [0u32; 2];
-    let taped = tape(load(state), pool, work, &bytes, &mut answers);
-    let next = taped.state;
-    let call = taped.call;
-    store(state, next);
-    both_words(call, answers[0], answers[1])
+    let refused = tape_on(
+        numbers,
+        deques,
+        frames,
+        pool,
+        work,
+        &bytes,
+        &mut answers,
+    );
+    result_words(refused, answers[0], answers[1])
 }
 
 #[no_mangle]
 pub extern "C" fn splitter_tape(
-    state: &mut [u32],
+    numbers: &mut [u32],
+    deques: &mut [u32],
+    frames: &mut [u32],
     pool: &mut [u32],
     work: &mut [u32],
     bytes: &[u8],
     answers: &mut [u32],
 ) -> u32
-    ensures { λ r. ⌜ IsHostTape (now (state .entry)) (now (pool .entry)) (now (work .entry)) (now (bytes .entry)) (now (answers .entry))
-        (now (state .exit)) (now (pool .exit)) (now (work .exit)) (now (answers .exit)) r ⌝ }
+    ensures { λ r. ⌜ IsTape (tapeOn (parts (now (numbers .entry)) (now (deques .entry)) (now (frames .entry))) (now (pool .entry)) (now (work .entry)) (now (bytes .entry)) (now (answers .entry)))
+        (now (numbers .exit)) (now (deques .exit)) (now (frames .exit)) (now (pool .exit)) (now (work .exit)) (now (answers .exit)) r ⌝ }
 {
-    if state.len() < STATE_WORDS {
-        return SHORT_STATE;
+    if !fit(numbers, deques, frames) {
+        return refusal_number(Refusal::Lengths);
     }
-    let taped = tape(load(state), pool, work, bytes, answers);
-    let next = taped.state;
-    let call = taped.call;
-    store(state, next);
-    call_number(call)
+    tape_on(numbers, deques, frames, pool, work, bytes, answers)
 }
 
 // T(n).

@@ -1,7 +1,6 @@
-// The engine for hosts in C or Rust (host/include/splitter.h): numbers, and lent slices of words and bytes. The state is a lent
-// slice of words, in the order of document 02's image. Nothing is kept between calls.
+// The entries of a host in C, Rust (host/include/splitter.h, host/rust) or Rattle: numbers, and lent slices of words and bytes.
+// Nothing is kept between calls, and no function asks anything of its caller.
 mod calls;
-mod image;
 
 pub use calls::splitter_start;
 pub use calls::splitter_step;

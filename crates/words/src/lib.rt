@@ -1,7 +1,7 @@
 // Total reads and stores of lent words and bytes: what is past the end reads as 0 and is not stored.
 ghost use mathlib.Core.Path.{_≡_};
 ghost use Prim.Native.Nat.{_-_};
-ghost use lib.ListN.{getD, set};
+ghost use lib.ListN.{length, getD, set, replicate};
 ghost use Rattle.words.specs.Basics.{plus};
 
 // The word at `at`, and 0 past the end.
@@ -17,6 +17,17 @@ pub fn put(ws: &mut [u32], at: usize, v: u32)
 {
     if at < ws.len() {
         ws[at] = v;
+    }
+}
+
+// Every word becomes 0.
+pub fn clear_all(ws: &mut [u32])
+    ensures { λ _. ⌜ now (ws .exit) ≡ replicate (length (now (ws .entry))) 0 ⌝ }
+{
+    let mut i = 0;
+    while i < ws.len() {
+        ws[i] = 0;
+        i += 1;
     }
 }
 

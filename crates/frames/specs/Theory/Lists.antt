@@ -1,4 +1,4 @@
--- A worker's deque as the list of its frames' places, from the bottom to the top: a frame pushed, popped, stolen.
+-- A worker's deque as the list of its frames' places: a frame pushed, popped, stolen.
 use mathlib.Core.Path.{_≡_, refl, ap, ap₂, _∙_}
 use mathlib.Core.Logic.{_≢_, inr}
 use mathlib.Core.List.{List, [], _∷_, tail}
@@ -6,7 +6,8 @@ use Prim.Native.Nat.{ℕ, zero, suc, _-_, _≤_, _<_}
 use native.Mathlib.Omega.{arith}
 use native.Mathlib.Decide.{ℕ-discrete}
 use lib.ListN.{length}
-use Rattle.frames.specs.Deques.{size, place, bottom, top, push, pop, shiftUp, dropTop}
+use Rattle.frames.specs.Widths.{maxWorkers, dequePlaces, dequeWords}
+use Rattle.frames.specs.Deques.{size, place, bottom, top, placesTo, dequeList, push, pop, shiftUp, dropTop}
 use Rattle.frames.specs.Theory.Cells.{Shaped, Elsewhere, elsewhere-trans, shaped-by, plus-one, shift-elsewhere, shift-in, shift-out}
 use Rattle.frames.specs.Theory.Cells.{resized, resized-elsewhere, resized-size, resized-here, resized-rest}
 
@@ -20,15 +21,6 @@ abbrev pub last {ℓ} : {A : Type ℓ} → List A → List A
 last [] = []
 last (x ∷ []) = x ∷ []
 last (x ∷ y ∷ l) = last (y ∷ l)
-
--- the places n - 1, .., 0
-unfoldable pub placesTo : ℕ → List ℕ → ℕ → List ℕ
-placesTo zero ds w = []
-placesTo (suc n) ds w = place ds w n ∷ placesTo n ds w
-
--- worker w's frames from the bottom to the top
-unfoldable pub dequeList : List ℕ → ℕ → List ℕ
-dequeList ds w = placesTo (size ds w) ds w
 
 -- ---- the list by its size
 
@@ -55,7 +47,7 @@ unfolding dequeList
 list-cong ds ds′ w e h = rw e (places-cong (size ds w) ds ds′ w w h)
 
 -- what is stored in worker w's words leaves the other lists
-pub list-elsewhere : {ds ds′ : List ℕ} {w : ℕ} → Shaped ds → Elsewhere w ds ds′ → (v : ℕ) → v < 8 → v ≢ w → dequeList ds′ v ≡ dequeList ds v
+pub list-elsewhere : {ds ds′ : List ℕ} {w : ℕ} → Shaped ds → Elsewhere w ds ds′ → (v : ℕ) → v < maxWorkers → v ≢ w → dequeList ds′ v ≡ dequeList ds v
 list-elsewhere {ds} {ds′} s e v h d = list-cong ds ds′ v (e .same-size v d) (λ k b. e .same-place v d k (omega (arith, s .within v h)))
 
 places-cons : (n : ℕ) (ds : List ℕ) (w : ℕ) → 0 < n → placesTo n ds w ≡ place ds w (n - 1) ∷ placesTo (n - 1) ds w
@@ -99,7 +91,7 @@ list-top ds w h =
 
 -- ---- a frame more at the bottom
 
-module _ (ds : List ℕ) (w p : ℕ) (s : Shaped ds) (h : w < 8) (r : size ds w < 64) where
+module _ (ds : List ℕ) (w p : ℕ) (s : Shaped ds) (h : w < maxWorkers) (r : size ds w < dequePlaces) where
   push-is : push ds w p ≡ resized ds w (size ds w) p (suc (size ds w))
   unfolding push
   push-is = rw (plus-one (size ds w) (omega arith))
@@ -110,7 +102,7 @@ module _ (ds : List ℕ) (w p : ℕ) (s : Shaped ds) (h : w < 8) (r : size ds w 
   pub push-size : size (push ds w p) w ≡ suc (size ds w)
   push-size = rw push-is (resized-size ds w (size ds w) p (suc (size ds w)) (s .long) h r)
 
-  push-place : (k : ℕ) → k ≢ size ds w → k < 64 → place (push ds w p) w k ≡ place ds w k
+  push-place : (k : ℕ) → k ≢ size ds w → k < dequePlaces → place (push ds w p) w k ≡ place ds w k
   push-place k d b = rw push-is (resized-rest ds w (size ds w) p (suc (size ds w)) (s .long) h r k d b)
 
   pub push-shaped : Shaped (push ds w p)
@@ -132,11 +124,11 @@ elsewhere-refl ds w = record { same-length = refl; same-size = λ v d. refl; sam
 abbrev shrunk : List ℕ → List ℕ → ℕ → List ℕ
 shrunk ds es w = resized es w (size ds w - 1) 0 (size ds w - 1)
 
-module _ (ds es : List ℕ) (w : ℕ) (s : Shaped ds) (h : w < 8) (e : Elsewhere w ds es) (z : (k : ℕ) → size ds w ≤ k → k < 64 → place es w k ≡ 0) where
-  least : size ds w - 1 < 64
+module _ (ds es : List ℕ) (w : ℕ) (s : Shaped ds) (h : w < maxWorkers) (e : Elsewhere w ds es) (z : (k : ℕ) → size ds w ≤ k → k < dequePlaces → place es w k ≡ 0) where
+  least : size ds w - 1 < dequePlaces
   least = omega (arith, s .within w h)
 
-  long : length es ≡ 520
+  long : length es ≡ dequeWords
   long = e .same-length ∙ s .long
 
   shrunk-elsewhere : Elsewhere w ds (shrunk ds es w)
@@ -145,7 +137,7 @@ module _ (ds es : List ℕ) (w : ℕ) (s : Shaped ds) (h : w < 8) (e : Elsewhere
   shrunk-size : size (shrunk ds es w) w ≡ size ds w - 1
   shrunk-size = resized-size es w (size ds w - 1) 0 (size ds w - 1) long h least
 
-  shrunk-place : (k : ℕ) → k ≢ size ds w - 1 → k < 64 → place (shrunk ds es w) w k ≡ place es w k
+  shrunk-place : (k : ℕ) → k ≢ size ds w - 1 → k < dequePlaces → place (shrunk ds es w) w k ≡ place es w k
   shrunk-place = resized-rest es w (size ds w - 1) 0 (size ds w - 1) long h least
 
   shrunk-shaped : Shaped (shrunk ds es w)
@@ -163,7 +155,7 @@ module _ (ds es : List ℕ) (w : ℕ) (s : Shaped ds) (h : w < 8) (e : Elsewhere
 
 -- ---- the bottom frame taken off, and the top frame
 
-module _ (ds : List ℕ) (w : ℕ) (s : Shaped ds) (h : w < 8) where
+module _ (ds : List ℕ) (w : ℕ) (s : Shaped ds) (h : w < maxWorkers) where
   pub pop-elsewhere : Elsewhere w ds (pop ds w)
   unfolding pop
   pop-elsewhere = shrunk-elsewhere ds ds w s h (elsewhere-refl ds w) (s .zeros w h)
@@ -187,7 +179,7 @@ module _ (ds : List ℕ) (w : ℕ) (s : Shaped ds) (h : w < 8) where
   unfolding shifted
   shifted-elsewhere = shift-elsewhere (size ds w - 1) ds w 0 (omega (arith, s .within w h))
 
-  shifted-zeros : (k : ℕ) → size ds w ≤ k → k < 64 → place shifted w k ≡ 0
+  shifted-zeros : (k : ℕ) → size ds w ≤ k → k < dequePlaces → place shifted w k ≡ 0
   unfolding shifted
   shifted-zeros k b c = shift-out (size ds w - 1) ds w 0 k (omega (arith, s .within w h)) (inr (omega arith)) ∙ s .zeros w h k b c
 

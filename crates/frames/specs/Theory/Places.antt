@@ -8,6 +8,7 @@ use Rattle.words.specs.Basics.{Chain}
 use Rattle.words.specs.Counting.{count}
 use Rattle.words.specs.Chains.{chain-cong}
 use Rattle.frames.specs.declared.Frame.{Frame}
+use Rattle.frames.specs.Widths.{places, frameWords}
 use Rattle.frames.specs.Frames.{frameAt, setFrame, freePlace}
 use Rattle.frames.specs.Theory.Records.{frame-set-same, frame-set-other}
 
@@ -17,17 +18,17 @@ nextFree fs p = frameAt fs p .parent
 
 -- gs are the free places in order, the first of them at free
 abbrev pub FreePlaces : List ℕ → ℕ → List ℕ → Type 0
-FreePlaces fs free gs = Chain (nextFree fs) 64 free gs
+FreePlaces fs free gs = Chain (nextFree fs) places free gs
 
 module _ (fs : List ℕ) (free p : ℕ) (gs : List ℕ) (out : count p gs ≡ 0) (ch : FreePlaces fs free gs) where
   -- a record stored at a place that is not among them
   pub free-elsewhere : (f : Frame) → FreePlaces (setFrame fs p f) free gs
   free-elsewhere f =
-      chain-cong 64 (nextFree fs) (nextFree (setFrame fs p f)) gs free
+      chain-cong places (nextFree fs) (nextFree (setFrame fs p f)) gs free
       (λ x b o. ap (λ (g : Frame). g .parent) (frame-set-other fs p x f (λ e. omega (arith, ap (λ y. count y gs) e)))) ch
 
   -- "the last node freed is the first taken. Frame places are taken and freed the same way"
-  pub free-put : length fs ≡ 384 → p < 64 → FreePlaces (setFrame fs p (freePlace free)) p (p ∷ gs)
+  pub free-put : length fs ≡ frameWords → p < places → FreePlaces (setFrame fs p (freePlace free)) p (p ∷ gs)
   free-put l h =
       let e : free ≡ nextFree (setFrame fs p (freePlace free)) p = sym (ap (λ (g : Frame). g .parent) (frame-set-same fs p (freePlace free) l h)) in
       (refl, h, subst (λ (a : ℕ). FreePlaces (setFrame fs p (freePlace free)) a gs) e (free-elsewhere (freePlace free)))

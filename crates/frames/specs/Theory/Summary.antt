@@ -16,12 +16,13 @@ use Rattle.frames.specs.declared.Frame.{Frame}
 use Rattle.frames.specs.declared.Returned.{Returned}
 use Rattle.frames.specs.declared.Returned.the-variants.{Continued, Idle, Resumed, Finished}
 use Rattle.frames.specs.declared.Synced.the-variants.{Passed, Suspended}
+use Rattle.frames.specs.Widths.{maxWorkers, places, dequePlaces}
 use Rattle.frames.specs.Frames.{frameAt, setFrame, childOf, withChild, withoutChild, withSuspended, withRoot, freePlace}
-use Rattle.frames.specs.Deques.{size, top, push, pop, dropTop}
+use Rattle.frames.specs.Deques.{size, top, dequeList, push, pop, dropTop}
 use Rattle.frames.specs.Steps.{Table, acting, resumes, returnedTo, parentAfter, spawn, return, returned, steal, sync, synced}
 use Rattle.frames.specs.Promises.{table}
 use Rattle.frames.specs.Theory.Records.{length-setFrame, frame-set-same, frame-set-other}
-use Rattle.frames.specs.Theory.Lists.{front, last, dequeList, list-length, list-head, list-top, list-elsewhere, dropTop-elsewhere, dropTop-shaped, dropTop-list}
+use Rattle.frames.specs.Theory.Lists.{front, last, list-length, list-head, list-top, list-elsewhere, dropTop-elsewhere, dropTop-shaped, dropTop-list}
 use Rattle.frames.specs.Theory.Places.{nextFree}
 use Rattle.frames.specs.Theory.Tables.{Formed, After, unchanged, after-store, after-free, after-push, after-pop, after-take}
 
@@ -43,12 +44,12 @@ pub record Spawned (t t′ : Table) (w p g : ℕ) (ps gs : List ℕ) : Type 0 wh
   pub parent : frameAt (t′ .frames) p ≡ withChild (frameAt (t .frames) p)
   pub child : frameAt (t′ .frames) g ≡ childOf (frameAt (t .frames) p) p
 
-module _ (t : Table) (w p g : ℕ) (ps gs : List ℕ) (F : Formed t (g ∷ gs)) (h : w < 8) (d : dequeList (t .deques) w ≡ p ∷ ps) where
+module _ (t : Table) (w p g : ℕ) (ps gs : List ℕ) (F : Formed t (g ∷ gs)) (h : w < maxWorkers) (d : dequeList (t .deques) w ≡ p ∷ ps) where
   spawn-is : spawn t w ≡ table (push (t .deques) w g) (setFrame (setFrame (t .frames) p (withChild (frameAt (t .frames) p))) g (childOf (frameAt (t .frames) p) p)) (nextFree (t .frames) g)
   unfolding spawn
   spawn-is = rw (list-head (t .deques) w p ps d, F .places .0)
 
-  pub spawn-does : suc (length ps) < 64 → p < 64 → count p (g ∷ gs) ≡ 0 → count g gs ≡ 0 → Spawned t (spawn t w) w p g ps gs
+  pub spawn-does : suc (length ps) < dequePlaces → p < places → count p (g ∷ gs) ≡ 0 → count g gs ≡ 0 → Spawned t (spawn t w) w p g ps gs
   spawn-does r b o og =
       let f = frameAt (t .frames) p in
       rw spawn-is
@@ -83,7 +84,7 @@ freed t w p = table (pop (t .deques) w) (setFrame (t .frames) p (freePlace (t .�
 abbrev pub less : Table → ℕ → Frame
 less t q = withoutChild (frameAt (t .frames) q)
 
-module _ (t : Table) (w p : ℕ) (ps gs : List ℕ) (F : Formed t gs) (h : w < 8) (d : dequeList (t .deques) w ≡ p ∷ ps) (b : p < 64) (o : count p gs ≡ 0) where
+module _ (t : Table) (w p : ℕ) (ps gs : List ℕ) (F : Formed t gs) (h : w < maxWorkers) (d : dequeList (t .deques) w ≡ p ∷ ps) (b : p < places) (o : count p gs ≡ 0) where
   freed-after : After t (freed t w p) w ps (p ∷ gs) (p ∷ [])
   freed-after = after-free (after-pop (unchanged t w (p ∷ ps) gs F d) h) p o b
 
@@ -123,7 +124,7 @@ module _ (t : Table) (w p : ℕ) (ps gs : List ℕ) (F : Formed t gs) (h : w < 8
     unfolding returned
     outcome-is = rw (test-child, parent-is, e, left)
 
-    module _ (c : q < 64) (oq : count q (p ∷ gs) ≡ 0) where
+    module _ (c : q < places) (oq : count q (p ∷ gs) ≡ 0) where
       stored-after : (f : Frame) → After t (table (freed t w p .deques) (setFrame (freed t w p .frames) q f) p) w ps (p ∷ gs) (q ∷ p ∷ [])
       stored-after f = after-store freed-after q f oq
 
@@ -163,7 +164,7 @@ pub record Waits (t t′ : Table) (w p : ℕ) (ps gs : List ℕ) : Type 0 where
   pub waiting : frameAt (t′ .frames) p ≡ withSuspended (frameAt (t .frames) p) 1
   pub outcome : synced t w ≡ Suspended
 
-module _ (t : Table) (w p : ℕ) (ps gs : List ℕ) (F : Formed t gs) (h : w < 8) (d : dequeList (t .deques) w ≡ p ∷ ps) (b : p < 64) (o : count p gs ≡ 0)
+module _ (t : Table) (w p : ℕ) (ps gs : List ℕ) (F : Formed t gs) (h : w < maxWorkers) (d : dequeList (t .deques) w ≡ p ∷ ps) (b : p < places) (o : count p gs ≡ 0)
     (z : frameAt (t .frames) p .outstanding ≢ 0) where
   test-waits : eqb (acting t w .outstanding) 0 ≡ false
   test-waits =
@@ -189,7 +190,7 @@ module _ (t : Table) (w p : ℕ) (ps gs : List ℕ) (F : Formed t gs) (h : w < 8
 
 -- ---- write: the frame gets another tree
 
-pub write-does : (t : Table) (w p r : ℕ) (ps gs : List ℕ) → Formed t gs → dequeList (t .deques) w ≡ p ∷ ps → p < 64 → count p gs ≡ 0
+pub write-does : (t : Table) (w p r : ℕ) (ps gs : List ℕ) → Formed t gs → dequeList (t .deques) w ≡ p ∷ ps → p < places → count p gs ≡ 0
     → After t (table (t .deques) (setFrame (t .frames) p (withRoot (frameAt (t .frames) p) r)) (t .«free_place»)) w (p ∷ ps) gs (p ∷ [])
     × (frameAt (setFrame (t .frames) p (withRoot (frameAt (t .frames) p) r)) p ≡ withRoot (frameAt (t .frames) p) r)
 write-does t w p r ps gs F d b o =
@@ -202,11 +203,11 @@ pub record Stolen (t t′ : Table) (w v : ℕ) (gs : List ℕ) : Type 0 where
   pub formed : Formed t′ gs
   pub thief : dequeList (t′ .deques) w ≡ last (dequeList (t .deques) v)
   pub victim : dequeList (t′ .deques) v ≡ front (dequeList (t .deques) v)
-  pub deques : (u : ℕ) → u < 8 → u ≢ w → u ≢ v → dequeList (t′ .deques) u ≡ dequeList (t .deques) u
+  pub deques : (u : ℕ) → u < maxWorkers → u ≢ w → u ≢ v → dequeList (t′ .deques) u ≡ dequeList (t .deques) u
   pub frames : t′ .frames ≡ t .frames
   pub free : t′ .«free_place» ≡ t .«free_place»
 
-module _ (t : Table) (w v : ℕ) (gs : List ℕ) (F : Formed t gs) (h : w < 8) (k : v < 8) (idle : dequeList (t .deques) w ≡ []) (two : 2 ≤ length (dequeList (t .deques) v)) where
+module _ (t : Table) (w v : ℕ) (gs : List ℕ) (F : Formed t gs) (h : w < maxWorkers) (k : v < maxWorkers) (idle : dequeList (t .deques) w ≡ []) (two : 2 ≤ length (dequeList (t .deques) v)) where
   differ : v ≢ w
   differ e = omega (arith, ap (λ (u : ℕ). length (dequeList (t .deques) u)) e, ap length idle)
 

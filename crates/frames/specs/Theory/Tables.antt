@@ -7,19 +7,20 @@ use native.Mathlib.Omega.{arith}
 use lib.ListN.{length}
 use Rattle.words.specs.Counting.{count}
 use Rattle.frames.specs.declared.Frame.{Frame}
+use Rattle.frames.specs.Widths.{maxWorkers, places, frameWords, dequePlaces}
 use Rattle.frames.specs.Frames.{frameAt, setFrame, freePlace}
-use Rattle.frames.specs.Deques.{size, push, pop}
+use Rattle.frames.specs.Deques.{size, dequeList, push, pop}
 use Rattle.frames.specs.Steps.{Table}
 use Rattle.frames.specs.Promises.{table}
 use Rattle.frames.specs.Theory.Records.{length-setFrame, frame-set-other}
 use Rattle.frames.specs.Theory.Cells.{Shaped}
-use Rattle.frames.specs.Theory.Lists.{dequeList, list-length, list-elsewhere, push-elsewhere, push-shaped, push-list, pop-elsewhere, pop-shaped, pop-list}
+use Rattle.frames.specs.Theory.Lists.{list-length, list-elsewhere, push-elsewhere, push-shaped, push-list, pop-elsewhere, pop-shaped, pop-list}
 use Rattle.frames.specs.Theory.Places.{nextFree, FreePlaces, free-elsewhere, free-put}
 
 -- gs are the free places
 pub record Formed (t : Table) (gs : List ℕ) : Type 0 where
   pub shaped : Shaped (t .deques)
-  pub long : length (t .frames) ≡ 384
+  pub long : length (t .frames) ≡ frameWords
   pub places : FreePlaces (t .frames) (t .«free_place») gs
 
 -- q is none of them
@@ -31,7 +32,7 @@ Apart q (p ∷ ps) = (q ≢ p) × Apart q ps
 pub record After (t t′ : Table) (w : ℕ) (d gs ps : List ℕ) : Type 0 where
   pub formed : Formed t′ gs
   pub deque : dequeList (t′ .deques) w ≡ d
-  pub deques : (v : ℕ) → v < 8 → v ≢ w → dequeList (t′ .deques) v ≡ dequeList (t .deques) v
+  pub deques : (v : ℕ) → v < maxWorkers → v ≢ w → dequeList (t′ .deques) v ≡ dequeList (t .deques) v
   pub records : (q : ℕ) → Apart q ps → frameAt (t′ .frames) q ≡ frameAt (t .frames) q
 
 pub unchanged : (t : Table) (w : ℕ) (d gs : List ℕ) → Formed t gs → dequeList (t .deques) w ≡ d → After t t w d gs []
@@ -56,7 +57,7 @@ module _ {t t′ : Table} {w : ℕ} {d gs ps : List ℕ} (a : After t t′ w d g
       }
 
   -- the place p is free, and the first
-  pub after-free : (p : ℕ) → count p gs ≡ 0 → p < 64 → After t (table (t′ .deques) (setFrame (t′ .frames) p (freePlace (t′ .«free_place»))) p) w d (p ∷ gs) (p ∷ ps)
+  pub after-free : (p : ℕ) → count p gs ≡ 0 → p < places → After t (table (t′ .deques) (setFrame (t′ .frames) p (freePlace (t′ .«free_place»))) p) w d (p ∷ gs) (p ∷ ps)
   after-free p out h =
       record {
         formed =
@@ -70,9 +71,9 @@ module _ {t t′ : Table} {w : ℕ} {d gs ps : List ℕ} (a : After t t′ w d g
         records = λ q r. frame-set-other (t′ .frames) p q (freePlace (t′ .«free_place»)) (r .0) ∙ a .records q (r .1);
       }
 
-  pub after-push : (p : ℕ) → w < 8 → length d < 64 → After t (table (push (t′ .deques) w p) (t′ .frames) (t′ .«free_place»)) w (p ∷ d) gs ps
+  pub after-push : (p : ℕ) → w < maxWorkers → length d < dequePlaces → After t (table (push (t′ .deques) w p) (t′ .frames) (t′ .«free_place»)) w (p ∷ d) gs ps
   after-push p h b =
-      let r : size (t′ .deques) w < 64 = omega (arith, after-size) in
+      let r : size (t′ .deques) w < dequePlaces = omega (arith, after-size) in
       let s = a .formed .shaped in
       record {
         formed = record { shaped = push-shaped (t′ .deques) w p s h r; long = a .formed .long; places = a .formed .places };
@@ -81,7 +82,7 @@ module _ {t t′ : Table} {w : ℕ} {d gs ps : List ℕ} (a : After t t′ w d g
         records = a .records;
       }
 
-  pub after-pop : w < 8 → After t (table (pop (t′ .deques) w) (t′ .frames) (t′ .«free_place»)) w (tail d) gs ps
+  pub after-pop : w < maxWorkers → After t (table (pop (t′ .deques) w) (t′ .frames) (t′ .«free_place»)) w (tail d) gs ps
   after-pop h =
       let s = a .formed .shaped in
       record {

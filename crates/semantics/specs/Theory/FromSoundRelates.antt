@@ -25,11 +25,12 @@ use Rattle.model.specs.Theory.FreshMarks.{MarkInvariant}
 use Rattle.model.specs.Theory.Histories.{inUse-within, inUse-none}
 use Rattle.model.specs.Theory.PoolBound.{inUse-main}
 use Rattle.semantics.specs.Core.{Core}
+use Rattle.semantics.specs.Entries.{headOf}
 use Rattle.semantics.specs.Theory.Relation.{childCount, rootsOf, placesOf, Recorded, Relates}
 use Rattle.semantics.specs.Theory.Pools.{LiveTrees}
 use Rattle.soundness.specs.Theory.Sentences.{Lives, FramesFacts, SoundFacts, sound-facts}
 use Rattle.semantics.specs.Theory.PoolSentences.{pool-live}
-use Rattle.semantics.specs.SoundMachine.{nameOf, placeOf, frameOf, framesOf, waitingPlaces, runningPlaces, livePlaces, machineOf, coreWith}
+use Rattle.semantics.specs.SoundMachine.{nameOf, placeOf, frameOf, framesOf, waitingPlaces, runningPlaces, livePlaces, machineOf}
 use Rattle.semantics.specs.Theory.FromSoundNames.{Rooted, rooted-facts, length-name, place-name, parent-name}
 use Rattle.semantics.specs.Theory.FromSoundPlaces.{deque-live, running-of, waiting-of, live-of, of-live, live-one, live-none, live-once, live-short, live-roots, live-children}
 use Rattle.semantics.specs.Theory.FromSoundTree.{AllLive, places-frames, roots-frames, children-frames, disjoint-frames, rooted-frames, waits-frames, shape-frames}
@@ -47,13 +48,18 @@ getD-range h d zero a x b = absurd (omega arith)
 getD-range h d (suc c) a zero b = (let e : a ≡ a + 0 = omega arith in ap h e)
 getD-range h d (suc c) a (suc x) b = (let e : suc a + x ≡ a + suc x = omega arith in getD-range h d c (suc a) x (omega arith) ∙ ap h e)
 
-map-append : {A B : Type 0} (h : A → B) (l m : List A) → map h (l ++ m) ≡ map h l ++ map h m
+pub map-append : {A B : Type 0} (h : A → B) (l m : List A) → map h (l ++ m) ≡ map h l ++ map h m
 map-append h [] m = refl
 map-append h (x ∷ l) m = ap (λ z. h x ∷ z) (map-append h l m)
 
 joined-map : {A B : Type 0} (h : A → B) (ls : List (List A)) → joined (map (map h) ls) ≡ map h (joined ls)
 joined-map h [] = refl
 joined-map h (l ∷ ls) = ap (λ z. map h l ++ z) (joined-map h ls) ∙ sym (map-append h l (joined ls))
+
+-- ---- the core of numbers and words, with the free nodes counted
+
+abbrev pub countedCore : Numbers → List ℕ → List ℕ → List ℕ → Core
+countedCore s ds fs ws = record { head = headOf s (freeCount s ws); deques = ds; frames = fs; pool = ws }
 
 -- ---- the machine's lists
 
@@ -154,7 +160,7 @@ module _ (s : Numbers) (ds fs ws : List ℕ) where
         subst (λ (g : Frame). readAt (height (s .splitters)) ws (frameAt fs (at (g .name)) .root) x ≡ getD (g .values) x 0) (y .2)
         (ap (λ q. readAt (height (s .splitters)) ws (frameAt fs q .root) x) (place-name fs R (y .0) (l .0) (l .1)) ∙ sym (getD-range read 0 (s .splitters) 0 x b ∙ ap read e))
 
-    relates-there : length ds ≡ 520 → length fs ≡ 384 → Relates (LiveTrees (s .nodes) (s .splitters)) M (coreWith s ds fs ws)
+    relates-there : length ds ≡ 520 → length fs ≡ 384 → Relates (LiveTrees (s .nodes) (s .splitters)) M (countedCore s ds fs ws)
     relates-there dlen flen = record {
       at = at;
       gs = F .places .gs;
@@ -221,7 +227,7 @@ module _ (s : Numbers) (ds fs ws : List ℕ) where
 
 pub from-sound : (s : Numbers) (ds fs ws : List ℕ) → sound s ds fs ws ≡ true → length ds ≡ 520 → length fs ≡ 384
     → let M : Machine = machineOf s ds fs ws in
-    let c : Core = coreWith s ds fs ws in
+    let c : Core = countedCore s ds fs ws in
     Relates (LiveTrees (s .nodes) (s .splitters)) M c × FrameTree M × DequeInvariant M × MarkInvariant (live M) × Bounded (M .splitters) (live M) × (c .head .«free_count» ≡ freeNodes M)
 from-sound s ds fs ws e dlen flen =
     let S = sound-facts s ds fs ws e in

@@ -1,15 +1,18 @@
--- A state's deques have 520 words and its frame table 384: at every start, and after every call.
-use mathlib.Core.Path.{_≡_, refl, _∙_}
-use mathlib.Core.Bool.{Bool, cond, _||_}
+-- The lengths of a state's parts: the entries take only a state that fits, and every call leaves one.
+use mathlib.Core.Path.{_≡_, refl, ap, _∙_}
+use mathlib.Core.Bool.{Bool, true, cond, _||_, _&&_}
 use mathlib.Core.Logic.{inl, inr}
 use mathlib.Core.List.{List, [], _∷_}
 use Prim.Native.Nat.{ℕ, zero, suc, _+_, _-_}
+use native.Mathlib.Omega.{arith}
 use lib.ListN.{length, replicate, length-replicate}
 use lib.Dec.{eqb, ltb}
+use borrow.Author.Tests.{eqb-true, eq-eqb}
 use Rattle.words.specs.Basics.{none}
-use Rattle.words.specs.Tests.{decided}
+use Rattle.words.specs.Tests.{decided, both}
 use Rattle.sizes.specs.Sizes.{treeNodes}
 use Rattle.frames.specs.declared.Frame.{Frame}
+use Rattle.frames.specs.Widths.{frameWords, dequeWords}
 use Rattle.frames.specs.Frames.{setFrame, withSuspended}
 use Rattle.frames.specs.Deques.{size, setPlace, bottom, push, pop, shiftUp, dropTop, initDeques}
 use Rattle.frames.specs.Steps.{Table, acting, resumes, spawn, ended, parentAfter, parentPlace, parentFrame, return, steal, sync}
@@ -18,21 +21,44 @@ use Rattle.frames.specs.Theory.Cells.{length-setSize, length-setPlace}
 use Rattle.frames.specs.Theory.Start.{length-init}
 use Rattle.soundness.specs.declared.Checked.{Checked}
 use Rattle.soundness.specs.declared.Checked.the-variants.{NoRoom, Sound}
-use Rattle.soundness.specs.Soundness.{checked}
+use Rattle.soundness.specs.Numbers.{numbersIn, numberWords}
 use Rattle.model.specs.declared.Step.{Step}
 use Rattle.model.specs.declared.Step.the-variants.{Spawn, Return, Steal, Sync, Read, Write}
 use Rattle.model.specs.declared.Decoded.{Decoded}
 use Rattle.model.specs.declared.Decoded.the-variants.{Valid, Invalid}
-use Rattle.semantics.specs.declared.State.{State}
+use Rattle.model.specs.Record.{recordOf}
 use Rattle.semantics.specs.declared.Refusal.{Refusal}
-use Rattle.semantics.specs.Core.{Core, StepResult, tableOf, judged, testsOf, spawnOn, stealOn, syncOn, readOn, writeOn, doneBy, stepOn}
-use Rattle.semantics.specs.Core.{returnOn}
-use Rattle.semantics.specs.Entries.{numbersOf, coreOf, stateOf, zeros, Begun, wholeNodes, firstState, startOn, stepChecked, enter, recordOn, putAnswer, ran, runOn, recordsOf, unfitTape, tapeChecked, play}
+use Rattle.semantics.specs.Core.{Core, StepResult, tableOf, judged, testsOf, spawnOn, returnOn, stealOn, syncOn, readOn, writeOn, doneBy, stepOn}
+use Rattle.semantics.specs.Entries.{State, fits, coreOf, stateOf, checkedState, zeros, StartResult, wholeNodes, firstState, startWith, startOn, outsideChecked, outsideWith, outsideOn, recordOn, putAnswer, recordsResult, runOn, recordsOf, unfitTape, tapeChecked, tapeWith, tapeOn}
 use Rattle.semantics.specs.Calls.{HostCall, outside, tape, StateAndPool, afterCall, afterCalls}
 
 pub record Fits (s : State) : Type 0 where
-  pub deques : length (s .deques) ≡ 520
-  pub frames : length (s .frames) ≡ 384
+  pub numbers : length (s .numbers) ≡ 5
+  pub deques : length (s .deques) ≡ dequeWords
+  pub frames : length (s .frames) ≡ frameWords
+
+pub fits-true : (s : State) → Fits s → fits s ≡ true
+fits-true s F = rw (eq-eqb (length (s .numbers)) 5 (F .numbers), eq-eqb (length (s .deques)) dequeWords (F .deques), eq-eqb (length (s .frames)) frameWords (F .frames))
+
+pub true-fits : (s : State) → fits s ≡ true → Fits s
+true-fits s e =
+    let x = both (eqb (length (s .numbers)) 5) (eqb (length (s .deques)) dequeWords && eqb (length (s .frames)) frameWords) e in
+    let y = both (eqb (length (s .deques)) dequeWords) (eqb (length (s .frames)) frameWords) (x .1) in
+    record { numbers = eqb-true (length (s .numbers)) 5 (x .0); deques = eqb-true (length (s .deques)) dequeWords (y .0); frames = eqb-true (length (s .frames)) frameWords (y .1) }
+
+-- ---- a list of five words is its five words
+
+five-back : (ns : List ℕ) → length ns ≡ 5 → numberWords (numbersIn ns) ≡ ns
+five-back [] e = absurd (omega arith)
+five-back (a ∷ []) e = absurd (omega arith)
+five-back (a ∷ b ∷ []) e = absurd (omega arith)
+five-back (a ∷ b ∷ c ∷ []) e = absurd (omega arith)
+five-back (a ∷ b ∷ c ∷ d ∷ []) e = absurd (omega arith)
+five-back (a ∷ b ∷ c ∷ d ∷ f ∷ []) e = refl
+five-back (a ∷ b ∷ c ∷ d ∷ f ∷ g ∷ ns) e = absurd (omega arith)
+
+pub state-back : (s : State) (ws : List ℕ) (k : ℕ) → Fits s → stateOf (coreOf s ws k) ≡ s
+state-back s ws k F = ap (λ (ns : List ℕ). record { numbers = ns; deques = s .deques; frames = s .frames }) (five-back (s .numbers) (F .numbers))
 
 -- ---- the deques
 
@@ -115,6 +141,10 @@ done-long c (Sync w) = let L = sync-long (tableOf c) w in unfold syncOn in recor
 done-long c (Read w x) = unfold readOn in record { deques = refl; frames = refl }
 done-long c (Write w x v) = unfold writeOn in record { deques = refl; frames = length-setFrame (c .frames) (bottom (c .deques) w) _ }
 
+-- a core's numbers are always five words
+core-fits : (c : Core) → length (c .deques) ≡ dequeWords → length (c .frames) ≡ frameWords → Fits (stateOf c)
+core-fits c d f = record { numbers = refl; deques = d; frames = f }
+
 judged-fits : (ts : List (Bool × Refusal)) (c : Core) (d : StepResult) → Fits (stateOf c) → Fits (stateOf (d .core)) → Fits (stateOf (judged ts c d .core))
 judged-fits [] c d f g = g
 judged-fits (t ∷ ts) c d f g = elim (decided (t .0)) [ inl e ↦ rw e f | inr e ↦ rw e (judged-fits ts c d f g) ]
@@ -123,13 +153,13 @@ step-fits : (c : Core) (st : Step) → Fits (stateOf c) → Fits (stateOf (stepO
 unfolding stepOn
 step-fits c st f =
     let L = done-long c st in
-    judged-fits (testsOf c st) c (doneBy c st) f (record { deques = L .deques ∙ f .deques; frames = L .frames ∙ f .frames })
+    judged-fits (testsOf c st) c (doneBy c st) f (core-fits (doneBy c st .core) (L .deques ∙ f .deques) (L .frames ∙ f .frames))
 
-record-fits : (c : Core) (d : Decoded) → Fits (stateOf c) → Fits (stateOf (recordOn c d .core))
+pub record-fits : (c : Core) (d : Decoded) → Fits (stateOf c) → Fits (stateOf (recordOn c d .core))
 record-fits c (Valid st) f = step-fits c st f
 record-fits c Invalid f = f
 
-run-fits : (ds : List Decoded) (c : Core) (as′ : List ℕ) (k : ℕ) → Fits (stateOf c) → Fits (stateOf (runOn (ran c as′) k ds .core))
+run-fits : (ds : List Decoded) (c : Core) (as′ : List ℕ) (k : ℕ) → Fits (stateOf c) → Fits (stateOf (runOn (recordsResult c as′) k ds .core))
 unfolding runOn
 run-fits [] c as′ k f = f
 run-fits (d ∷ ds) c as′ k f = run-fits ds (recordOn c d .core) (putAnswer as′ k (recordOn c d .answer)) (k + 2) (record-fits c d f)
@@ -137,52 +167,55 @@ run-fits (d ∷ ds) c as′ k f = run-fits ds (recordOn c d .core) (putAnswer as
 -- ---- the entries
 
 zeros-fit : Fits zeros
-zeros-fit = record { deques = length-replicate {A = ℕ} 520 0; frames = length-replicate {A = ℕ} 384 0 }
+zeros-fit = record { numbers = refl; deques = length-replicate {A = ℕ} dequeWords 0; frames = length-replicate {A = ℕ} frameWords 0 }
 
 first-fits : (workers n nodes free : ℕ) → Fits (firstState workers n nodes free)
 unfolding initDeques
 first-fits workers n nodes free =
-    record { deques = length-push (replicate 520 0) 0 0 ∙ zeros-fit .deques; frames = length-init (replicate 384 0) (zeros-fit .frames) }
+    record { numbers = refl; deques = length-push (replicate dequeWords 0) 0 0 ∙ zeros-fit .deques; frames = length-init (replicate frameWords 0) (zeros-fit .frames) }
 
-either-start : (b : Bool) (x y : Begun) → Fits (x .state) → Fits (y .state) → Fits (cond b x y .state)
+either-start : (b : Bool) (x y : StartResult) → Fits (x .state) → Fits (y .state) → Fits (cond b x y .state)
 either-start b x y f g = elim (decided b) [ inl e ↦ rw e f | inr e ↦ rw e g ]
 
-pub start-fits : (workers : ℕ) (vs ws : List ℕ) → Fits (startOn workers vs ws .state)
-unfolding startOn
-start-fits workers vs ws =
+-- whatever the lent parts hold
+pub start-with-fits : (workers : ℕ) (vs ws : List ℕ) → Fits (startWith workers vs ws .state)
+unfolding startWith
+start-with-fits workers vs ws =
     either-start (eqb (length vs) 0 || ltb 256 (length vs)) _ _ zeros-fit
     (either-start (eqb workers 0 || ltb 8 workers) _ _ zeros-fit
     (either-start (ltb (wholeNodes ws) (treeNodes (length vs)) || ltb 16384 (wholeNodes ws)) _ _ zeros-fit
     (first-fits workers (length vs) (wholeNodes ws) _)))
 
-module _ (s : State) (ws ks : List ℕ) (f : Fits s) where
-  step-checked-fits : (k : Checked) (st : Step) → Fits (stepChecked k s ws ks st .state)
-  step-checked-fits NoRoom st = f
-  step-checked-fits Checked.Unsound st = f
-  step-checked-fits (Sound n) st = step-fits (coreOf s ws n) st f
+module _ (s : State) (f : Fits s) where
+  pub start-fits : (workers : ℕ) (vs ws : List ℕ) → Fits (startOn s workers vs ws .state)
+  unfolding startOn
+  start-fits workers vs ws = rw (fits-true s f) (start-with-fits workers vs ws)
 
-  pub enter-fits : (st : Step) → Fits (enter s ws ks st .state)
-  unfolding enter
-  enter-fits st = step-checked-fits (checked (numbersOf s) (s .deques) (s .frames) ws ks) st
+  module _ (ws work : List ℕ) where
+    outside-checked-fits : (k : Checked) (d : Decoded) → Fits (outsideChecked k s ws work d .state)
+    outside-checked-fits NoRoom d = f
+    outside-checked-fits Checked.Unsound d = f
+    outside-checked-fits (Sound n) d = record-fits (coreOf s ws n) d (core-fits (coreOf s ws n) (f .deques) (f .frames))
 
-  module _ (bytes rs : List ℕ) where
-    tape-checked-fits : (k : Checked) → Fits (tapeChecked k s ws ks bytes rs .state)
-    tape-checked-fits NoRoom = f
-    tape-checked-fits Checked.Unsound = f
-    tape-checked-fits (Sound n) = run-fits (recordsOf bytes) (coreOf s ws n) rs 0 f
+    pub outside-fits : (d : Decoded) → Fits (outsideOn s ws work d .state)
+    unfolding outsideOn outsideWith
+    outside-fits d = rw (fits-true s f) (outside-checked-fits (checkedState s ws work) d)
 
-    pub play-fits : Fits (play s ws ks bytes rs .state)
-    unfolding play
-    play-fits = elim (decided (unfitTape bytes rs)) [
-      | inl e ↦ rw e f
-      | inr e ↦ rw e (tape-checked-fits (checked (numbersOf s) (s .deques) (s .frames) ws ks))
-    ]
+    module _ (bytes rs : List ℕ) where
+      tape-checked-fits : (k : Checked) → Fits (tapeChecked k s ws work bytes rs .state)
+      tape-checked-fits NoRoom = f
+      tape-checked-fits Checked.Unsound = f
+      tape-checked-fits (Sound n) = run-fits (recordsOf bytes) (coreOf s ws n) rs 0 (core-fits (coreOf s ws n) (f .deques) (f .frames))
+
+      pub tape-fits : Fits (tapeOn s ws work bytes rs .state)
+      unfolding tapeOn tapeWith
+      tape-fits = rw (fits-true s f) (elim (decided (unfitTape bytes rs)) [ inl e ↦ rw e f | inr e ↦ rw e (tape-checked-fits (checkedState s ws work)) ])
 
 -- ---- calls
 
 pub call-fits : (h : StateAndPool) (c : HostCall) → Fits (h .state) → Fits (afterCall h c .state)
-call-fits h (outside st work) f = enter-fits (h .state) (h .pool) work f st
-call-fits h (tape bytes work answers) f = play-fits (h .state) (h .pool) work f bytes answers
+call-fits h (outside kind worker field value work) f = outside-fits (h .state) f (h .pool) work (recordOf kind worker field value)
+call-fits h (tape bytes work answers) f = tape-fits (h .state) f (h .pool) work bytes answers
 
 pub calls-fit : (cs : List HostCall) (h : StateAndPool) → Fits (h .state) → Fits (afterCalls h cs .state)
 calls-fit [] h f = f

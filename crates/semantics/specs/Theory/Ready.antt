@@ -22,6 +22,7 @@ use Rattle.pool.specs.Theory.Soundness.{linkLevel, linkSize, sound-live}
 use Rattle.pool.specs.Theory.LiveLinks.{live-links, live-free, live-path}
 use Rattle.frames.specs.Frames.{frameAt}
 use Rattle.frames.specs.Deques.{size, place, bottom}
+use Rattle.frames.specs.Ranges.{ParentOf}
 use Rattle.frames.specs.Theory.Lists.{dequeList, list-length}
 use Rattle.frames.specs.Theory.Places.{nextFree}
 use Rattle.soundness.specs.Soundness.{lives, rootsBelow, liveRoots, freeNodes}
@@ -32,25 +33,7 @@ use Rattle.soundness.specs.Theory.Facts.{Lives, FramesFacts, SoundFacts}
 use Rattle.soundness.specs.Theory.Sentences.{sound-facts}
 use Rattle.soundness.specs.Theory.PoolSentences.{pool-fact}
 use Rattle.semantics.specs.Theory.FromSoundPlaces.{count-In, below-of, roots-below, deque-live}
-use Rattle.semantics.specs.Theory.Kept.{Kept}
-
-pub record Ready (c : Core) : Type 0 where
-  pub workers-le : c .head .numbers .workers ≤ 8
-  pub splitters-le : c .head .numbers .splitters ≤ 256
-  pub low : c .head .height ≤ 8
-  pub nodes-positive : 0 < c .head .numbers .nodes
-  pub long-deques : length (c .deques) ≡ 520
-  pub long-frames : length (c .frames) ≡ 384
-  pub links : LinksIn (c .head .numbers .nodes) (c .pool)
-  pub free : Link (c .head .numbers .nodes) (c .head .numbers .«free_node»)
-  pub vacant : (c .head .numbers .«free_place» < 64) ⊎ (c .head .numbers .«free_place» ≡ none)
-  pub sizes : (w : ℕ) → w < 8 → size (c .deques) w ≤ 64
-  pub places : (w k : ℕ) → w < 8 → k < size (c .deques) w → place (c .deques) w k < 64
-  -- a place is free, so fewer than 64 frames live
-  pub room : (w : ℕ) → w < 8 → c .head .numbers .«free_place» < 64 → size (c .deques) w < 64
-  pub root : (w : ℕ) → w < 8 → 0 < size (c .deques) w → actingIn c w .root < c .head .numbers .nodes
-  pub parent : (w : ℕ) → w < 8 → 0 < size (c .deques) w → (actingIn c w .parent < 64) ⊎ (actingIn c w .parent ≡ none)
-  pub path : (w x : ℕ) → w < 8 → 0 < size (c .deques) w → x < c .head .numbers .splitters → PathIn (c .head .numbers .nodes) (c .pool) (c .head .height) (actingIn c w .root) x
+use Rattle.semantics.specs.Ranges.{Kept, Ready}
 
 -- a tree has a node
 tree-positive : (n : ℕ) → 0 < n → 0 < treeNodes n
@@ -97,10 +80,10 @@ module _ {workers first : ℕ} {ds fs : List ℕ} (F : FramesFacts workers first
   unfolding bottom
   bottom-lives w b h = F .hold-live w b (size ds w - 1) (omega arith)
 
-  live-parent : (p : ℕ) → p < 64 → Lives fs p → (frameAt fs p .parent < 64) ⊎ (frameAt fs p .parent ≡ none)
+  live-parent : (p : ℕ) → p < 64 → Lives fs p → ParentOf p (frameAt fs p)
   live-parent p b l = elim (ℕ-discrete (frameAt fs p .depth) 0) [
     | yes e ↦ elim (F .one-main) [ inl h ↦ absurd (h .0 p b l) | inr m ↦ inr (ap (λ q. frameAt fs q .parent) (m .only p b l e) ∙ m .orphan) ]
-    | no e ↦ inl (F .parents p b l e .0)
+    | no e ↦ inl (F .parents p b l e .0, λ q. omega (arith, F .parents p b l e .2, ap (λ z. frameAt fs z .depth) q))
   ]
 
 -- a live frame's root is one of the roots
@@ -143,10 +126,10 @@ module _ (c : Core) (K : Kept c) where
         long-deques = K .long-deques;
         long-frames = K .long-frames;
         links = live-links N (height n) n small (height-covers n) trees;
-        free = live-free N (height n) n small (height-covers n) trees;
-        vacant = chain-start 64 (nextFree (c .frames)) (c .head .numbers .«free_place») (F .places .gs) (F .places .chain);
+        free-node = live-free N (height n) n small (height-covers n) trees;
+        free-place = chain-start 64 (nextFree (c .frames)) (c .head .numbers .«free_place») (F .places .gs) (F .places .chain);
         sizes = F .within;
-        places = λ w k b h. F .hold-live w b k h .0;
+        held = λ w k b h. F .hold-live w b k h .0;
         room = λ w b h. deque-room F few h w b;
         root = λ w b h. trees .roots (actingIn c w .root) (acting-root w b h) .inside;
         parent = λ w b h. (let r = bottom-lives F few w b h in live-parent F few (bottom (c .deques) w) (r .0) (r .1));

@@ -27,7 +27,7 @@ use Rattle.model.specs.Theory.FrameTree.{FrameTree}
 use Rattle.model.specs.Theory.DequeShape.{DequeInvariant}
 use Rattle.model.specs.Theory.Effects.{isEmpty-nil, there-is-worker}
 use Rattle.semantics.specs.declared.Refusal.{Refusal}
-use Rattle.semantics.specs.declared.Refusal.the-variants.{Values, Workers, Nodes, Tape, Work, Unsound, Record, NoWorker, MainReturned, WorkerIdle, ThiefBusy, NoVictim, FramesFull, ChildLives, NoSplitter, PoolFull}
+use Rattle.semantics.specs.declared.Refusal.the-variants.{Values, Workers, Nodes, Tape, Work, Unsound, Record, NoWorker, MainReturned, WorkerIdle, ThiefBusy, NoVictim, FramesFull, ChildLives, NoSplitter, PoolFull, Lengths}
 use Rattle.semantics.specs.declared.Answer.the-variants.{Refused}
 use Rattle.semantics.specs.Answers.{refusalNumber}
 use Rattle.semantics.specs.Core.{Core, StepResult, actingIn, idle, noWorker, allIdle, judged, actingTests, stepOn, testsOf, doneBy, kindTests}
@@ -46,8 +46,8 @@ Alike (t ∷ ts) (u ∷ us) = (t .0 ≡ u .0) × (refusalNumber (t .1) ≡ u .1)
 abbrev pub refusedBy : Core → Refusal → StepResult
 refusedBy c r = record { core = c; answer = Refused r }
 
--- the numbers are 1 to 16
-pub number-range : (r : Refusal) → (0 < refusalNumber r) × (refusalNumber r ≤ 16)
+-- the numbers are 1 to 16, and 99
+pub number-range : (r : Refusal) → (0 < refusalNumber r) × (refusalNumber r ≤ 99)
 number-range Values = omega arith
 number-range Workers = omega arith
 number-range Nodes = omega arith
@@ -64,6 +64,7 @@ number-range FramesFull = omega arith
 number-range ChildLives = omega arith
 number-range NoSplitter = omega arith
 number-range PoolFull = omega arith
+number-range Lengths = omega arith
 
 judged-passes : (ts : List (Bool × Refusal)) (us : List (Bool × ℕ)) (c : Core) (d : StepResult) → Alike ts us → firstTrue 0 us ≡ 0 → judged ts c d ≡ d
 judged-passes [] [] c d a e = refl

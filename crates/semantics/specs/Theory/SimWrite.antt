@@ -26,7 +26,7 @@ use Rattle.model.specs.Theory.Bounds.{Bounded}
 use Rattle.semantics.specs.declared.Answer.the-variants.{Accepted}
 use Rattle.semantics.specs.declared.Done.the-variants.{Written}
 use Rattle.semantics.specs.Answers.{answerWords}
-use Rattle.semantics.specs.Core.{Core, StepResult, stepResult, withFree, writeOn}
+use Rattle.semantics.specs.Core.{Core, StepResult, stepResult, withFreeNodes, writeOn}
 use Rattle.semantics.specs.Theory.Relation.{Trees, Kept, Fresh, event, TreeLaws, rootOf, rootsOf, Recorded, Relates}
 use Rattle.semantics.specs.Theory.Places.{length-perm, placed-inside, placed-taken, treeOf, same-numbers, acting-deque, acting-place, acting-record}
 use Rattle.semantics.specs.Theory.RelationFacts.{trees-perm, in-rest, lists-with, bottom-lives, above-runs}
@@ -47,7 +47,7 @@ module _ (P : Trees) (M : Machine) (c : Core) (w x v : ℕ) (q : Frame) (d : Lis
   new-frames = setFrame (c .frames) (r .at (q .name)) new-record
 
   abbrev new-did : StepResult
-  new-did = stepResult (withFree (c .head) (after .1) (after .2)) (c .deques) new-frames (after .0) (Accepted (Written (after .2)))
+  new-did = stepResult (withFreeNodes (c .head) (after .1) (after .2)) (c .deques) new-frames (after .0) (Accepted (Written (after .2)))
 
   wrote-is : writeOn c w x v ≡ new-did
   unfolding writeOn

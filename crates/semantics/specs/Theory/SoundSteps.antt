@@ -1,5 +1,4 @@
--- Demand 2 for sound states and pools, however obtained: a step answers and refuses as the plain machine of the state, keeps
--- soundness, and leaves the words beyond the nodes alone.
+-- A step of a sound core: what it leaves relates to the next plain machine, is sound, and the words beyond the nodes stand.
 use mathlib.Core.Path.{_≡_, refl, sym, ap, _∙_, subst}
 use mathlib.Core.Bool.{true}
 use mathlib.Core.Logic.{inl, inr}
@@ -20,10 +19,10 @@ use Rattle.model.specs.Theory.RunSteps.{accepted-or-refused, step-kept, sizes-s
 use Rattle.model.specs.Theory.FrameTree.{FrameTree, tree-turn}
 use Rattle.model.specs.Theory.DequeShape.{DequeInvariant}
 use Rattle.model.specs.Theory.Deques.{deques-turn}
-use Rattle.semantics.specs.declared.State.{State}
+use Rattle.soundness.specs.declared.Numbers.{Numbers}
+use Rattle.frames.specs.Widths.{frameWords, dequeWords}
 use Rattle.semantics.specs.Core.{Core, actingIn, spawnOn, returnOn, stealOn, syncOn, readOn, writeOn, stepOn, doneBy}
-use Rattle.semantics.specs.Entries.{numbersOf, coreOf, stateOf}
-use Rattle.semantics.specs.Demands.{plainOf, stepOf, SoundStep}
+use Rattle.semantics.specs.SoundMachine.{machineOf}
 use Rattle.semantics.specs.Theory.Relation.{Relates, rootOf, rootsOf}
 use Rattle.semantics.specs.Theory.Places.{length-perm, acting-frame, live-few, treeOf}
 use Rattle.semantics.specs.Theory.RelationFacts.{trees-perm}
@@ -31,7 +30,7 @@ use Rattle.semantics.specs.Theory.Pools.{LiveTrees, live-laws, Beyond, s
 use Rattle.semantics.specs.Theory.Refusals.{refused-alike}
 use Rattle.semantics.specs.Theory.Simulation.{Simulates, simulates, numbers-kept}
 use Rattle.semantics.specs.Theory.ToSound.{to-sound}
-use Rattle.semantics.specs.Theory.FromSoundRelates.{from-sound}
+use Rattle.semantics.specs.Theory.FromSoundRelates.{countedCore, from-sound}
 
 module _ (M : Machine) (c : Core) (r : Relates (LiveTrees (c .head .numbers .nodes) (M .splitters)) M c) (tree : FrameTree M) (shape : DequeInvariant M) (spare : c .head .«free_count» ≡ freeNodes M) where
   -- ---- the words beyond the nodes
@@ -71,14 +70,14 @@ module _ (M : Machine) (c : Core) (r : Relates (LiveTrees (c .head .numbers .nod
 
   -- ---- refused or accepted
 
-  unchanged : (st : Step) → 0 < refusal M st → stepOn c st .core ≡ c
+  pub unchanged : (st : Step) → 0 < refusal M st → stepOn c st .core ≡ c
   unchanged st = go (refusal M st) refl
     where
       go : (k : ℕ) → refusal M st ≡ k → 0 < k → stepOn c st .core ≡ c
       go zero e h = absurd (omega arith)
       go (suc k) e h = ap (λ d. d .core) (refused-alike r tree shape spare st .1 k e .1)
 
-  step-beyond : (st : Step) → Beyond (c .head .numbers .nodes) (c .pool) (stepOn c st .core .pool)
+  pub step-beyond : (st : Step) → Beyond (c .head .numbers .nodes) (c .pool) (stepOn c st .core .pool)
   step-beyond st = elim (accepted-or-refused M st) [
     | inl a ↦ subst (λ d. Beyond (c .head .numbers .nodes) (c .pool) (d .core .pool)) (sym (refused-alike r tree shape spare st .0 (a .zero-refusal))) (done-beyond st (a .passes))
     | inr a ↦ subst (λ (d : Core). Beyond (c .head .numbers .nodes) (c .pool) (d .pool)) (sym (unchanged st (a .some-refusal))) (refl, refl)
@@ -90,50 +89,26 @@ module _ (M : Machine) (c : Core) (r : Relates (LiveTrees (c .head .numbers .nod
 kept : (M : Machine) (st : Step) → FrameTree M → DequeInvariant M → FrameTree (step M st) × DequeInvariant (step M st)
 kept M st tree shape = step-kept (λ K. FrameTree K × DequeInvariant K) M (λ t h i. (tree-turn M t h (i .0), deques-turn M t h (i .0) (i .1))) st (tree, shape)
 
-abbrev counted : State → List ℕ → Core
-counted s ws = coreOf s ws (freeCount (numbersOf s) ws)
-
-module _ (s : State) (ws : List ℕ) (st : Step) (dlen : length (s .deques) ≡ 520) (flen : length (s .frames) ≡ 384) (e : sound (numbersOf s) (s .deques) (s .frames) ws ≡ true) where
-  simulated : Simulates (LiveTrees (s .nodes) (s .splitters)) (plainOf s ws) (counted s ws) st
+module _ (s : Numbers) (ds fs ws : List ℕ) (st : Step) (dlen : length ds ≡ dequeWords) (flen : length fs ≡ frameWords) (e : sound s ds fs ws ≡ true) where
+  simulated : Simulates (LiveTrees (s .nodes) (s .splitters)) (machineOf s ds fs ws) (countedCore s ds fs ws) st
   simulated =
-      let F = from-sound (numbersOf s) (s .deques) (s .frames) ws e dlen flen in
+      let F = from-sound s ds fs ws e dlen flen in
       let r = F .0 in
-      simulates (LiveTrees (s .nodes) (s .splitters)) (plainOf s ws) (counted s ws) r (live-laws (s .nodes) (s .splitters) (r .numbers .nodes-le) (r .numbers .splitters-positive)) (F .1) (F .2) (F .3) (F .4) (F .5) st
+      simulates (LiveTrees (s .nodes) (s .splitters)) (machineOf s ds fs ws) (countedCore s ds fs ws) r (live-laws (s .nodes) (s .splitters) (r .numbers .nodes-le) (r .numbers .splitters-positive)) (F .1) (F .2) (F .3) (F .4) (F .5) st
 
   -- what the step leaves relates to the plain machine's next
-  pub step-relates : let c = stepOf s ws st .core in
-      let M = step (plainOf s ws) st in
+  pub step-relates : let c = stepOn (countedCore s ds fs ws) st .core in
+      let M = step (machineOf s ds fs ws) st in
       Relates (LiveTrees (c .head .numbers .nodes) (M .splitters)) M c
   step-relates =
-      let M = step (plainOf s ws) st in
-      let c = stepOf s ws st .core in
-      subst (λ N. Relates (LiveTrees N (M .splitters)) M c) (sym (numbers-kept (counted s ws) st .nodes))
-      (subst (λ n. Relates (LiveTrees (s .nodes) n) M c) (sym (sizes-step (plainOf s ws) st .splitters)) (simulated .related))
+      let M = step (machineOf s ds fs ws) st in
+      let c = stepOn (countedCore s ds fs ws) st .core in
+      subst (λ N. Relates (LiveTrees N (M .splitters)) M c) (sym (numbers-kept (countedCore s ds fs ws) st .nodes))
+      (subst (λ n. Relates (LiveTrees (s .nodes) n) M c) (sym (sizes-step (machineOf s ds fs ws) st .splitters)) (simulated .related))
 
   -- it is sound, and has the free nodes that it says
-  pub step-sound : let c = stepOf s ws st .core in (sound (numbersOf (stateOf c)) (c .deques) (c .frames) (c .pool) ≡ true) × (freeCount (numbersOf (stateOf c)) (c .pool) ≡ c .head .«free_count»)
+  pub step-sound : let c = stepOn (countedCore s ds fs ws) st .core in (sound (c .head .numbers) (c .deques) (c .frames) (c .pool) ≡ true) × (freeCount (c .head .numbers) (c .pool) ≡ c .head .«free_count»)
   step-sound =
-      let F = from-sound (numbersOf s) (s .deques) (s .frames) ws e dlen flen in
-      let k = kept (plainOf s ws) st (F .1) (F .2) in
-      to-sound (step (plainOf s ws) st) (stepOf s ws st .core) step-relates (k .0) (k .1)
-
-pub sound-step : (s : State) (ws : List ℕ) (st : Step) → length (s .deques) ≡ 520 → length (s .frames) ≡ 384 → sound (numbersOf s) (s .deques) (s .frames) ws ≡ true → SoundStep s ws st
-sound-step s ws st dlen flen e =
-    let M = plainOf s ws in
-    let c = counted s ws in
-    let F = from-sound (numbersOf s) (s .deques) (s .frames) ws e dlen flen in
-    let S = simulated s ws st dlen flen e in
-    let t = step-sound s ws st dlen flen e in
-    let b = step-beyond M c (F .0) (F .1) (F .2) (F .5) st in
-    record {
-      free = sym (F .5);
-      same-first = S .answers .first;
-      same-second = elim (S .answers .unless-written) [
-        | inl q ↦ inl q
-        | inr q ↦ inr (sym (S .answers .first) ∙ ap (λ p. p .0) (q .5), q .5 ∙ ap (λ j. (106, j)) (sym (t .1)))
-      ];
-      refused = unchanged M c (F .0) (F .1) (F .2) (F .5) st;
-      sound-after = t .0;
-      same-length = b .0;
-      beyond = b .1;
-    }
+      let F = from-sound s ds fs ws e dlen flen in
+      let k = kept (machineOf s ds fs ws) st (F .1) (F .2) in
+      to-sound (step (machineOf s ds fs ws) st) (stepOn (countedCore s ds fs ws) st .core) step-relates (k .0) (k .1)

@@ -1,18 +1,20 @@
--- When a start is accepted, and what it hands out then.
-use mathlib.Core.Path.{_≡_}
+-- When a start is accepted, and what it leaves otherwise.
+use mathlib.Core.Path.{_≡_, refl, ap, _∙_}
 use mathlib.Core.Bool.{Bool, false, _||_}
-use mathlib.Core.Logic.{inl, inr}
+use mathlib.Core.Logic.{_⊎_, inl, inr}
 use mathlib.Core.List.{List}
-use Prim.Native.Nat.{ℕ, _≤_}
+use Prim.Native.Nat.{ℕ, _≤_, _<_}
 use native.Mathlib.Omega.{arith}
 use lib.ListN.{length}
 use lib.Dec.{eqb, ltb}
 use borrow.Author.Tests.{ltb-false, eqb-false, le-ltb, ne-eqb}
 use Rattle.words.specs.Tests.{decided, neither}
 use Rattle.sizes.specs.Sizes.{treeNodes}
-use Rattle.semantics.specs.declared.Call.the-variants.{Taken, Denied}
 use Rattle.semantics.specs.declared.Refusal.{Refusal}
-use Rattle.semantics.specs.Entries.{startOn, begun, wholeNodes}
+use Rattle.semantics.specs.declared.Refusal.the-variants.{Values, Workers, Nodes}
+use Rattle.semantics.specs.Answers.{refusalNumber}
+use Rattle.semantics.specs.Entries.{State, fits, StartResult, startRefused, startAccepted, startWith, startOn, wholeNodes}
+use Rattle.semantics.specs.Theory.Lengths.{Fits, fits-true, true-fits}
 
 -- the conditions that refusals 1, 2 and 3 test
 pub record Fit (workers : ℕ) (vs ws : List ℕ) : Type 0 where
@@ -22,10 +24,6 @@ pub record Fit (workers : ℕ) (vs ws : List ℕ) : Type 0 where
   pub workers-le : workers ≤ 8
   pub enough : treeNodes (length vs) ≤ wholeNodes ws
   pub nodes-le : wholeNodes ws ≤ 16384
-
--- x is none, or more than m
-out-of : (x m : ℕ) → Bool
-out-of x m = eqb x 0 || ltb m x
 
 in-range : (x m : ℕ) → eqb x 0 || ltb m x ≡ false → (1 ≤ x) × (x ≤ m)
 in-range x m e =
@@ -38,27 +36,54 @@ in-range x m e =
 range-in : (x m : ℕ) → 1 ≤ x → x ≤ m → eqb x 0 || ltb m x ≡ false
 range-in x m a b = rw (ne-eqb x 0 (λ e. omega arith), le-ltb m x b)
 
-denied-not : {r : Refusal} → Denied r ≡ Taken → ⊥
-denied-not {r} e = let z : _≡_ {A = ℕ} 0 1 = cc in omega arith
+pub fit-started : (s : State) (workers : ℕ) (vs ws : List ℕ) → Fits s → Fit workers vs ws → startOn s workers vs ws ≡ startAccepted workers vs ws
+unfolding startOn startWith
+fit-started s workers vs ws L F =
+    rw (fits-true s L, range-in (length vs) 256 (F .values-positive) (F .values-le), range-in workers 8 (F .workers-positive) (F .workers-le), le-ltb (wholeNodes ws) (treeNodes (length vs)) (F .enough), le-ltb 16384 (wholeNodes ws) (F .nodes-le))
 
-pub fit-started : (workers : ℕ) (vs ws : List ℕ) → Fit workers vs ws → startOn workers vs ws ≡ begun workers vs ws
-unfolding startOn
-fit-started workers vs ws F =
-    rw (range-in (length vs) 256 (F .values-positive) (F .values-le), range-in workers 8 (F .workers-positive) (F .workers-le), le-ltb (wholeNodes ws) (treeNodes (length vs)) (F .enough), le-ltb 16384 (wholeNodes ws) (F .nodes-le))
+-- ---- what a start does, in cases
 
-pub started-fit : (workers : ℕ) (vs ws : List ℕ) → startOn workers vs ws .call ≡ Taken → Fit workers vs ws
-unfolding startOn
-started-fit workers vs ws e = elim (decided (eqb (length vs) 0 || ltb 256 (length vs))) [
-  | inl a ↦ absurd (denied-not (rw a at e))
+-- refused by 1, 2 or 3
+pub record Refuses (ws : List ℕ) (o : StartResult) : Type 0 where
+  pub refusal : Refusal
+  pub result : o ≡ startRefused refusal ws
+  pub positive : 0 < refusalNumber refusal
+  pub low : refusalNumber refusal < 99
+
+-- accepted
+pub record Accepts (s : State) (workers : ℕ) (vs ws : List ℕ) (o : StartResult) : Type 0 where
+  pub lengths : Fits s
+  pub fit : Fit workers vs ws
+  pub result : o ≡ startAccepted workers vs ws
+
+abbrev Cases : State → ℕ → List ℕ → List ℕ → StartResult → Type 0
+Cases s workers vs ws o = (o ≡ record { state = s; pool = ws; result = 99 }) ⊎ (Refuses ws o ⊎ Accepts s workers vs ws o)
+
+with-cases : (s : State) (workers : ℕ) (vs ws : List ℕ) → Fits s → Refuses ws (startWith workers vs ws) ⊎ Accepts s workers vs ws (startWith workers vs ws)
+unfolding startWith
+with-cases s workers vs ws L = elim (decided (eqb (length vs) 0 || ltb 256 (length vs))) [
+  | inl a ↦ rw a (inl (record { refusal = Values; result = refl; positive = omega arith; low = omega arith }))
   | inr a ↦ elim (decided (eqb workers 0 || ltb 8 workers)) [
-    | inl b ↦ absurd (denied-not (rw (a, b) at e))
+    | inl b ↦ rw (a, b) (inl (record { refusal = Workers; result = refl; positive = omega arith; low = omega arith }))
     | inr b ↦ elim (decided (ltb (wholeNodes ws) (treeNodes (length vs)) || ltb 16384 (wholeNodes ws))) [
-      | inl d ↦ absurd (denied-not (rw (a, b, d) at e))
+      | inl d ↦ rw (a, b, d) (inl (record { refusal = Nodes; result = refl; positive = omega arith; low = omega arith }))
       | inr d ↦
           let x = in-range (length vs) 256 a in
           let y = in-range workers 8 b in
           let z = neither (ltb (wholeNodes ws) (treeNodes (length vs))) (ltb 16384 (wholeNodes ws)) d in
-          record { values-positive = x .0; values-le = x .1; workers-positive = y .0; workers-le = y .1; enough = ltb-false (wholeNodes ws) (treeNodes (length vs)) (z .0); nodes-le = ltb-false 16384 (wholeNodes ws) (z .1) }
+          let F : Fit workers vs ws = record { values-positive = x .0; values-le = x .1; workers-positive = y .0; workers-le = y .1; enough = ltb-false (wholeNodes ws) (treeNodes (length vs)) (z .0); nodes-le = ltb-false 16384 (wholeNodes ws) (z .1) } in
+          rw (a, b, d) (inr (record { lengths = L; fit = F; result = refl }))
     ]
   ]
+]
+
+pub start-cases : (s : State) (workers : ℕ) (vs ws : List ℕ) → Cases s workers vs ws (startOn s workers vs ws)
+unfolding startOn
+start-cases s workers vs ws = elim (decided (fits s)) [ inl e ↦ rw e (inr (with-cases s workers vs ws (true-fits s e))) | inr e ↦ rw e (inl refl) ]
+
+pub started-fit : (s : State) (workers : ℕ) (vs ws : List ℕ) → startOn s workers vs ws .result ≡ 0 → Accepts s workers vs ws (startOn s workers vs ws)
+started-fit s workers vs ws e = elim (start-cases s workers vs ws) [
+  | inl r ↦ absurd (omega (arith, e, ap (λ (o : StartResult). o .result) r))
+  | inr (inl R) ↦ absurd (omega (arith, e, ap (λ (o : StartResult). o .result) (R .result), R .positive))
+  | inr (inr A) ↦ A
 ]

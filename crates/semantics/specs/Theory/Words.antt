@@ -1,56 +1,107 @@
--- The answer words: which answers refuse a whole call, and which accept a step.
-use mathlib.Core.Path.{_≡_, refl, sym, ap, _∙_}
+-- The answer words: which answers refuse a whole call, and which accept a step; the two words in one number.
+use mathlib.Core.Path.{_≡_, refl, sym, ap, ap₂, _∙_}
 use mathlib.Core.Bool.{Bool, true, false}
 use mathlib.Core.Logic.{inl, inr}
-use mathlib.Core.List.{List, [], _∷_, _++_, tail-eq-of-cons-eq}
-use Prim.Native.Nat.{ℕ, _<_}
+use mathlib.Core.List.{List, [], _∷_}
+use Prim.Native.Nat.{ℕ, _+_, _*_, _/_, _%_, _^_, _<_}
 use native.Mathlib.Omega.{arith}
 use borrow.Author.Tests.{lt-leb}
-use Rattle.words.specs.Tests.{decided}
+use Rattle.words.specs.Tests.{decided, true≢false}
 use Rattle.model.specs.declared.Step.{Step}
 use Rattle.model.specs.declared.Step.the-variants.{Spawn, Return, Steal, Sync, Read, Write}
+use Rattle.model.specs.declared.Decoded.{Decoded}
+use Rattle.model.specs.declared.Decoded.the-variants.{Valid, Invalid}
 use Rattle.model.specs.Machine.{Frame, Machine, deque}
-use Rattle.model.specs.Steps.{Action, spawn, return, sync, read, write, Turn, acting, stealing, turnOf, firstTrue, turnTests, refusal, step, actionAnswer, turnAnswer, answer}
-use Rattle.model.specs.Run.{answers, bottomEntry, turnEntry, trace}
+use Rattle.model.specs.Steps.{Action, spawn, return, sync, read, write, Turn, acting, stealing, turnOf, firstTrue, turnTests, refusal, actionAnswer, turnAnswer}
+use Rattle.model.specs.Run.{bottomEntry as plainBottom, turnEntry as plainEntry}
 use Rattle.model.specs.Theory.Effects.{Passes, acts}
-use Rattle.model.specs.Theory.RunSteps.{accepted-or-refused}
+use Rattle.semantics.specs.declared.Done.the-variants.{Spawned, Ended, Stolen, Waited, Value, Written}
 use Rattle.semantics.specs.declared.Refusal.{Refusal}
-use Rattle.semantics.specs.Answers.{refusalNumber, answerWords}
+use Rattle.semantics.specs.declared.Answer.{Answer}
+use Rattle.semantics.specs.declared.Answer.the-variants.{Accepted, Refused}
+use Rattle.semantics.specs.Answers.{refusalNumber, answerWords, bothWords, wordsIn}
 use Rattle.semantics.specs.Core.{Core, StepResult, judged, spawnOn, returnOn, stealOn, syncOn, readOn, writeOn, stepOn, testsOf, doneBy}
-use Rattle.semantics.specs.Calls.{refusedWhole, saysAccepted, bottomTold, entryTold, Told, traceTold, stepsTold, answersTold}
+use Rattle.semantics.specs.Entries.{recordOn}
+use Rattle.semantics.specs.Calls.{refusedWhole, saysAccepted, bottomEntry, turnEntry}
+use Rattle.semantics.specs.Theory.Refusals.{number-range}
 
--- ---- the engine's steps are never refused as a whole call is
+-- ---- the two words of an answer, in one number
 
-abbrev High : List (Bool × Refusal) → Type 0
-High [] = Unit {0}
-High (t ∷ ts) = (6 < refusalNumber (t .1)) × High ts
+-- the first word fits the low half
+pub words-low : (a : Answer) → answerWords a .0 < 2 ^ 32
+words-low (Accepted (Spawned k)) = omega arith
+words-low (Accepted (Ended o)) = omega arith
+words-low (Accepted (Stolen k)) = omega arith
+words-low (Accepted (Waited o)) = omega arith
+words-low (Accepted (Value v)) = omega arith
+words-low (Accepted (Written k)) = omega arith
+words-low (Refused r) = omega (arith, number-range r .1)
 
-high-not-whole : (a : ℕ × ℕ) → 6 < a .0 → refusedWhole a ≡ false
-high-not-whole a h = lt-leb (a .0) 6 h
+-- the two words go into one number and come back
+pub words-back : (w : ℕ × ℕ) → w .0 < 2 ^ 32 → wordsIn (bothWords w) ≡ w
+words-back w low =
+    let first : (w .0 + 4294967296 * w .1) % 4294967296 ≡ w .0 = omega arith in
+    let second : (w .0 + 4294967296 * w .1) / 4294967296 ≡ w .1 = omega arith in
+    ap₂ (λ (x y : ℕ). (x, y)) first second
 
-judged-high : (ts : List (Bool × Refusal)) (c : Core) (d : StepResult) → High ts → 6 < answerWords (d .answer) .0 → 6 < answerWords (judged ts c d .answer) .0
-judged-high [] c d h k = k
-judged-high (t ∷ ts) c d h k = elim (decided (t .0)) [ inl e ↦ rw e (h .0) | inr e ↦ rw e (judged-high ts c d (h .1) k) ]
+-- ---- a record is never refused as a whole call is
 
-pub step-not-whole : (c : Core) (st : Step) → refusedWhole (answerWords (stepOn c st .answer)) ≡ false
+abbrev NotWhole : List (Bool × Refusal) → Type 0
+NotWhole [] = Unit {0}
+NotWhole (t ∷ ts) = (refusedWhole (refusalNumber (t .1), 0) ≡ false) × NotWhole ts
+
+judged-not-whole : (ts : List (Bool × Refusal)) (c : Core) (d : StepResult) → NotWhole ts → refusedWhole (answerWords (d .answer)) ≡ false → refusedWhole (answerWords (judged ts c d .answer)) ≡ false
+judged-not-whole [] c d h k = k
+judged-not-whole (t ∷ ts) c d h k = elim (decided (t .0)) [ inl e ↦ rw e (h .0) | inr e ↦ rw e (judged-not-whole ts c d (h .1) k) ]
+
+step-not-whole : (c : Core) (st : Step) → refusedWhole (answerWords (stepOn c st .answer)) ≡ false
 unfolding stepOn
-step-not-whole c st = high-not-whole (answerWords (judged (testsOf c st) c (doneBy c st) .answer)) (judged-high (testsOf c st) c (doneBy c st) (tests-high st) (done-high st))
+step-not-whole c st = judged-not-whole (testsOf c st) c (doneBy c st) (tests st) (done st)
   where
-    tests-high : (st : Step) → High (testsOf c st)
-    tests-high (Spawn w) = omega arith
-    tests-high (Return w) = omega arith
-    tests-high (Steal w v) = omega arith
-    tests-high (Sync w) = omega arith
-    tests-high (Read w x) = omega arith
-    tests-high (Write w x v) = omega arith
+    tests : (st : Step) → NotWhole (testsOf c st)
+    tests (Spawn w) = (refl, (refl, (refl, (refl, tt))))
+    tests (Return w) = (refl, (refl, (refl, (refl, tt))))
+    tests (Steal w v) = (refl, (refl, (refl, (refl, tt))))
+    tests (Sync w) = (refl, (refl, (refl, tt)))
+    tests (Read w x) = (refl, (refl, (refl, (refl, tt))))
+    tests (Write w x v) = (refl, (refl, (refl, (refl, (refl, tt)))))
 
-    done-high : (st : Step) → 6 < answerWords (doneBy c st .answer) .0
-    done-high (Spawn w) = unfold spawnOn in omega arith
-    done-high (Return w) = unfold returnOn in omega arith
-    done-high (Steal w v) = unfold stealOn in omega arith
-    done-high (Sync w) = unfold syncOn in omega arith
-    done-high (Read w x) = unfold readOn in omega arith
-    done-high (Write w x v) = unfold writeOn in omega arith
+    done : (st : Step) → refusedWhole (answerWords (doneBy c st .answer)) ≡ false
+    done (Spawn w) = unfold spawnOn in refl
+    done (Return w) = unfold returnOn in refl
+    done (Steal w v) = unfold stealOn in refl
+    done (Sync w) = unfold syncOn in refl
+    done (Read w x) = unfold readOn in refl
+    done (Write w x v) = unfold writeOn in refl
+
+pub not-whole : (c : Core) (d : Decoded) → refusedWhole (answerWords (recordOn c d .answer)) ≡ false
+not-whole c (Valid st) = step-not-whole c st
+not-whole c Invalid = refl
+
+-- ---- a record that is refused changes nothing
+
+abbrev accepts : Answer → Bool
+accepts a = saysAccepted (answerWords a)
+
+judged-keeps : (ts : List (Bool × Refusal)) (c : Core) (d : StepResult) → accepts (d .answer) ≡ true → accepts (judged ts c d .answer) ≡ false → judged ts c d .core ≡ c
+judged-keeps [] c d a e = absurd (true≢false (sym a ∙ e))
+judged-keeps (t ∷ ts) c d a e = elim (decided (t .0)) [ inl b ↦ rw b | inr b ↦ rw b (judged-keeps ts c d a (rw b at e)) ]
+
+done-accepts : (c : Core) (st : Step) → accepts (doneBy c st .answer) ≡ true
+done-accepts c (Spawn w) = unfold spawnOn in refl
+done-accepts c (Return w) = unfold returnOn in refl
+done-accepts c (Steal w v) = unfold stealOn in refl
+done-accepts c (Sync w) = unfold syncOn in refl
+done-accepts c (Read w x) = unfold readOn in refl
+done-accepts c (Write w x v) = unfold writeOn in refl
+
+step-keeps : (c : Core) (st : Step) → accepts (stepOn c st .answer) ≡ false → stepOn c st .core ≡ c
+unfolding stepOn
+step-keeps c st e = judged-keeps (testsOf c st) c (doneBy c st) (done-accepts c st) e
+
+pub refused-keeps : (c : Core) (d : Decoded) → answerWords (recordOn c d .answer) .0 < 100 → recordOn c d .core ≡ c
+refused-keeps c (Valid st) h = step-keeps c st (lt-leb 100 (answerWords (stepOn c st .answer) .0) h)
+refused-keeps c Invalid h = refl
 
 -- ---- the plain machine's refusals are 8 to 16
 
@@ -74,37 +125,19 @@ tests-low M (acting w a) = (omega arith, (omega arith, (omega arith, own (deque 
     own (q ∷ d) (read x) = omega arith
     own (q ∷ d) (write x v) = omega arith
 
-refusal-low : (M : Machine) (st : Step) → refusal M st < 100
+pub refusal-low : (M : Machine) (st : Step) → refusal M st < 100
 unfolding refusal
 refusal-low M st = first-low (turnTests M (turnOf st)) (tests-low M (turnOf st))
 
--- ---- the trace by the plain machine's answers is its trace
+-- ---- an accepted turn's answer says so, and what its frame did and read is told by it
 
-pub turn-told : (M : Machine) (t : Turn) → Passes M t → (saysAccepted (turnAnswer M t) ≡ true) × (entryTold M t (turnAnswer M t) ≡ turnEntry M t)
+pub turn-told : (M : Machine) (t : Turn) → Passes M t → (saysAccepted (turnAnswer M t) ≡ true) × (turnEntry M t (turnAnswer M t) ≡ plainEntry M t)
 turn-told M (stealing w v) h = (refl, refl)
 turn-told M (acting w a) h = let x = acts M w a h in rw (x .at) (own (x .actor) (x .above) a)
   where
-    own : (q : Frame) (d : List Frame) (a : Action) → (saysAccepted (actionAnswer M w (q ∷ d) a) ≡ true) × (bottomTold (q ∷ d) a (actionAnswer M w (q ∷ d) a) ≡ bottomEntry (q ∷ d) a)
+    own : (q : Frame) (d : List Frame) (a : Action) → (saysAccepted (actionAnswer M w (q ∷ d) a) ≡ true) × (bottomEntry (q ∷ d) a (actionAnswer M w (q ∷ d) a) ≡ plainBottom (q ∷ d) a)
     own q d spawn = (refl, refl)
     own q d return = (refl, refl)
     own q d sync = (refl, refl)
     own q d (read x) = (refl, refl)
     own q d (write x v) = (refl, refl)
-
-pub trace-told : (M : Machine) (ts : List Told) → answersTold ts ≡ answers M (stepsTold ts) → traceTold M ts ≡ trace M (stepsTold ts)
-trace-told M [] e = refl
-trace-told M (t ∷ ts) e = elim (accepted-or-refused M (t .0)) [
-  | inl a ↦
-      let k = turn-told M (turnOf (t .0)) (a .passes) in
-      let w : t .1 ≡ turnAnswer M (turnOf (t .0)) = ap headPair e ∙ a .answered in
-      let r = trace-told (step M (t .0)) ts (tail-eq-of-cons-eq e) in
-      rw (w, k .0, k .1) (ap (λ z. turnEntry M (turnOf (t .0)) ++ z) (r ∙ ap (λ z. trace z (stepsTold ts)) (a .after)) ∙ sym (a .traced (stepsTold ts)))
-  | inr a ↦
-      let w : t .1 ≡ (refusal M (t .0), 0) = ap headPair e ∙ a .answered in
-      let r = trace-told (step M (t .0)) ts (tail-eq-of-cons-eq e) in
-      rw (w, lt-leb 100 (refusal M (t .0)) (refusal-low M (t .0))) (r ∙ ap (λ z. trace z (stepsTold ts)) (a .after) ∙ sym (a .traced (stepsTold ts)))
-]
-  where
-    headPair : List (ℕ × ℕ) → ℕ × ℕ
-    headPair [] = (0, 0)
-    headPair (x ∷ xs) = x

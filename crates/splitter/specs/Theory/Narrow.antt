@@ -21,19 +21,17 @@ use Rattle.model.specs.declared.Decoded.{Decoded}
 use Rattle.model.specs.declared.Decoded.the-variants.{Valid, Invalid}
 use Rattle.model.specs.Steps.{firstTrue}
 use Rattle.model.specs.Record.{validIf, recordOf}
-use Rattle.semantics.specs.declared.State.{State}
 use Rattle.semantics.specs.declared.Refusal.the-variants.{NoWorker, MainReturned, ThiefBusy, NoVictim, NoSplitter}
 use Rattle.semantics.specs.Core.{Core, StepResult, noWorker, allIdle, idle, judged, actingTests, stepOn}
-use Rattle.semantics.specs.Entries.{numbersOf, coreOf, entered, recordOn}
+use Rattle.semantics.specs.Entries.{State, numbersOf, coreOf, checkedState, recordOn, outsideDone, outsideChecked, outsideWith}
 use Rattle.semantics.specs.Theory.Refusals.{refusedBy}
 use Rattle.semantics.specs.Theory.Sentences.{sound-facts}
-use Rattle.splitter.specs.Interface.{recordChecked, enterRecord}
 
 -- ---- numbers
 
 -- cut to m, a number is told from one below m as before
-told : (x m i : ℕ) → i < m → eqb (min x m) i ≡ eqb x i
-told x m i h = elim (ℕ-discrete x i) [
+same-test : (x m i : ℕ) → i < m → eqb (min x m) i ≡ eqb x i
+same-test x m i h = elim (ℕ-discrete x i) [
   | yes e ↦ eq-eqb (min x m) i (omega arith) ∙ sym (eq-eqb x i e)
   | no e ↦ ne-eqb (min x m) i (λ z. e (omega arith)) ∙ sym (ne-eqb x i e)
 ]
@@ -125,20 +123,20 @@ module _ (c : Core) where
     record-cut : (kind : ℕ) → recordOn c (recordOf (min kind 255) (min w 255) (min x 65535) v) ≡ recordOn c (recordOf kind w x v)
     unfolding recordOf
     record-cut kind =
-        let zero-field : eqb (min x 65535) 0 && eqb v 0 ≡ eqb x 0 && eqb v 0 = ap (λ (b : Bool). b && eqb v 0) (told x 65535 0 (omega arith)) in
+        let zero-field : eqb (min x 65535) 0 && eqb v 0 ≡ eqb x 0 && eqb v 0 = ap (λ (b : Bool). b && eqb v 0) (same-test x 65535 0 (omega arith)) in
         firsts {ts = kinds (min kind 255) (min w 255) (min x 65535) v} {us = kinds kind w x v}
-        (also (told kind 255 1 (omega arith)) (valid-cut _ _ _ _ zero-field (worker-cut (λ u. Spawn u) (λ y e. no-worker (Spawn y) e)))
-        (also (told kind 255 2 (omega arith)) (valid-cut _ _ _ _ zero-field (worker-cut (λ u. Return u) (λ y e. no-worker (Return y) e)))
-        (also (told kind 255 3 (omega arith)) (valid-cut (eqb v 0) _ _ _ refl steal-cut)
-        (also (told kind 255 4 (omega arith)) (valid-cut _ _ _ _ zero-field (worker-cut (λ u. Sync u) (λ y e. no-worker (Sync y) e)))
-        (also (told kind 255 5 (omega arith)) (valid-cut (eqb v 0) _ _ _ refl read-cut)
-        (also (told kind 255 6 (omega arith)) write-cut end))))))
+        (also (same-test kind 255 1 (omega arith)) (valid-cut _ _ _ _ zero-field (worker-cut (λ u. Spawn u) (λ y e. no-worker (Spawn y) e)))
+        (also (same-test kind 255 2 (omega arith)) (valid-cut _ _ _ _ zero-field (worker-cut (λ u. Return u) (λ y e. no-worker (Return y) e)))
+        (also (same-test kind 255 3 (omega arith)) (valid-cut (eqb v 0) _ _ _ refl steal-cut)
+        (also (same-test kind 255 4 (omega arith)) (valid-cut _ _ _ _ zero-field (worker-cut (λ u. Sync u) (λ y e. no-worker (Sync y) e)))
+        (also (same-test kind 255 5 (omega arith)) (valid-cut (eqb v 0) _ _ _ refl read-cut)
+        (also (same-test kind 255 6 (omega arith)) write-cut end))))))
 
 -- ---- a step by the fields of a record
 
-sound-told : (N : Numbers) (ds fs ws ks : List ℕ) (k : ℕ) → checked N ds fs ws ks ≡ Sound k → sound N ds fs ws ≡ true
+checked-sound : (N : Numbers) (ds fs ws ks : List ℕ) (k : ℕ) → checked N ds fs ws ks ≡ Sound k → sound N ds fs ws ≡ true
 unfolding checked
-sound-told N ds fs ws ks k e = elim (decided (sound N ds fs ws)) [
+checked-sound N ds fs ws ks k e = elim (decided (sound N ds fs ws)) [
   | inl t ↦ t
   | inr t ↦ elim (decided (leb (N .nodes) (length ks))) [
     | inl r ↦ absurd (let z : _≡_ {A = ℕ} 0 1 = (let q : Checked.Unsound ≡ Sound k = rw (r, t) at e in cc) in omega arith)
@@ -147,15 +145,15 @@ sound-told N ds fs ws ks k e = elim (decided (sound N ds fs ws)) [
 ]
 
 module _ (s : State) (ws ks : List ℕ) (kind w x v : ℕ) where
-  check-cut : (k : Checked) → checked (numbersOf s) (s .deques) (s .frames) ws ks ≡ k
-      → recordChecked k s ws ks (recordOf (min kind 255) (min w 255) (min x 65535) v) ≡ recordChecked k s ws ks (recordOf kind w x v)
+  check-cut : (k : Checked) → checkedState s ws ks ≡ k
+      → outsideChecked k s ws ks (recordOf (min kind 255) (min w 255) (min x 65535) v) ≡ outsideChecked k s ws ks (recordOf kind w x v)
   check-cut NoRoom e = refl
   check-cut Checked.Unsound e = refl
   check-cut (Sound k) e =
-      let F = sound-facts (numbersOf s) (s .deques) (s .frames) ws (sound-told (numbersOf s) (s .deques) (s .frames) ws ks k e) .numbers in
-      ap (λ d. entered d (cleared (s .nodes) ks)) (record-cut (coreOf s ws k) (F .workers-le) (F .splitters-le) w x v kind)
+      let F = sound-facts (numbersOf s) (s .deques) (s .frames) ws (checked-sound (numbersOf s) (s .deques) (s .frames) ws ks k e) .numbers in
+      ap (λ d. outsideDone d (cleared (numbersOf s .nodes) ks)) (record-cut (coreOf s ws k) (F .workers-le) (F .splitters-le) w x v kind)
 
   -- the fields cut to 8, 8 and 16 bits
-  pub same-cut : enterRecord s ws ks (recordOf (min kind 255) (min w 255) (min x 65535) v) ≡ enterRecord s ws ks (recordOf kind w x v)
-  unfolding enterRecord
-  same-cut = check-cut (checked (numbersOf s) (s .deques) (s .frames) ws ks) refl
+  pub same-cut : outsideWith s ws ks (recordOf (min kind 255) (min w 255) (min x 65535) v) ≡ outsideWith s ws ks (recordOf kind w x v)
+  unfolding outsideWith
+  same-cut = check-cut (checkedState s ws ks) refl

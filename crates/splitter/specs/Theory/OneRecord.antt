@@ -7,14 +7,10 @@ use native.Mathlib.Omega.{arith}
 use lib.ListN.{length, getD, set}
 use Rattle.soundness.specs.declared.Checked.{Checked}
 use Rattle.soundness.specs.declared.Checked.the-variants.{NoRoom, Sound}
-use Rattle.soundness.specs.Soundness.{checked}
 use Rattle.model.specs.Record.{little, recordOf, decodeAt}
-use Rattle.semantics.specs.declared.State.{State}
-use Rattle.semantics.specs.declared.Call.{Call}
-use Rattle.semantics.specs.declared.Call.the-variants.{Taken, Denied}
-use Rattle.semantics.specs.Answers.{refusalNumber, answerWords}
-use Rattle.semantics.specs.Entries.{Entered, Played, numbersOf, coreOf, recordOn, recordsFrom, recordsOf, runOn, tapeChecked, play}
-use Rattle.splitter.specs.Interface.{bothWords, recordChecked, enterRecord}
+use Rattle.semantics.specs.Answers.{answerWords, bothWords}
+use Rattle.semantics.specs.Entries.{State, OutsideResult, TapeResult, coreOf, checkedState, recordOn, recordsFrom, recordsOf, runOn, outsideChecked, outsideWith, tapeChecked, tapeWith}
+use Rattle.splitter.specs.OneRecord.{bytesOf, resultWords}
 
 -- ---- the bytes
 
@@ -33,11 +29,6 @@ four-bytes x h =
 same-fields : {k k′ w w′ f f′ v v′ : ℕ} → k ≡ k′ → w ≡ w′ → f ≡ f′ → v ≡ v′ → recordOf k w f v ≡ recordOf k′ w′ f′ v′
 same-fields ek ew ef ev = λ i. recordOf (ek i) (ew i) (ef i) (ev i)
 
--- a record's bytes, the lowest first
-abbrev pub bytesOf : ℕ → ℕ → ℕ → ℕ → List ℕ
-bytesOf k w x v =
-    k % 2 ^ 8 ∷ w % 2 ^ 8 ∷ x % 2 ^ 8 ∷ x / 2 ^ 8 % 2 ^ 8 ∷ v % 2 ^ 8 ∷ v / 2 ^ 8 % 2 ^ 8 ∷ v / 2 ^ 16 % 2 ^ 8 ∷ v / 2 ^ 24 % 2 ^ 8 ∷ []
-
 bytes-decode : (k w x v : ℕ) → k < 2 ^ 8 → w < 2 ^ 8 → x < 2 ^ 16 → v < 2 ^ 32 → decodeAt (bytesOf k w x v) 0 ≡ recordOf k w x v
 unfolding decodeAt
 bytes-decode k w x v hk hw hx hv = same-fields (omega arith) (omega arith) (two-bytes x hx) (four-bytes v hv)
@@ -48,17 +39,12 @@ record-made bytes kind w x v k′ w′ x′ hv ek ew ex eb = rw (eb, ek, ew, ex)
 
 -- ---- a tape of one record
 
--- the number of the call's refusal, or both answer words
-abbrev pub callWords : Call → ℕ → ℕ → ℕ
-callWords Taken a b = bothWords (a, b)
-callWords (Denied r) a b = refusalNumber r
-
 -- a tape leaves and answers what a step does
-pub record Same (p : Played) (o : Entered) : Type 0 where
+pub record Same (p : TapeResult) (o : OutsideResult) : Type 0 where
   pub state : p .state ≡ o .state
   pub pool : p .pool ≡ o .pool
   pub work : p .work ≡ o .work
-  pub words : callWords (p .call) (getD (p .answers) 0 0) (getD (p .answers) 1 0) ≡ bothWords (answerWords (o .answer))
+  pub words : resultWords (p .result) (getD (p .answers) 0 0) (getD (p .answers) 1 0) ≡ o .result
 
 put-two : (rs : List ℕ) → length rs ≡ 2 → (a b : ℕ) → bothWords (getD (set (set rs 0 a) 1 b) 0 0, getD (set (set rs 0 a) 1 b) 1 0) ≡ bothWords (a, b)
 put-two [] e a b = absurd (omega arith)
@@ -70,7 +56,7 @@ module _ (s : State) (ws ks bytes rs : List ℕ) (long : length bytes ≡ 8) (tw
   unfolding recordsFrom
   one = rw long
 
-  one-checked : (k : Checked) → Same (tapeChecked k s ws ks bytes rs) (recordChecked k s ws ks (decodeAt bytes 0))
+  one-checked : (k : Checked) → Same (tapeChecked k s ws ks bytes rs) (outsideChecked k s ws ks (decodeAt bytes 0))
   unfolding runOn
   one-checked NoRoom = record { state = refl; pool = refl; work = refl; words = refl }
   one-checked Checked.Unsound = record { state = refl; pool = refl; work = refl; words = refl }
@@ -78,6 +64,6 @@ module _ (s : State) (ws ks bytes rs : List ℕ) (long : length bytes ≡ 8) (tw
       let o = recordOn (coreOf s ws k) (decodeAt bytes 0) in
       rw one (record { state = refl; pool = refl; work = refl; words = put-two rs two (answerWords (o .answer) .0) (answerWords (o .answer) .1) })
 
-  pub one-record : Same (play s ws ks bytes rs) (enterRecord s ws ks (decodeAt bytes 0))
-  unfolding play enterRecord
-  one-record = rw (long, two) (one-checked (checked (numbersOf s) (s .deques) (s .frames) ws ks))
+  pub one-record : Same (tapeWith s ws ks bytes rs) (outsideWith s ws ks (decodeAt bytes 0))
+  unfolding tapeWith outsideWith
+  one-record = rw (long, two) (one-checked (checkedState s ws ks))

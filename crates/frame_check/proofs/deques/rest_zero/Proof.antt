@@ -18,8 +18,8 @@ abbrev μ-loop : tie.MeasureT-loop
 loop-holds : tie.Need-loop-holds Inv-loop μ-loop
 loop-holds c = (refl, omega arith)
 
-deque-place-requires : tie.Need-deque-place-requires Inv-loop μ-loop
-deque-place-requires c κs = search needs
+place-at-requires : tie.Need-place-at-requires Inv-loop μ-loop
+place-at-requires c κs = search needs
 
 add-k : tie.Need-add-k Inv-loop μ-loop
 add-k c = search needs
@@ -31,7 +31,7 @@ loop-again : tie.Need-loop-again Inv-loop μ-loop
 loop-again c =
     let a = c .before .before .before .before .args in
     let l = c .before .before .loop in
-    (all-turn (l .k) (zeroPast (a .deques .now) (a .w) (a .n)) (l .inv .0) (rw (c .deque-place .ensures)), omega arith)
+    (all-turn (l .k) (zeroPast (a .deques .now) (a .w) (a .n)) (l .inv .0) (rw (c .place-at .ensures)), omega arith)
 
 returns : tie.Need-returns Inv-loop μ-loop
 returns c =
@@ -42,4 +42,4 @@ returns c =
 pub rest-zero-spec : {M : Type 1} → statement M
 rest-zero-spec =
     tie.close
-    (tie.spec Inv-loop μ-loop loop-holds deque-place-requires add-k loop-less loop-again returns)
+    (tie.spec Inv-loop μ-loop loop-holds place-at-requires add-k loop-less loop-again returns)

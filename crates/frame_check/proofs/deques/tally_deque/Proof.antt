@@ -18,27 +18,27 @@ Inv-loop tallies₀ deques frames w n sound₀ k₀ tallies sound k = (tallies �
 abbrev μ-loop : tie.MeasureT-loop
 μ-loop tallies₀ deques frames w n sound₀ k₀ tallies sound k = n - k
 
-deque-size-requires : tie.Need-deque-size-requires Inv-loop μ-loop
-deque-size-requires c κs = search needs
+size-at-requires : tie.Need-size-at-requires Inv-loop μ-loop
+size-at-requires c κs = search needs
 
 loop-holds : tie.Need-loop-holds Inv-loop μ-loop
 unfolding tally
 loop-holds c = (refl, refl, omega arith)
 
-deque-place-requires : tie.Need-deque-place-requires Inv-loop μ-loop
-deque-place-requires c κs = search needs
+place-at-requires : tie.Need-place-at-requires Inv-loop μ-loop
+place-at-requires c κs = search needs
 
 sub-requires : tie.Need-sub-requires Inv-loop μ-loop
 sub-requires c κs = search needs
 
-deque-place-requires-2 : tie.Need-deque-place-requires-2 Inv-loop μ-loop
-deque-place-requires-2 c κs = search needs
+place-at-requires-2 : tie.Need-place-at-requires-2 Inv-loop μ-loop
+place-at-requires-2 c κs = search needs
 
 bump-requires : tie.Need-bump-requires Inv-loop μ-loop
 bump-requires c κs = search needs
 
-frame-in-requires : tie.Need-frame-in-requires Inv-loop μ-loop
-frame-in-requires c κs = search needs
+frame-or-zero-requires : tie.Need-frame-or-zero-requires Inv-loop μ-loop
+frame-or-zero-requires c κs = search needs
 
 in-deque-requires : tie.Need-in-deque-requires Inv-loop μ-loop
 in-deque-requires c κs = search needs
@@ -53,15 +53,15 @@ loop-again : tie.Need-loop-again Inv-loop μ-loop
 loop-again c =
     let a = c .before .before .before .before .before .before .before .before .before .before .before .before .before .before .before .args in
     let l = c .before .before .before .before .before .before .before .before .before .before .loop in (
-      rw (c .before .before .before .before .bump .ensures) (tally-turn (l .k) (place (a .deques .now) (a .w)) (a .tallies .now) (l .inv .0) (c .before .before .before .before .before .before .before .before .deque-place .ensures)),
+      rw (c .before .before .before .before .bump .ensures) (tally-turn (l .k) (place (a .deques .now) (a .w)) (a .tallies .now) (l .inv .0) (c .before .before .before .before .before .before .before .before .place-at .ensures)),
       all-turn (l .k) (onDeque (a .deques .now) (a .frames .now) (a .w)) (l .inv .1)
           (rw (
             c .in-deque .ensures,
-            c .before .frame-in .ensures,
-            c .before .before .before .before .before .before .deque-place2 .ensures,
+            c .before .frame-or-zero .ensures,
+            c .before .before .before .before .before .before .place-at2 .ensures,
             c .before .before .before .before .before .before .before .sub .ensures,
-            c .before .before .before .before .before .before .before .before .deque-place .ensures,
-            c .before .before .before .before .before .before .before .before .before .before .before .deque-size .ensures,
+            c .before .before .before .before .before .before .before .before .place-at .ensures,
+            c .before .before .before .before .before .before .before .before .before .before .before .size-at .ensures,
           )),
       omega arith,
     )
@@ -76,7 +76,7 @@ returns : tie.Need-returns Inv-loop μ-loop
 returns c =
     let a = c .before .before .before .before .before .before .args in
     let l = c .before .loop in
-    rw (← c .before .before .deque-size .ensures) (
+    rw (← c .before .before .size-at .ensures) (
       at-end (λ k. tally k (place (a .deques .now) (a .w)) (a .tallies .now)) (l .inv .2) (c .loop-test .left) (l .inv .0),
       at-end (λ k. all k (onDeque (a .deques .now) (a .frames .now) (a .w))) (l .inv .2) (c .loop-test .left) (l .inv .1),
     )
@@ -87,13 +87,13 @@ tally-deque-spec =
     (tie.spec
     Inv-loop
     μ-loop
-    deque-size-requires
+    size-at-requires
     loop-holds
-    deque-place-requires
+    place-at-requires
     sub-requires
-    deque-place-requires-2
+    place-at-requires-2
     bump-requires
-    frame-in-requires
+    frame-or-zero-requires
     in-deque-requires
     add-k
     loop-less

@@ -19,14 +19,14 @@ abbrev μ-loop : tie.MeasureT-loop
 loop-holds : tie.Need-loop-holds Inv-loop μ-loop
 loop-holds c = (refl, omega arith, omega arith)
 
-frame-in-requires : tie.Need-frame-in-requires Inv-loop μ-loop
-frame-in-requires c κs = search needs
+frame-or-zero-requires : tie.Need-frame-or-zero-requires Inv-loop μ-loop
+frame-or-zero-requires c κs = search needs
 
 main-in-requires : tie.Need-main-in-requires Inv-loop μ-loop
 main-in-requires c κs = search needs
 
 main-le : (c : tie.After-main-in Inv-loop μ-loop) → c .main-in .result ≤ 1
-main-le c = rw (c .main-in .ensures) (hit-le (isMain (c .before .frame-in .result)))
+main-le c = rw (c .main-in .ensures) (hit-le (isMain (c .before .frame-or-zero .result)))
 
 add-n : tie.Need-add-n Inv-loop μ-loop
 add-n c = omega (arith, main-le c)
@@ -41,7 +41,7 @@ loop-again : tie.Need-loop-again Inv-loop μ-loop
 loop-again c =
     let a = c .before .before .before .before .before .args in
     let l = c .before .before .before .loop in (
-      howMany-turn (l .p) (mainAt (a .frames .now)) (l .inv .0) (rw (c .main-in .ensures, c .before .frame-in .ensures)),
+      howMany-turn (l .p) (mainAt (a .frames .now)) (l .inv .0) (rw (c .main-in .ensures, c .before .frame-or-zero .ensures)),
       omega (arith, main-le c),
       omega arith,
     )
@@ -59,7 +59,7 @@ count-mains-spec =
     Inv-loop
     μ-loop
     loop-holds
-    frame-in-requires
+    frame-or-zero-requires
     main-in-requires
     add-n
     add-p

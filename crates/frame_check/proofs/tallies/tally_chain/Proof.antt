@@ -34,8 +34,8 @@ returns c =
 bump-requires : tie.Need-bump-requires Inv-loop μ-loop
 bump-requires c κs = search needs
 
-frame-in-requires : tie.Need-frame-in-requires Inv-loop μ-loop
-frame-in-requires c κs = search needs
+frame-or-zero-requires : tie.Need-frame-or-zero-requires Inv-loop μ-loop
+frame-or-zero-requires c κs = search needs
 
 sub-left : tie.Need-sub-left Inv-loop μ-loop
 sub-left c = search needs
@@ -48,7 +48,7 @@ loop-again c =
     let a = c .before .before .before .before .before .before .before .before .before .before .args in
     let l = c .before .before .before .before .before .before .before .loop in
     let n = next (a .frames .now) in (
-      rw (c .before .before .before .bump .ensures, c .frame-in .ensures)
+      rw (c .before .before .before .bump .ensures, c .frame-or-zero .ensures)
           (walk-turn n _ _ (l .left) (l .p) (l .tallies) (l .sound)
           (c .before .before .before .before .before .before .loop-test .taken)
           (c .before .before .before .before .before .if1 .left)
@@ -76,7 +76,7 @@ tally-chain-spec =
     same-length
     returns
     bump-requires
-    frame-in-requires
+    frame-or-zero-requires
     sub-left
     loop-less
     loop-again

@@ -20,8 +20,8 @@ loop-holds : tie.Need-loop-holds Inv-loop μ-loop
 unfolding tally
 loop-holds c = (refl, omega arith)
 
-frame-in-requires : tie.Need-frame-in-requires Inv-loop μ-loop
-frame-in-requires c κs = search needs
+frame-or-zero-requires : tie.Need-frame-or-zero-requires Inv-loop μ-loop
+frame-or-zero-requires c κs = search needs
 
 child-at-requires : tie.Need-child-at-requires Inv-loop μ-loop
 child-at-requires c κs = search needs
@@ -40,7 +40,7 @@ loop-again c =
     let a = c .before .before .before .before .before .before .before .before .before .before .args in
     let l = c .before .before .before .before .before .before .before .loop in (
       rw (c .before .before .bump .ensures)
-          (tally-turn (l .c) (childIn (a .frames .now)) (a .tallies .now) (l .inv .0) (rw (c .before .before .before .child-at .ensures, c .before .before .before .before .frame-in .ensures))),
+          (tally-turn (l .c) (childIn (a .frames .now)) (a .tallies .now) (l .inv .0) (rw (c .before .before .before .child-at .ensures, c .before .before .before .before .frame-or-zero .ensures))),
       omega arith,
     )
 
@@ -63,7 +63,7 @@ tally-children-spec =
     Inv-loop
     μ-loop
     loop-holds
-    frame-in-requires
+    frame-or-zero-requires
     child-at-requires
     bump-requires
     add-c

@@ -1,34 +1,52 @@
+-- The frame leaves its deque and its place, and the parent loses a child. The two ways out are in `proofs.Ends`.
+-- Below, the places that the answers speak of, each by its way from the next.
 use mathlib.Core.Path.{_∙_}
-use Rattle.frames.specs.Theory.Fast.{length-pop, size-pop}
+use borrow.Author.Needs.{needs}
+use Rattle.frames.specs.Theory.Sizes.{length-pop, size-pop}
 use Rattle.frames.specs.Theory.Records.{length-setFrame}
 use Rattle.frames.proofs.Ends.{one-of, finished, returned-to}
-use borrow.Author.Needs.{needs}
 use Rattle.frames.proofs.steps.return_frame.Statement.{statement}
 use Rattle.frames.proofs.steps.return_frame.Tie as tie
 
+abbrev start-of : tie.After-pop-off → tie.Start
+start-of d = d .before .before .before .before
+
+abbrev popped-of : tie.After-put-frame → tie.After-pop-off
+popped-of f = f .before .before .before .before .before
+
+abbrev freed-of : tie.Else1 → tie.After-put-frame
+freed-of e = e .before .before .before
+
 returns : tie.Need-returns
 returns c =
-    finished _ _ _ _ _ _ (c .before .before .before .before .before .before .before .before .before .before .before .before .pre .0 .acting) (c .before .before .before .before .before .before .before .before .before .before .before .before .pre .0 .is)
-    _ _ _ (c .before .before .before .free-place .ensures) (c .before .before .before .before .before .before .before .before .pop-off .ensures) (c .before .before .put-frame .ensures) (c .before .before .before .before .before .if1 .taken)
-
-frame-at-requires : tie.Need-frame-at-requires
-frame-at-requires c κs = (c .before .before .before .before .before .before .before .before .pre .0 .long-frames, one-of (c .before .before .before .before .before .before .before .before .pre .1) (c .before .if1 .left))
+    let f = c .before .before .before in
+    let d = popped-of f in
+    let a = start-of d .pre .0 in
+    finished _ _ _ _ _ _ (a .acting) (a .is) _ _ _ (f .before .free-place .ensures) (d .pop-off .ensures) (f .put-frame .ensures) (c .if1 .taken)
 
 return-to-requires : tie.Need-return-to-requires
 return-to-requires c κs =
-    let a = c .before .before .before .before .before .before .before .before .before .before .before .before .before .before .before .before .before .pre .0 in (
-      rw (c .before .before .before .before .before .before .before .before .before .before .before .before .before .pop-off .ensures) (length-pop _ _ ∙ a .long-deques),
-      rw (c .before .before .before .before .put-frame2 .ensures) (length-setFrame _ _ _ ∙ a .long-frames),
+    let e = c .before .before in
+    let f = freed-of e in
+    let d = popped-of f in
+    let r = start-of d .pre in
+    let a = r .0 in (
+      rw (d .pop-off .ensures) (length-pop _ _ ∙ a .long-deques),
+      rw (f .put-frame .ensures) (length-setFrame _ _ _ ∙ a .long-frames),
       a .worker,
-      one-of (c .before .before .before .before .before .before .before .before .before .before .before .before .before .before .before .before .before .pre .1) (c .before .before .before .before .before .before .before .before .before .before .if1 .left),
-      rw (c .before .before .before .before .before .before .before .before .before .before .before .before .before .pop-off .ensures) (size-pop _ _ (a .long-deques) (a .worker) (a .most) (a .some)),
+      one-of (r .1) (e .if1 .left) .0,
+      rw (d .pop-off .ensures) (size-pop _ _ (a .long-deques) (a .worker) (a .most) (a .some)),
     )
 
 returns-2 : tie.Need-returns-2
 returns-2 c =
-    returned-to _ _ _ _ _ _ (c .before .before .before .before .before .before .before .before .before .before .before .before .before .before .before .before .before .before .before .before .before .before .pre .0 .acting) (c .before .before .before .before .before .before .before .before .before .before .before .before .before .before .before .before .before .before .before .before .before .before .pre .0 .is)
-    _ _ _ (c .before .before .before .before .before .before .before .before .before .before .free-place2 .ensures) (c .before .before .before .before .before .before .before .before .before .before .before .before .before .before .before .before .before .before .pop-off .ensures) (c .before .before .before .before .before .before .before .before .before .put-frame2 .ensures)
-    _ _ _ _ _ (c .before .before .before .before .before .before .before .before .before .before .before .before .before .before .before .if1 .left) (c .before .before .before .before .before .before .before .before .before .before .before .before .before .frame-at .ensures) (c .before .before .before .before .before .before .before .before .before .before .before .before .without-child .ensures) (c .before .before .before .before .return-to .ensures)
+    let t = c .before .before .before .before in
+    let e = t .before .before .before in
+    let f = freed-of e in
+    let d = popped-of f in
+    let r = start-of d .pre in
+    returned-to _ _ _ _ _ _ (r .0 .acting) (r .0 .is) _ _ _ (f .before .free-place .ensures) (d .pop-off .ensures) (f .put-frame .ensures)
+    _ _ _ (e .if1 .left) (one-of (r .1) (e .if1 .left) .1) (t .return-to .ensures)
 
 pub return-frame-spec : {M : Type 1} → statement M
 return-frame-spec =
@@ -40,10 +58,6 @@ return-frame-spec =
     (λ c. search needs)
     (λ c. search needs)
     returns
-    frame-at-requires
-    (λ c κs. search needs)
-    (λ c κs. search needs)
-    (λ c κs. search needs)
     return-to-requires
     (λ c. search needs)
     (λ c. search needs)

@@ -1,0 +1,79 @@
+// A tape, over parts that have their lengths: refusals 4, 5 and 6, then the records.
+ghost use mathlib.Core.Path.{_≡_};
+ghost use Rattle.semantics.specs.Entries.{headOf, tapeWith, unfitTape};
+ghost use Rattle.semantics.specs.Promises.{parts, Fits, IsTape};
+ghost use Rattle.engine.specs.Promises.{checkNumber};
+use crate::answers::refusal_number;
+use crate::checking::check;
+use crate::numbers::numbers_in;
+use crate::numbers::put_numbers;
+use crate::records::run_tape;
+use semantics::Head;
+use semantics::Refusal;
+use sizes::height_of;
+use soundness::Checked;
+use soundness::Numbers;
+
+// 4. "The tape is not a multiple of 8 bytes, or the answer slice has fewer than two words per record."
+fn unfit_tape(bytes: &[u8], answers: &[u32]) -> bool
+    ensures { λ r. ⌜ r ≡ unfitTape (now (bytes .entry)) (now (answers .entry)) ⌝ }
+{
+    (bytes.len() % 8 != 0) | (answers.len() < 2 * (bytes.len() / 8))
+}
+
+// With so many free nodes.
+fn head_of(numbers: Numbers, free_count: u32) -> Head
+    ensures { λ r. ⌜ r ≡ headOf numbers «free_count» ⌝ }
+{
+    let height = height_of(numbers.splitters);
+    Head {
+        numbers,
+        height,
+        free_count,
+    }
+}
+
+// 5 and 6, or 0.
+fn check_number(checked: Checked) -> u32
+    ensures { λ r. ⌜ r ≡ checkNumber checked ⌝ }
+{
+    match checked {
+        Checked::NoRoom => refusal_number(Refusal::Work),
+        Checked::Unsound => refusal_number(Refusal::Unsound),
+        Checked::Sound(_) => 0,
+    }
+}
+
+// "a tape checks once"
+pub fn tape_on(
+    numbers: &mut [u32],
+    deques: &mut [u32],
+    frames: &mut [u32],
+    pool: &mut [u32],
+    work: &mut [u32],
+    bytes: &[u8],
+    answers: &mut [u32],
+) -> u32
+    requires { ⌜ Fits (parts (now numbers) (now deques) (now frames)) ⌝ }
+    ensures { λ r. ⌜ IsTape (tapeWith (parts (now (numbers .entry)) (now (deques .entry)) (now (frames .entry))) (now (pool .entry)) (now (work .entry)) (now (bytes .entry)) (now (answers .entry)))
+        (now (numbers .exit)) (now (deques .exit)) (now (frames .exit)) (now (pool .exit)) (now (work .exit)) (now (answers .exit)) r ⌝ }
+{
+    if unfit_tape(bytes, answers) {
+        return refusal_number(Refusal::Tape);
+    }
+    let first = numbers_in(numbers);
+    let checked = check(first, deques, frames, pool, work);
+    let Checked::Sound(free_count) = checked else {
+        return check_number(checked);
+    };
+    let last = run_tape(
+        head_of(first, free_count),
+        deques,
+        frames,
+        pool,
+        bytes,
+        answers,
+    );
+    put_numbers(numbers, last.numbers);
+    0
+}

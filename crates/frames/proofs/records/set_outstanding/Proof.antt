@@ -1,0 +1,11 @@
+-- One store; that it is the record's store is in `specs.Theory.Records`.
+use borrow.Author.Needs.{needs}
+use Rattle.frames.specs.Theory.Records.{outstanding-set}
+use Rattle.frames.proofs.records.set_outstanding.Statement.{statement}
+use Rattle.frames.proofs.records.set_outstanding.Tie as tie
+
+returns : tie.Need-returns
+returns c = outstanding-set (c .args .frames .now) (c .args .p) (c .args .n)
+
+pub set-outstanding-spec : {M : Type 1} → statement M
+set-outstanding-spec = tie.close (tie.spec (λ c. search needs) (λ c. search needs) (λ c. search needs) (λ c. search needs) (λ c. search needs) returns)

@@ -1,0 +1,11 @@
+-- One store; that it is the record's store is in `specs.Theory.Records`.
+use borrow.Author.Needs.{needs}
+use Rattle.frames.specs.Theory.Records.{root-set}
+use Rattle.frames.proofs.records.set_root.Statement.{statement}
+use Rattle.frames.proofs.records.set_root.Tie as tie
+
+returns : tie.Need-returns
+returns c = root-set (c .args .frames .now) (c .args .p) (c .args .root)
+
+pub set-root-spec : {M : Type 1} → statement M
+set-root-spec = tie.close (tie.spec (λ c. search needs) (λ c. search needs) (λ c. search needs) (λ c. search needs) (λ c. search needs) returns)

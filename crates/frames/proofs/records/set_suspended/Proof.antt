@@ -1,0 +1,11 @@
+-- One store; that it is the record's store is in `specs.Theory.Records`.
+use borrow.Author.Needs.{needs}
+use Rattle.frames.specs.Theory.Records.{suspended-set}
+use Rattle.frames.proofs.records.set_suspended.Statement.{statement}
+use Rattle.frames.proofs.records.set_suspended.Tie as tie
+
+returns : tie.Need-returns
+returns c = suspended-set (c .args .frames .now) (c .args .p) (c .args .s)
+
+pub set-suspended-spec : {M : Type 1} → statement M
+set-suspended-spec = tie.close (tie.spec (λ c. search needs) (λ c. search needs) (λ c. search needs) (λ c. search needs) (λ c. search needs) returns)

@@ -1,0 +1,39 @@
+-- What the entries promise: result, state, pool, work slice and answer words, each by an equation with a definition of Entries.
+-- Definitions only.
+use mathlib.Core.Path.{_≡_}
+use mathlib.Core.List.{List}
+use Prim.Native.Nat.{ℕ}
+use lib.ListN.{length}
+use Rattle.frames.specs.Widths.{frameWords, dequeWords}
+use Rattle.semantics.specs.Entries.{State, StartResult, OutsideResult, TapeResult}
+
+-- the state in three lent parts
+abbrev pub parts : List ℕ → List ℕ → List ℕ → State
+parts ns ds fs = record { numbers = ns; deques = ds; frames = fs }
+
+-- each part has its length
+pub record Fits (s : State) : Type 0 where
+  pub numbers : length (s .numbers) ≡ 5
+  pub deques : length (s .deques) ≡ dequeWords
+  pub frames : length (s .frames) ≡ frameWords
+
+-- the parts ns, ds and fs, the pool ws and the result r are those of the start's result o
+pub record IsStart (o : StartResult) (ns ds fs ws : List ℕ) (r : ℕ) : Type 0 where
+  pub result : r ≡ o .result
+  pub state : parts ns ds fs ≡ o .state
+  pub pool : ws ≡ o .pool
+
+-- the same of a step from outside, with the work slice ks
+pub record IsOutside (o : OutsideResult) (ns ds fs ws ks : List ℕ) (r : ℕ) : Type 0 where
+  pub result : r ≡ o .result
+  pub state : parts ns ds fs ≡ o .state
+  pub pool : ws ≡ o .pool
+  pub work : ks ≡ o .work
+
+-- the same of a tape, with the answer words rs
+pub record IsTape (o : TapeResult) (ns ds fs ws ks rs : List ℕ) (r : ℕ) : Type 0 where
+  pub result : r ≡ o .result
+  pub state : parts ns ds fs ≡ o .state
+  pub pool : ws ≡ o .pool
+  pub work : ks ≡ o .work
+  pub answers : rs ≡ o .answers

@@ -1,0 +1,42 @@
+-- What the functions below the entries ask of the core: that it is sound, and the ranges that soundness gives to code which indexes
+-- without a test. The entries ask nothing: the check shows it. Definitions only.
+use mathlib.Core.Path.{_≡_}
+use mathlib.Core.Logic.{_⊎_}
+use mathlib.Core.Bool.{true}
+use Prim.Native.Nat.{ℕ, _≤_, _<_}
+use lib.ListN.{length}
+use Rattle.words.specs.Basics.{none}
+use Rattle.sizes.specs.Sizes.{height}
+use Rattle.pool.specs.Links.{Link, LinksIn, PathIn}
+use Rattle.frames.specs.Widths.{maxWorkers, places, frameWords, dequePlaces, dequeWords}
+use Rattle.frames.specs.Deques.{size, place, bottom}
+use Rattle.frames.specs.Ranges.{ParentOf}
+use Rattle.soundness.specs.Soundness.{sound, freeCount}
+use Rattle.semantics.specs.Core.{Core, actingIn}
+
+-- a sound core: what every step keeps
+pub record Kept (c : Core) : Type 0 where
+  pub is-sound : sound (c .head .numbers) (c .deques) (c .frames) (c .pool) ≡ true
+  pub counted : c .head .«free_count» ≡ freeCount (c .head .numbers) (c .pool)
+  pub height-is : c .head .height ≡ height (c .head .numbers .splitters)
+  pub long-deques : length (c .deques) ≡ dequeWords
+  pub long-frames : length (c .frames) ≡ frameWords
+
+-- what a sound core gives: each index of the step's code has its range
+pub record Ready (c : Core) : Type 0 where
+  pub workers-le : c .head .numbers .workers ≤ maxWorkers
+  pub splitters-le : c .head .numbers .splitters ≤ 256
+  pub low : c .head .height ≤ 8
+  pub nodes-positive : 0 < c .head .numbers .nodes
+  pub long-deques : length (c .deques) ≡ dequeWords
+  pub long-frames : length (c .frames) ≡ frameWords
+  pub links : LinksIn (c .head .numbers .nodes) (c .pool)
+  pub free-node : Link (c .head .numbers .nodes) (c .head .numbers .«free_node»)
+  pub free-place : (c .head .numbers .«free_place» < places) ⊎ (c .head .numbers .«free_place» ≡ none)
+  pub sizes : (w : ℕ) → w < maxWorkers → size (c .deques) w ≤ dequePlaces
+  pub held : (w k : ℕ) → w < maxWorkers → k < size (c .deques) w → place (c .deques) w k < places
+  -- a place is free, so fewer than 64 frames live
+  pub room : (w : ℕ) → w < maxWorkers → c .head .numbers .«free_place» < places → size (c .deques) w < dequePlaces
+  pub root : (w : ℕ) → w < maxWorkers → 0 < size (c .deques) w → actingIn c w .root < c .head .numbers .nodes
+  pub parent : (w : ℕ) → w < maxWorkers → 0 < size (c .deques) w → ParentOf (bottom (c .deques) w) (actingIn c w)
+  pub path : (w x : ℕ) → w < maxWorkers → 0 < size (c .deques) w → x < c .head .numbers .splitters → PathIn (c .head .numbers .nodes) (c .pool) (c .head .height) (actingIn c w .root) x
