@@ -19,7 +19,7 @@ use Rattle.frames.specs.Deques.{size, place}
 use Rattle.soundness.specs.Soundness.{framesSound}
 use Rattle.frame_check.specs.Algorithm.{bump, tally, tallyList, tallyChildren, tallyDeques, chain, dequeFits, dequeSound}
 use Rattle.frame_check.specs.Algorithm.{mains, liveSound, freeSound, placeSound, placeTallied, placeChecked, zeros, checkFrames}
-use Rattle.frame_check.specs.Theorem.{check-frames}
+use Rattle.frame_check.specs.Theory.Theorem.{check-frames}
 
 -- a loop that counts up to n ends at n
 pub at-end : {A : Type 0} (F : ℕ → A) {n k : ℕ} {x : A} → k ≤ n → n ≤ k → x ≡ F k → x ≡ F n

@@ -1,7 +1,7 @@
 -- A test and the fact that it decides, both ways at once: the test of a sentence is put together from smaller ones as its fact is.
 use mathlib.Core.Path.{_≡_, sym, ap, _∙_}
 use mathlib.Core.Logic.{_⊎_, inl, inr}
-use mathlib.Core.Bool.{Bool, true, not, _||_, _&&_}
+use mathlib.Core.Bool.{Bool, true, cond, not, _||_, _&&_}
 use Prim.Native.Nat.{ℕ, suc, _-_, _≤_, _<_}
 use native.Mathlib.Omega.{arith}
 use native.Mathlib.Decide.{decLt}
@@ -18,6 +18,9 @@ pub record Is (b : Bool) (P : Type 0) : Type 0 where
 
 pub is-as : {b : Bool} {P Q : Type 0} → (P → Q) → (Q → P) → Is b P → Is b Q
 is-as f g i = record { fact = λ e. f (i .fact e); test = λ q. i .test (g q) }
+
+pub true-is : (b : Bool) → Is b (b ≡ true)
+true-is b = record { fact = λ e. e; test = λ e. e }
 
 -- ---- numbers
 
@@ -57,6 +60,13 @@ implies-is {a} {b} i j = record { fact = λ e p. j .fact (implies-at a b e (i .t
 -- two premises
 pub both-imply : {a b c : Bool} {P Q R : Type 0} → Is a P → Is b Q → Is c R → Is (implies (a && b) c) (P → Q → R)
 both-imply i j k = is-as (λ h p q. h (p, q)) (λ h p. h (p .0) (p .1)) (implies-is (and-is i j) k)
+
+-- one of two
+pub cond-is : {a b c : Bool} {P Q R : Type 0} → Is a P → Is b Q → Is c R → Is (cond a b c) ((P → Q) × ((P → ⊥) → R))
+cond-is {a} {b} {c} {P} i j k = elim (decided a) [
+  | inl t ↦ rw t (is-as (λ q. ((λ p. q), λ n. absurd (n (i .fact t)))) (λ h. h .0 (i .fact t)) j)
+  | inr t ↦ (let n : P → ⊥ = (λ p. true≢false (sym (i .test p) ∙ t)) in rw t (is-as (λ r. ((λ p. absurd (n p)), λ m. r)) (λ h. h .1 n) k))
+]
 
 -- from n on
 pub from-is : (i n : ℕ) {b : Bool} {P : Type 0} → Is b P → Is (ltb i n || b) (n ≤ i → P)

@@ -1,5 +1,5 @@
 -- Document 01's "Soundness": each test of Soundness on numbers, frames and deques holds if and only if its fact does.
-use mathlib.Core.Path.{_≡_, sym, ap, _∙_}
+use mathlib.Core.Path.{_≡_, sym, ap, _∙_, subst}
 use mathlib.Core.Logic.{_≢_, _⊎_, inl, inr}
 use mathlib.Core.Bool.{Bool, true, not, _||_, _&&_}
 use mathlib.Core.List.{List, _++_}
@@ -7,15 +7,14 @@ use Prim.Native.Nat.{ℕ, suc, _≤_, _<_}
 use native.Mathlib.Omega.{arith}
 use lib.Dec.{eqb, ltb, leb}
 use Rattle.words.specs.Basics.{none, all, howMany, implies, below, count}
-use Rattle.words.specs.Tests.{both}
-use Rattle.words.specs.Tallies.{and-of, howMany-one}
+use Rattle.words.specs.Tallies.{howMany-one}
 use Rattle.frames.specs.declared.Frame.{Frame}
 use Rattle.frames.specs.Frames.{frameAt, freePlace}
 use Rattle.frames.specs.Deques.{size, place}
 use Rattle.soundness.specs.declared.Numbers.{Numbers}
 use Rattle.soundness.specs.Soundness.{lives, children, inDeques, freePlaces, placeFree, liveRoots, allOf, numberSentences, frameSentences, poolSentences, sentences, soundParts}
 use Rattle.soundness.specs.Soundness.{oneMain, parentsLive, countsRight, placedOnce, holdLive, absentEmpty, restZero, linked, onlyBelow, placesFree, framesSound, numbersSound, poolSound, sound}
-use Rattle.soundness.specs.Theory.Is.{Is, is-as, eq-is, lt-is, le-is, and-is, and3-is, or-is, not-is, implies-is, both-imply, from-is, all-is, all-but-last}
+use Rattle.soundness.specs.Theory.Is.{Is, is-as, true-is, eq-is, lt-is, le-is, and-is, and3-is, or-is, not-is, implies-is, both-imply, from-is, all-is, all-but-last}
 use Rattle.soundness.specs.Theory.Each.{row-of, of-each, allOf-append}
 use Rattle.soundness.specs.Theory.FreeLists.{chain-below, follow-sound, sound-follow, the-one}
 pub use Rattle.soundness.specs.Theory.Facts.{Lives, stands, stands-is, child-is, child-at, at-child, NoFrame, OnlyMain, HasParent, Placed, PlacesFree, FramesFacts, NumbersFacts, SoundFacts}
@@ -27,16 +26,16 @@ module _ (ds fs : List ℕ) where
   lives-is p = eq-is (frameAt fs p .live) 1
 
   -- "just one live frame has depth 0, with parent none"
-  abbrev mainTest : ℕ → Bool
+  abbrev pub mainTest : ℕ → Bool
   mainTest p = lives fs p && eqb (frameAt fs p .depth) 0
 
-  main-is : (p : ℕ) → Is (mainTest p) (Lives fs p × (frameAt fs p .depth ≡ 0))
+  pub main-is : (p : ℕ) → Is (mainTest p) (Lives fs p × (frameAt fs p .depth ≡ 0))
   main-is p = and-is (lives-is p) (eq-is (frameAt fs p .depth) 0)
 
   orphan-is : (p : ℕ) → Is (implies (mainTest p) (eqb (frameAt fs p .parent) none)) (Lives fs p → frameAt fs p .depth ≡ 0 → frameAt fs p .parent ≡ none)
   orphan-is p = both-imply (lives-is p) (eq-is (frameAt fs p .depth) 0) (eq-is (frameAt fs p .parent) none)
 
-  only-main : (howMany 64 mainTest ≡ 1) × ((p : ℕ) → p < 64 → Lives fs p → frameAt fs p .depth ≡ 0 → frameAt fs p .parent ≡ none) → OnlyMain fs
+  pub only-main : (howMany 64 mainTest ≡ 1) × ((p : ℕ) → p < 64 → Lives fs p → frameAt fs p .depth ≡ 0 → frameAt fs p .parent ≡ none) → OnlyMain fs
   only-main h =
       let m = the-one 64 mainTest (h .0) in
       let f = main-is (m .0) .fact (m .2) in
@@ -49,7 +48,7 @@ module _ (ds fs : List ℕ) where
         only = λ p b l d. m .3 p b (main-is p .test (l, d));
       }
 
-  main-only : OnlyMain fs → (howMany 64 mainTest ≡ 1) × ((p : ℕ) → p < 64 → Lives fs p → frameAt fs p .depth ≡ 0 → frameAt fs p .parent ≡ none)
+  pub main-only : OnlyMain fs → (howMany 64 mainTest ≡ 1) × ((p : ℕ) → p < 64 → Lives fs p → frameAt fs p .depth ≡ 0 → frameAt fs p .parent ≡ none)
   main-only m = (
     howMany-one 64 (m .main) mainTest (m .inside) (main-is (m .main) .test (m .alive, m .flat)) (λ p b t. (let r = main-is p .fact t in m .only p b (r .0) (r .1))),
     λ p b l d. ap (λ q. frameAt fs q .parent) (m .only p b l d) ∙ m .orphan,
@@ -141,7 +140,7 @@ module _ (fs : List ℕ) (first : ℕ) where
   abbrev eachTest : List ℕ → ℕ → Bool
   eachTest gs p = (lives fs p && eqb (count p gs) 0) || (placeFree fs p && eqb (count p gs) 1)
 
-  abbrev EachPlace : List ℕ → ℕ → Type 0
+  abbrev pub EachPlace : List ℕ → ℕ → Type 0
   EachPlace gs p = (Lives fs p × (count p gs ≡ 0)) ⊎ (FreeAt fs p × (count p gs ≡ 1))
 
   each-is : (gs : List ℕ) (p : ℕ) → Is (eachTest gs p) (EachPlace gs p)
@@ -155,18 +154,21 @@ module _ (fs : List ℕ) (first : ℕ) where
   pub places-are : (F : PlacesFree fs first) → freePlaces fs first ≡ F .gs
   places-are F = sound-follow (λ p. frameAt fs p .parent) 64 (omega arith) first (F .gs) (F .chain) (λ p b. each-once (F .gs) p (F .each p b))
 
-  pub places-of : below 64 (freePlaces fs first) ≡ true → ((p : ℕ) → p < 64 → EachPlace (freePlaces fs first) p) → PlacesFree fs first
-  places-of b h =
-      record { gs = freePlaces fs first; chain = follow-sound (λ p. frameAt fs p .parent) 64 first b (λ p c. each-once (freePlaces fs first) p (h p c)); each = h }
+  abbrev Chained : Type 0
+  Chained = (below 64 (freePlaces fs first) ≡ true) × ((p : ℕ) → p < 64 → EachPlace (freePlaces fs first) p)
+
+  pub places-of : Chained → PlacesFree fs first
+  places-of h =
+      record { gs = freePlaces fs first; chain = follow-sound (λ p. frameAt fs p .parent) 64 first (h .0) (λ p c. each-once (freePlaces fs first) p (h .1 p c)); each = h .1 }
+
+  pub of-places : PlacesFree fs first → Chained
+  of-places F =
+      subst (λ xs. (below 64 xs ≡ true) × ((p : ℕ) → p < 64 → EachPlace xs p)) (sym (places-are F))
+      (chain-below (λ p. frameAt fs p .parent) 64 first (F .gs) (F .chain), F .each)
 
   places-is : Is (placesFree fs first) (PlacesFree fs first)
   unfolding placesFree
-  places-is =
-      let gs = freePlaces fs first in
-      record {
-        fact = λ e. (let r = both (below 64 gs) (all 64 (eachTest gs)) e in places-of (r .0) (all-is 64 (each-is gs) .fact (r .1)));
-        test = λ F. rw (places-are F) (and-of (chain-below (λ p. frameAt fs p .parent) 64 first (F .gs) (F .chain)) (all-is 64 (each-is (F .gs)) .test (F .each)));
-      }
+  places-is = is-as places-of of-places (and-is (true-is (below 64 (freePlaces fs first))) (all-is 64 (each-is (freePlaces fs first))))
 
 -- ---- all of it
 

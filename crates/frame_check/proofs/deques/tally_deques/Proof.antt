@@ -6,7 +6,7 @@ use native.Mathlib.Omega.{arith}
 use lib.ListN.{length}
 use Rattle.words.specs.Basics.{all}
 use Rattle.frame_check.specs.Algorithm.{tallyDeques, dequeSound}
-use Rattle.frame_check.specs.Tallied.{length-tallyDeques}
+use Rattle.frame_check.specs.Theory.Tallied.{length-tallyDeques}
 use Rattle.frame_check.proofs.Laws.{at-end, all-turn, tallyDeques-turn}
 use borrow.Author.Needs.{needs}
 use Rattle.frame_check.proofs.deques.tally_deques.Statement.{statement}

@@ -4,7 +4,7 @@ use Prim.Native.Nat.{_≤_, _-_}
 use native.Mathlib.Omega.{arith}
 use lib.ListN.{length}
 use Rattle.frame_check.specs.Algorithm.{tally, childIn}
-use Rattle.frame_check.specs.Tallied.{length-tally}
+use Rattle.frame_check.specs.Theory.Tallied.{length-tally}
 use Rattle.frame_check.proofs.Laws.{at-end, tally-turn}
 use borrow.Author.Needs.{needs}
 use Rattle.frame_check.proofs.tallies.tally_children.Statement.{statement}
