@@ -13,8 +13,9 @@ use Rattle.words.specs.Counting.{range}
 use Rattle.sizes.specs.Sizes.{height, treeNodes}
 use Rattle.pool.specs.Pool.{readAt}
 use Rattle.pool.specs.Theory.Sharing.{rootsOf as treeRoots}
+use Rattle.frames.specs.Deques.{dequeList}
 use Rattle.frames.specs.Frames.{frameAt}
-use Rattle.frames.specs.Theory.Lists.{dequeList, list-empty}
+use Rattle.frames.specs.Theory.Lists.{list-empty}
 use Rattle.soundness.specs.declared.Numbers.{Numbers}
 use Rattle.soundness.specs.Soundness.{children, freeCount, sound}
 use Rattle.model.specs.Machine.{Frame, Machine, live, deque, main, freeNodes, inUse}
