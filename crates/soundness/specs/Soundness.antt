@@ -10,6 +10,7 @@ use lib.Dec.{eqb, leb, ltb}
 use Rattle.words.specs.Basics.{none, sum, all, howMany, implies, δ, count, follow, below}
 use Rattle.sizes.specs.Sizes.{height, treeNodes}
 use Rattle.pool.specs.Pool.{refcount, left, right, value, nextFree}
+use Rattle.frames.specs.Widths.{maxWorkers, places, dequePlaces}
 use Rattle.frames.specs.Frames.{frameAt}
 use Rattle.frames.specs.Deques.{size, place}
 use Rattle.soundness.specs.declared.Numbers.{Numbers}
@@ -39,7 +40,7 @@ allOf (t ∷ u ∷ us) = holds t && allOf (u ∷ us)
 abbrev pub numberSentences : Numbers → List ℕ → List Sentence
 numberSentences s ws =
     says "Workers are 1 .." (leb 1 (s .workers)) ∷
-    says ".. to 8" (leb (s .workers) 8) ∷
+    says ".. to 8" (leb (s .workers) maxWorkers) ∷
     says "n is 1 .." (leb 1 (s .splitters)) ∷
     says ".. to 256." (leb (s .splitters) 256) ∷
     says "The recorded node count is T(n) .." (leb (treeNodes (s .splitters)) (s .nodes)) ∷
@@ -60,62 +61,62 @@ abbrev pub isChild : List ℕ → ℕ → ℕ → Bool
 isChild fs p c = lives fs c && eqb (frameAt fs c .parent) p
 
 abbrev pub children : List ℕ → ℕ → ℕ
-children fs p = howMany 64 (isChild fs p)
+children fs p = howMany places (isChild fs p)
 
 -- in how many places of deques the frame at p stands
 abbrev pub inDeques : List ℕ → ℕ → ℕ
-inDeques ds p = sum 8 (λ w. howMany (size ds w) (λ k. eqb (place ds w k) p))
+inDeques ds p = sum maxWorkers (λ w. howMany (size ds w) (λ k. eqb (place ds w k) p))
 
 -- ---- frames and deques: the sentences
 
 -- "Either no frame lives and all deques are empty, or just one live frame has depth 0, with parent none."
 unfoldable pub oneMain : List ℕ → List ℕ → Bool
 oneMain ds fs =
-    (all 64 (λ p. not (lives fs p)) && all 8 (λ w. eqb (size ds w) 0)) ||
-    (eqb (howMany 64 (λ p. lives fs p && eqb (frameAt fs p .depth) 0)) 1 &&
-    all 64 (λ p. implies (lives fs p && eqb (frameAt fs p .depth) 0) (eqb (frameAt fs p .parent) none)))
+    (all places (λ p. not (lives fs p)) && all maxWorkers (λ w. eqb (size ds w) 0)) ||
+    (eqb (howMany places (λ p. lives fs p && eqb (frameAt fs p .depth) 0)) 1 &&
+    all places (λ p. implies (lives fs p && eqb (frameAt fs p .depth) 0) (eqb (frameAt fs p .parent) none)))
 
 -- "Every other live frame has a live parent one shallower."
 unfoldable pub parentsLive : List ℕ → Bool
 parentsLive fs =
-    all 64 (λ p. implies (lives fs p && not (eqb (frameAt fs p .depth) 0))
-    (ltb (frameAt fs p .parent) 64 && (lives fs (frameAt fs p .parent) && eqb (frameAt fs p .depth) (suc (frameAt fs (frameAt fs p .parent) .depth)))))
+    all places (λ p. implies (lives fs p && not (eqb (frameAt fs p .depth) 0))
+    (ltb (frameAt fs p .parent) places && (lives fs (frameAt fs p .parent) && eqb (frameAt fs p .depth) (suc (frameAt fs (frameAt fs p .parent) .depth)))))
 
 -- "Outstanding counts are right."
 unfoldable pub countsRight : List ℕ → Bool
-countsRight fs = all 64 (λ p. implies (lives fs p) (eqb (frameAt fs p .outstanding) (children fs p)))
+countsRight fs = all places (λ p. implies (lives fs p) (eqb (frameAt fs p .outstanding) (children fs p)))
 
 -- "Each live frame is either in just one place of one deque and not suspended, or in none and suspended with a live child."
 unfoldable pub placedOnce : List ℕ → List ℕ → Bool
 placedOnce ds fs =
-    all 64 (λ p. implies (lives fs p)
+    all places (λ p. implies (lives fs p)
     ((eqb (inDeques ds p) 1 && eqb (frameAt fs p .suspended) 0) ||
     (eqb (inDeques ds p) 0 && (eqb (frameAt fs p .suspended) 1 && ltb 0 (children fs p)))))
 
 -- "Deques hold live frames only"
 unfoldable pub holdLive : List ℕ → List ℕ → Bool
-holdLive ds fs = all 8 (λ w. all (size ds w) (λ k. ltb (place ds w k) 64 && lives fs (place ds w k)))
+holdLive ds fs = all maxWorkers (λ w. all (size ds w) (λ k. ltb (place ds w k) places && lives fs (place ds w k)))
 
 -- "a worker that does not exist has an empty one"
 unfoldable pub absentEmpty : ℕ → List ℕ → Bool
-absentEmpty workers ds = all 8 (λ w. ltb w workers || eqb (size ds w) 0)
+absentEmpty workers ds = all maxWorkers (λ w. ltb w workers || eqb (size ds w) 0)
 
 -- "deque places past a deque's frames are zero"; a deque has 64 places
 unfoldable pub restZero : List ℕ → Bool
-restZero ds = all 8 (λ w. leb (size ds w) 64 && all 64 (λ k. ltb k (size ds w) || eqb (place ds w k) 0))
+restZero ds = all maxWorkers (λ w. leb (size ds w) dequePlaces && all dequePlaces (λ k. ltb k (size ds w) || eqb (place ds w k) 0))
 
 -- "Each frame in a deque is a child of the one above it."
 unfoldable pub linked : List ℕ → List ℕ → Bool
-linked ds fs = all 8 (λ w. all (size ds w - 1) (λ k. eqb (frameAt fs (place ds w (suc k)) .parent) (place ds w k)))
+linked ds fs = all maxWorkers (λ w. all (size ds w - 1) (λ k. eqb (frameAt fs (place ds w (suc k)) .parent) (place ds w k)))
 
 -- "A frame that is not a top has only the child below it, if any."
 unfoldable pub onlyBelow : List ℕ → List ℕ → Bool
 onlyBelow ds fs =
-    all 8 (λ w. all (size ds w - 1) (λ k. all 64 (λ c. implies (isChild fs (place ds w (suc k)) c) (ltb (suc (suc k)) (size ds w) && eqb c (place ds w (suc (suc k)))))))
+    all maxWorkers (λ w. all (size ds w - 1) (λ k. all places (λ c. implies (isChild fs (place ds w (suc k)) c) (ltb (suc (suc k)) (size ds w) && eqb c (place ds w (suc (suc k)))))))
 
--- "Free frame places lie once on theirs, all but the link to the next being zero." 65 steps along the chain pass its end
+-- "Free frame places lie once on theirs, all but the link to the next being zero." one step more than places passes its end
 abbrev pub freePlaces : List ℕ → ℕ → List ℕ
-freePlaces fs first = follow 65 (λ p. frameAt fs p .parent) first
+freePlaces fs first = follow (suc places) (λ p. frameAt fs p .parent) first
 
 abbrev pub placeFree : List ℕ → ℕ → Bool
 placeFree fs p =
@@ -123,8 +124,8 @@ placeFree fs p =
 
 unfoldable pub placesFree : List ℕ → ℕ → Bool
 placesFree fs first =
-    below 64 (freePlaces fs first) &&
-    all 64 (λ p. (lives fs p && eqb (count p (freePlaces fs first)) 0) || (placeFree fs p && eqb (count p (freePlaces fs first)) 1))
+    below places (freePlaces fs first) &&
+    all places (λ p. (lives fs p && eqb (count p (freePlaces fs first)) 0) || (placeFree fs p && eqb (count p (freePlaces fs first)) 1))
 
 -- frames and deques, all of it; `first` is the first free place
 abbrev pub frameSentences : ℕ → ℕ → List ℕ → List ℕ → List Sentence
@@ -213,7 +214,7 @@ rootsBelow fs zero = []
 rootsBelow fs (suc c) = rootsBelow fs c ++ cond (lives fs c) (frameAt fs c .root ∷ []) []
 
 abbrev pub liveRoots : List ℕ → List ℕ
-liveRoots fs = rootsBelow fs 64
+liveRoots fs = rootsBelow fs places
 
 abbrev pub sentences : Numbers → List ℕ → List ℕ → List ℕ → List Sentence
 sentences s ds fs ws =
