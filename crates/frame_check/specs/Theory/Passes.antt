@@ -15,6 +15,7 @@ use Rattle.words.specs.Counting.{all-at, all-of}
 use Rattle.words.specs.Tallies.{and-of, howMany-cong, length-follow}
 use Rattle.frames.specs.declared.Frame.{Frame}
 use Rattle.frames.specs.Frames.{frameAt}
+use Rattle.frames.specs.Widths.{maxWorkers, places, dequePlaces}
 use Rattle.frames.specs.Deques.{size, place}
 use Rattle.soundness.specs.Soundness.{isChild, children, inDeques, freePlaces}
 use Rattle.soundness.specs.Theory.Is.{Is, eq-is, le-is, and-is, or-is, cond-is, all-is}
@@ -25,28 +26,28 @@ use Rattle.frame_check.specs.Theory.Tallied.{tally-at, tallyList-at, tal
 
 -- ---- the tallies
 
-zeros-at : (p : ℕ) → p < 64 → _≡_ {A = ℕ} (getD zeros p 0) 0
-zeros-at p b = getD-replicate 64 p 0 0 b
+zeros-at : (p : ℕ) → p < places → _≡_ {A = ℕ} (getD zeros p 0) 0
+zeros-at p b = getD-replicate places p 0 0 b
 
 from-zero : {a b c : ℕ} → a ≡ b + c → b ≡ 0 → a ≡ c
 from-zero e z = omega arith
 
-child-counted : (f : Frame) (p : ℕ) → p < 64 → eqb (childAt f) p ≡ eqb (f .live) 1 && eqb (f .parent) p
+child-counted : (f : Frame) (p : ℕ) → p < places → eqb (childAt f) p ≡ eqb (f .live) 1 && eqb (f .parent) p
 child-counted f p b = elim (decided (eqb (f .live) 1)) [ inl e ↦ rw e | inr e ↦ rw e (ne-eqb none p (λ d. omega arith)) ]
 
-children-at : (fs : List ℕ) (p : ℕ) → p < 64 → getD (tallyChildren fs zeros) p 0 ≡ children fs p
+children-at : (fs : List ℕ) (p : ℕ) → p < places → getD (tallyChildren fs zeros) p 0 ≡ children fs p
 children-at fs p b =
-    from-zero (tally-at 64 (childIn fs) zeros p b (omega (arith, zeros-at p b))) (zeros-at p b) ∙
-    howMany-cong 64 (λ c. eqb (childIn fs c) p) (isChild fs p) (λ c d. child-counted (frameAt fs c) p b)
+    from-zero (tally-at places (childIn fs) zeros p b (omega (arith, zeros-at p b))) (zeros-at p b) ∙
+    howMany-cong places (λ c. eqb (childIn fs c) p) (isChild fs p) (λ c d. child-counted (frameAt fs c) p b)
 
-deques-at : (ds : List ℕ) (p : ℕ) → p < 64 → ((w : ℕ) → w < 8 → size ds w ≤ 64) → getD (tallyDeques 8 ds zeros) p 0 ≡ inDeques ds p
-deques-at ds p b h = from-zero (tallyDeques-at 8 ds zeros p b h (omega (arith, zeros-at p b))) (zeros-at p b)
+deques-at : (ds : List ℕ) (p : ℕ) → p < places → ((w : ℕ) → w < maxWorkers → size ds w ≤ dequePlaces) → getD (tallyDeques maxWorkers ds zeros) p 0 ≡ inDeques ds p
+deques-at ds p b h = from-zero (tallyDeques-at maxWorkers ds zeros p b h (omega (arith, zeros-at p b))) (zeros-at p b)
 
-length-chain : (fs : List ℕ) (first : ℕ) → length (chain fs first) ≤ 65
+length-chain : (fs : List ℕ) (first : ℕ) → length (chain fs first) ≤ suc places
 unfolding chain
-length-chain fs first = length-follow 65 (next fs) first
+length-chain fs first = length-follow (suc places) (next fs) first
 
-chain-at : (fs : List ℕ) (first p : ℕ) → p < 64 → getD (tallyList (chain fs first) zeros) p 0 ≡ count p (chain fs first)
+chain-at : (fs : List ℕ) (first p : ℕ) → p < places → getD (tallyList (chain fs first) zeros) p 0 ≡ count p (chain fs first)
 chain-at fs first p b =
     from-zero (tallyList-at (chain fs first) zeros p b (omega (arith, zeros-at p b, length-chain fs first))) (zeros-at p b)
 
@@ -54,19 +55,19 @@ chain-at fs first p b =
 abbrev placeCounted : ℕ → List ℕ → List ℕ → ℕ → Bool
 placeCounted first ds fs p = placeSound fs p (children fs p) (inDeques ds p) (count p (chain fs first))
 
-place-counted : (first : ℕ) (ds fs : List ℕ) → ((w : ℕ) → w < 8 → size ds w ≤ 64) → (p : ℕ) → p < 64 → placeChecked first ds fs p ≡ placeCounted first ds fs p
+place-counted : (first : ℕ) (ds fs : List ℕ) → ((w : ℕ) → w < maxWorkers → size ds w ≤ dequePlaces) → (p : ℕ) → p < places → placeChecked first ds fs p ≡ placeCounted first ds fs p
 place-counted first ds fs h p b = rw (children-at fs p b, deques-at ds p b h, chain-at fs first p b)
 
 -- ---- what the check finds
 
 -- deque w is long enough for its frames, empty if there is no worker w, and zero past its frames
 abbrev pub Fits : ℕ → List ℕ → ℕ → Type 0
-Fits workers ds w = (size ds w ≤ 64) × ((workers ≤ w → size ds w ≡ 0) × ((k : ℕ) → k < 64 → size ds w ≤ k → place ds w k ≡ 0))
+Fits workers ds w = (size ds w ≤ dequePlaces) × ((workers ≤ w → size ds w ≡ 0) × ((k : ℕ) → k < dequePlaces → size ds w ≤ k → place ds w k ≡ 0))
 
 -- the frame at place k of deque w lives; if it is not the top, its parent is above it, and it has a child if there is one below it
 abbrev pub OnDeque : List ℕ → List ℕ → ℕ → ℕ → Type 0
 OnDeque ds fs w k =
-    ((place ds w k < 64) × Lives fs (place ds w k)) ×
+    ((place ds w k < places) × Lives fs (place ds w k)) ×
     ((k ≡ 0) ⊎ ((frameAt fs (place ds w k) .parent ≡ place ds w (k - 1)) × (frameAt fs (place ds w k) .outstanding ≡ cond (ltb (suc k) (size ds w)) 1 0)))
 
 -- Main has no parent, any other frame a live one, one shallower
@@ -77,18 +78,18 @@ abbrev pub LiveAt : ℕ → List ℕ → List ℕ → ℕ → Type 0
 LiveAt first ds fs p = ((count p (freePlaces fs first) ≡ 0) × (frameAt fs p .outstanding ≡ children fs p)) × (Parented fs p × Placed ds fs p)
 
 pub record Passes (workers first : ℕ) (ds fs : List ℕ) : Type 0 where
-  pub fits : (w : ℕ) → w < 8 → Fits workers ds w
-  pub on : (w : ℕ) → w < 8 → (k : ℕ) → k < size ds w → OnDeque ds fs w k
-  pub chained : below 64 (freePlaces fs first) ≡ true
+  pub fits : (w : ℕ) → w < maxWorkers → Fits workers ds w
+  pub on : (w : ℕ) → w < maxWorkers → (k : ℕ) → k < size ds w → OnDeque ds fs w k
+  pub chained : below places (freePlaces fs first) ≡ true
   pub one : mains fs ≤ 1
   -- each place is a live frame's or free
-  pub each : (p : ℕ) → p < 64 → (Lives fs p → LiveAt first ds fs p) × ((Lives fs p → ⊥) → (count p (freePlaces fs first) ≡ 1) × FreeAt fs p)
+  pub each : (p : ℕ) → p < places → (Lives fs p → LiveAt first ds fs p) × ((Lives fs p → ⊥) → (count p (freePlaces fs first) ≡ 1) × FreeAt fs p)
 
 -- ---- each test is its fact
 
 module _ (workers first : ℕ) (ds fs : List ℕ) where
   fits-is : (w : ℕ) → Is (dequeFits workers ds w) (Fits workers ds w)
-  fits-is w = and-is (le-is (size ds w) 64) (and-is (absent-is ds fs workers w) (zeros-is ds fs w))
+  fits-is w = and-is (le-is (size ds w) dequePlaces) (and-is (absent-is ds fs workers w) (zeros-is ds fs w))
 
   on-is : (w k : ℕ) → Is (onDeque ds fs w k) (OnDeque ds fs w k)
   on-is w k =
@@ -114,19 +115,19 @@ module _ (workers first : ℕ) (ds fs : List ℕ) where
       let b = both _ _ (a .1) in
       let c = both _ _ (b .0) in
       let d = both _ _ (b .1) in
-      let fit = all-is 8 fits-is .fact (a .0) in
+      let fit = all-is maxWorkers fits-is .fact (a .0) in
       record {
         fits = fit;
-        on = all-is 8 (λ w. all-is (size ds w) (on-is w)) .fact (c .0);
+        on = all-is maxWorkers (λ w. all-is (size ds w) (on-is w)) .fact (c .0);
         chained = c .1;
         one = le-is (mains fs) 1 .fact (d .0);
-        each = λ p l. place-is p .fact (sym (place-counted first ds fs (λ w k. fit w k .0) p l) ∙ all-at 64 (placeChecked first ds fs) (d .1) p l);
+        each = λ p l. place-is p .fact (sym (place-counted first ds fs (λ w k. fit w k .0) p l) ∙ all-at places (placeChecked first ds fs) (d .1) p l);
       }
 
   pub passes-of : Passes workers first ds fs → checkFrames workers first ds fs ≡ true
   unfolding checkFrames chain
   passes-of P =
-      and-of (all-is 8 fits-is .test (P .fits))
-      (and-of (and-of (all-is 8 (λ w. all-is (size ds w) (on-is w)) .test (P .on)) (P .chained))
+      and-of (all-is maxWorkers fits-is .test (P .fits))
+      (and-of (and-of (all-is maxWorkers (λ w. all-is (size ds w) (on-is w)) .test (P .on)) (P .chained))
       (and-of (le-is (mains fs) 1 .test (P .one))
-      (all-of 64 (placeChecked first ds fs) (λ p b. place-counted first ds fs (λ w c. P .fits w c .0) p b ∙ place-is p .test (P .each p b)))))
+      (all-of places (placeChecked first ds fs) (λ p b. place-counted first ds fs (λ w c. P .fits w c .0) p b ∙ place-is p .test (P .each p b)))))

@@ -9,6 +9,7 @@ use lib.Dec.{eqb, ltb, leb}
 use Rattle.words.specs.Basics.{none, all, howMany, implies, below, count}
 use Rattle.words.specs.Tallies.{howMany-one}
 use Rattle.frames.specs.declared.Frame.{Frame}
+use Rattle.frames.specs.Widths.{maxWorkers, places, dequePlaces}
 use Rattle.frames.specs.Frames.{frameAt, freePlace}
 use Rattle.frames.specs.Deques.{size, place}
 use Rattle.soundness.specs.declared.Numbers.{Numbers}
@@ -35,9 +36,9 @@ module _ (ds fs : List ℕ) where
   orphan-is : (p : ℕ) → Is (implies (mainTest p) (eqb (frameAt fs p .parent) none)) (Lives fs p → frameAt fs p .depth ≡ 0 → frameAt fs p .parent ≡ none)
   orphan-is p = both-imply (lives-is p) (eq-is (frameAt fs p .depth) 0) (eq-is (frameAt fs p .parent) none)
 
-  pub only-main : (howMany 64 mainTest ≡ 1) × ((p : ℕ) → p < 64 → Lives fs p → frameAt fs p .depth ≡ 0 → frameAt fs p .parent ≡ none) → OnlyMain fs
+  pub only-main : (howMany places mainTest ≡ 1) × ((p : ℕ) → p < places → Lives fs p → frameAt fs p .depth ≡ 0 → frameAt fs p .parent ≡ none) → OnlyMain fs
   only-main h =
-      let m = the-one 64 mainTest (h .0) in
+      let m = the-one places mainTest (h .0) in
       let f = main-is (m .0) .fact (m .2) in
       record {
         main = m .0;
@@ -48,29 +49,29 @@ module _ (ds fs : List ℕ) where
         only = λ p b l d. m .3 p b (main-is p .test (l, d));
       }
 
-  pub main-only : OnlyMain fs → (howMany 64 mainTest ≡ 1) × ((p : ℕ) → p < 64 → Lives fs p → frameAt fs p .depth ≡ 0 → frameAt fs p .parent ≡ none)
+  pub main-only : OnlyMain fs → (howMany places mainTest ≡ 1) × ((p : ℕ) → p < places → Lives fs p → frameAt fs p .depth ≡ 0 → frameAt fs p .parent ≡ none)
   main-only m = (
-    howMany-one 64 (m .main) mainTest (m .inside) (main-is (m .main) .test (m .alive, m .flat)) (λ p b t. (let r = main-is p .fact t in m .only p b (r .0) (r .1))),
+    howMany-one places (m .main) mainTest (m .inside) (main-is (m .main) .test (m .alive, m .flat)) (λ p b t. (let r = main-is p .fact t in m .only p b (r .0) (r .1))),
     λ p b l d. ap (λ q. frameAt fs q .parent) (m .only p b l d) ∙ m .orphan,
   )
 
   oneMain-is : Is (oneMain ds fs) (NoFrame ds fs ⊎ OnlyMain fs)
   unfolding oneMain
   oneMain-is =
-      or-is (and-is (all-is 64 (λ p. not-is (lives-is p))) (all-is 8 (λ w. eq-is (size ds w) 0)))
-      (is-as only-main main-only (and-is (eq-is (howMany 64 mainTest) 1) (all-is 64 orphan-is)))
+      or-is (and-is (all-is places (λ p. not-is (lives-is p))) (all-is maxWorkers (λ w. eq-is (size ds w) 0)))
+      (is-as only-main main-only (and-is (eq-is (howMany places mainTest) 1) (all-is places orphan-is)))
 
   -- the parent of the frame at p is live and one shallower
-  pub parent-is : (p : ℕ) → Is (ltb (frameAt fs p .parent) 64 && (lives fs (frameAt fs p .parent) && eqb (frameAt fs p .depth) (suc (frameAt fs (frameAt fs p .parent) .depth)))) (HasParent fs p)
-  parent-is p = and3-is (lt-is (frameAt fs p .parent) 64) (lives-is (frameAt fs p .parent)) (eq-is (frameAt fs p .depth) (suc (frameAt fs (frameAt fs p .parent) .depth)))
+  pub parent-is : (p : ℕ) → Is (ltb (frameAt fs p .parent) places && (lives fs (frameAt fs p .parent) && eqb (frameAt fs p .depth) (suc (frameAt fs (frameAt fs p .parent) .depth)))) (HasParent fs p)
+  parent-is p = and3-is (lt-is (frameAt fs p .parent) places) (lives-is (frameAt fs p .parent)) (eq-is (frameAt fs p .depth) (suc (frameAt fs (frameAt fs p .parent) .depth)))
 
-  parents-is : Is (parentsLive fs) ((p : ℕ) → p < 64 → Lives fs p → frameAt fs p .depth ≢ 0 → HasParent fs p)
+  parents-is : Is (parentsLive fs) ((p : ℕ) → p < places → Lives fs p → frameAt fs p .depth ≢ 0 → HasParent fs p)
   unfolding parentsLive
-  parents-is = all-is 64 (λ p. both-imply (lives-is p) (not-is (eq-is (frameAt fs p .depth) 0)) (parent-is p))
+  parents-is = all-is places (λ p. both-imply (lives-is p) (not-is (eq-is (frameAt fs p .depth) 0)) (parent-is p))
 
-  counts-is : Is (countsRight fs) ((p : ℕ) → p < 64 → Lives fs p → frameAt fs p .outstanding ≡ children fs p)
+  counts-is : Is (countsRight fs) ((p : ℕ) → p < places → Lives fs p → frameAt fs p .outstanding ≡ children fs p)
   unfolding countsRight
-  counts-is = all-is 64 (λ p. implies-is (lives-is p) (eq-is (frameAt fs p .outstanding) (children fs p)))
+  counts-is = all-is places (λ p. implies-is (lives-is p) (eq-is (frameAt fs p .outstanding) (children fs p)))
 
   in-is : (p n : ℕ) → Is (eqb (inDeques ds p) n) (stands ds p ≡ n)
   in-is p n = is-as (λ e. sym (stands-is ds p) ∙ e) (λ e. stands-is ds p ∙ e) (eq-is (inDeques ds p) n)
@@ -79,41 +80,41 @@ module _ (ds fs : List ℕ) where
   pub placed-is : (p : ℕ) → Is ((eqb (inDeques ds p) 1 && eqb (frameAt fs p .suspended) 0) || (eqb (inDeques ds p) 0 && (eqb (frameAt fs p .suspended) 1 && ltb 0 (children fs p)))) (Placed ds fs p)
   placed-is p = or-is (and-is (in-is p 1) (eq-is (frameAt fs p .suspended) 0)) (and3-is (in-is p 0) (eq-is (frameAt fs p .suspended) 1) (lt-is 0 (children fs p)))
 
-  placedOnce-is : Is (placedOnce ds fs) ((p : ℕ) → p < 64 → Lives fs p → Placed ds fs p)
+  placedOnce-is : Is (placedOnce ds fs) ((p : ℕ) → p < places → Lives fs p → Placed ds fs p)
   unfolding placedOnce
-  placedOnce-is = all-is 64 (λ p. implies-is (lives-is p) (placed-is p))
+  placedOnce-is = all-is places (λ p. implies-is (lives-is p) (placed-is p))
 
   -- the frame at place k of worker w's deque lives
-  pub hold-is : (w k : ℕ) → Is (ltb (place ds w k) 64 && lives fs (place ds w k)) ((place ds w k < 64) × Lives fs (place ds w k))
-  hold-is w k = and-is (lt-is (place ds w k) 64) (lives-is (place ds w k))
+  pub hold-is : (w k : ℕ) → Is (ltb (place ds w k) places && lives fs (place ds w k)) ((place ds w k < places) × Lives fs (place ds w k))
+  hold-is w k = and-is (lt-is (place ds w k) places) (lives-is (place ds w k))
 
-  holdLive-is : Is (holdLive ds fs) ((w : ℕ) → w < 8 → (k : ℕ) → k < size ds w → (place ds w k < 64) × Lives fs (place ds w k))
+  holdLive-is : Is (holdLive ds fs) ((w : ℕ) → w < maxWorkers → (k : ℕ) → k < size ds w → (place ds w k < places) × Lives fs (place ds w k))
   unfolding holdLive
-  holdLive-is = all-is 8 (λ w. all-is (size ds w) (hold-is w))
+  holdLive-is = all-is maxWorkers (λ w. all-is (size ds w) (hold-is w))
 
   pub absent-is : (workers w : ℕ) → Is (ltb w workers || eqb (size ds w) 0) (workers ≤ w → size ds w ≡ 0)
   absent-is workers w = from-is w workers (eq-is (size ds w) 0)
 
-  absentEmpty-is : (workers : ℕ) → Is (absentEmpty workers ds) ((w : ℕ) → w < 8 → workers ≤ w → size ds w ≡ 0)
+  absentEmpty-is : (workers : ℕ) → Is (absentEmpty workers ds) ((w : ℕ) → w < maxWorkers → workers ≤ w → size ds w ≡ 0)
   unfolding absentEmpty
-  absentEmpty-is workers = all-is 8 (absent-is workers)
+  absentEmpty-is workers = all-is maxWorkers (absent-is workers)
 
-  pub zeros-is : (w : ℕ) → Is (all 64 (λ k. ltb k (size ds w) || eqb (place ds w k) 0)) ((k : ℕ) → k < 64 → size ds w ≤ k → place ds w k ≡ 0)
-  zeros-is w = all-is 64 (λ k. from-is k (size ds w) (eq-is (place ds w k) 0))
+  pub zeros-is : (w : ℕ) → Is (all dequePlaces (λ k. ltb k (size ds w) || eqb (place ds w k) 0)) ((k : ℕ) → k < dequePlaces → size ds w ≤ k → place ds w k ≡ 0)
+  zeros-is w = all-is dequePlaces (λ k. from-is k (size ds w) (eq-is (place ds w k) 0))
 
-  restZero-is : Is (restZero ds) ((w : ℕ) → w < 8 → (size ds w ≤ 64) × ((k : ℕ) → k < 64 → size ds w ≤ k → place ds w k ≡ 0))
+  restZero-is : Is (restZero ds) ((w : ℕ) → w < maxWorkers → (size ds w ≤ dequePlaces) × ((k : ℕ) → k < dequePlaces → size ds w ≤ k → place ds w k ≡ 0))
   unfolding restZero
-  restZero-is = all-is 8 (λ w. and-is (le-is (size ds w) 64) (zeros-is w))
+  restZero-is = all-is maxWorkers (λ w. and-is (le-is (size ds w) dequePlaces) (zeros-is w))
 
-  linked-is : Is (linked ds fs) ((w : ℕ) → w < 8 → (k : ℕ) → suc k < size ds w → frameAt fs (place ds w (suc k)) .parent ≡ place ds w k)
+  linked-is : Is (linked ds fs) ((w : ℕ) → w < maxWorkers → (k : ℕ) → suc k < size ds w → frameAt fs (place ds w (suc k)) .parent ≡ place ds w k)
   unfolding linked
-  linked-is = all-is 8 (λ w. all-but-last (size ds w) (λ k. eq-is (frameAt fs (place ds w (suc k)) .parent) (place ds w k)))
+  linked-is = all-is maxWorkers (λ w. all-but-last (size ds w) (λ k. eq-is (frameAt fs (place ds w (suc k)) .parent) (place ds w k)))
 
-  onlyBelow-is : Is (onlyBelow ds fs) ((w : ℕ) → w < 8 → (k : ℕ) → suc k < size ds w → (c : ℕ) → c < 64 → Lives fs c → frameAt fs c .parent ≡ place ds w (suc k)
+  onlyBelow-is : Is (onlyBelow ds fs) ((w : ℕ) → w < maxWorkers → (k : ℕ) → suc k < size ds w → (c : ℕ) → c < places → Lives fs c → frameAt fs c .parent ≡ place ds w (suc k)
       → (suc (suc k) < size ds w) × (c ≡ place ds w (suc (suc k))))
   unfolding onlyBelow
   onlyBelow-is =
-      all-is 8 (λ w. all-but-last (size ds w) (λ k. all-is 64 (λ c. both-imply (lives-is c) (eq-is (frameAt fs c .parent) (place ds w (suc k)))
+      all-is maxWorkers (λ w. all-but-last (size ds w) (λ k. all-is places (λ c. both-imply (lives-is c) (eq-is (frameAt fs c .parent) (place ds w (suc k)))
       (and-is (lt-is (suc (suc k)) (size ds w)) (eq-is c (place ds w (suc (suc k))))))))
 
 -- ---- free places
@@ -152,23 +153,23 @@ module _ (fs : List ℕ) (first : ℕ) where
 
   -- the chain that the check follows is the list
   pub places-are : (F : PlacesFree fs first) → freePlaces fs first ≡ F .gs
-  places-are F = sound-follow (λ p. frameAt fs p .parent) 64 (omega arith) first (F .gs) (F .chain) (λ p b. each-once (F .gs) p (F .each p b))
+  places-are F = sound-follow (λ p. frameAt fs p .parent) places (omega arith) first (F .gs) (F .chain) (λ p b. each-once (F .gs) p (F .each p b))
 
   abbrev Chained : Type 0
-  Chained = (below 64 (freePlaces fs first) ≡ true) × ((p : ℕ) → p < 64 → EachPlace (freePlaces fs first) p)
+  Chained = (below places (freePlaces fs first) ≡ true) × ((p : ℕ) → p < places → EachPlace (freePlaces fs first) p)
 
   pub places-of : Chained → PlacesFree fs first
   places-of h =
-      record { gs = freePlaces fs first; chain = follow-sound (λ p. frameAt fs p .parent) 64 first (h .0) (λ p c. each-once (freePlaces fs first) p (h .1 p c)); each = h .1 }
+      record { gs = freePlaces fs first; chain = follow-sound (λ p. frameAt fs p .parent) places first (h .0) (λ p c. each-once (freePlaces fs first) p (h .1 p c)); each = h .1 }
 
   pub of-places : PlacesFree fs first → Chained
   of-places F =
-      subst (λ xs. (below 64 xs ≡ true) × ((p : ℕ) → p < 64 → EachPlace xs p)) (sym (places-are F))
-      (chain-below (λ p. frameAt fs p .parent) 64 first (F .gs) (F .chain), F .each)
+      subst (λ xs. (below places xs ≡ true) × ((p : ℕ) → p < places → EachPlace xs p)) (sym (places-are F))
+      (chain-below (λ p. frameAt fs p .parent) places first (F .gs) (F .chain), F .each)
 
   places-is : Is (placesFree fs first) (PlacesFree fs first)
   unfolding placesFree
-  places-is = is-as places-of of-places (and-is (true-is (below 64 (freePlaces fs first))) (all-is 64 (each-is (freePlaces fs first))))
+  places-is = is-as places-of of-places (and-is (true-is (below places (freePlaces fs first))) (all-is places (each-is (freePlaces fs first))))
 
 -- ---- all of it
 

@@ -13,10 +13,10 @@ use Rattle.frame_check.proofs.deques.tally_deques.Statement.{statement}
 use Rattle.frame_check.proofs.deques.tally_deques.Tie as tie
 
 abbrev Inv-loop : tie.InvT-loop
-Inv-loop tallies₀ deques frames sound₀ w₀ tallies sound w = (tallies ≡ tallyDeques w deques tallies₀) × (sound ≡ all w (dequeSound deques frames)) × (w ≤ 8)
+Inv-loop tallies₀ deques frames sound₀ w₀ tallies sound w = (tallies ≡ tallyDeques w deques tallies₀) × (sound ≡ all w (dequeSound deques frames)) × (w ≤ maxWorkers)
 
 abbrev μ-loop : tie.MeasureT-loop
-μ-loop tallies₀ deques frames sound₀ w₀ tallies sound w = 8 - w
+μ-loop tallies₀ deques frames sound₀ w₀ tallies sound w = maxWorkers - w
 
 loop-holds : tie.Need-loop-holds Inv-loop μ-loop
 unfolding tallyDeques
