@@ -7,13 +7,13 @@ ghost use Rattle.frames.specs.Deques.{size};
 ghost use Rattle.words.specs.Basics.{all};
 ghost use Rattle.frame_check.specs.Algorithm.{tallyDeque, tallyDeques, zeroPast, dequeFits, childBelow, inDeque, dequeSound};
 use super::tallies::bump;
+use frames::DEQUE_PLACES;
 use frames::Frame;
 use frames::MAX_WORKERS;
 use frames::PLACES;
-use frames::DEQUE_PLACES;
+use frames::frame_or_zero;
 use frames::place_at;
 use frames::size_at;
-use frames::frame_or_zero;
 
 // The places past the first n are zero.
 fn rest_zero(deques: &[u32], w: u32, n: u32) -> bool

@@ -6,8 +6,8 @@ ghost use mathlib.Core.Bool.{cond};
 ghost use Rattle.words.specs.Basics.{all};
 ghost use Rattle.frame_check.specs.Algorithm.{isMain, mains, parentSound, placedSound, liveSound, freeSound, placeSound, placeTallied};
 use frames::Frame;
-use frames::PLACES;
 use frames::NONE;
+use frames::PLACES;
 use frames::frame_or_zero;
 
 // Main has no parent, any other live frame f a live one, one shallower, whose record is g.

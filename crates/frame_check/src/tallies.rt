@@ -5,8 +5,8 @@ ghost use Rattle.frames.specs.Widths.{places, frameWords};
 ghost use Rattle.words.specs.Basics.{below};
 ghost use Rattle.frame_check.specs.Algorithm.{bump, tallyList, childAt, tallyChildren, chain};
 use frames::Frame;
-use frames::PLACES;
 use frames::NONE;
+use frames::PLACES;
 use frames::frame_or_zero;
 
 // One step more than the chain of free places can have.

@@ -123,7 +123,6 @@ changed s (nodeRight i v) = setPool s (set (s .pool) (4 * i + 2) v)
 changed s (nodeValue i v) = setPool s (set (s .pool) (4 * i + 3) v)
 
 infixl 90 _but_
-
 _but_ : State → List Change → State
 s but [] = s
 s but (c ∷ cs) = changed s c but cs
@@ -135,7 +134,6 @@ record Row : Type 0 where
   states : List State
 
 infixl 80 _alone_
-
 _alone_ : String → List State → Row
 t alone ss = record { sentence = t; states = ss }
 
@@ -153,102 +151,104 @@ numberRows =
 frameRows : List Row
 frameRows =
     ("Either no frame lives and all deques are empty, or just one live frame has depth 0, with parent none." alone (
-        -- two Mains
-        start but (live 1 1 ∷ parent 1 none ∷ freePlace 2 ∷ inDeque 1 1 ∷ atPlace 1 0 1 ∷ nodeHolders 0 2 ∷ []) ∷
-        -- Main has a parent
-        start but (parent 0 5 ∷ []) ∷
-        [])) ∷
-    -- not alone: a frame in a deque where none lives (holdLive); frames and none of depth 0 (parentsLive: the shallowest has no parent)
+    -- two Mains
+    start but (live 1 1 ∷ parent 1 none ∷ freePlace 2 ∷ inDeque 1 1 ∷ atPlace 1 0 1 ∷ nodeHolders 0 2 ∷ []) ∷
+    -- Main has a parent
+    start but (parent 0 5 ∷ []) ∷
+    [])) ∷
+    -- not alone: no frame lives and a deque has one (it holds a dead one); frames live and all deques are empty (the deepest has no
+    -- child to wait for); frames live and none has depth 0 (the shallowest has no parent)
     ("Every other live frame has a live parent one shallower." alone (
-        -- the parent is dead
-        stolen but (parent 1 5 ∷ outstanding 0 0 ∷ []) ∷
-        -- the parent is past the table, which reads as a dead one: its range alone cannot be wrong
-        stolen but (parent 1 64 ∷ outstanding 0 0 ∷ []) ∷
-        -- not one shallower
-        stolen but (depth 1 2 ∷ []) ∷
-        [])) ∷
+    -- the parent is dead
+    stolen but (parent 1 5 ∷ outstanding 0 0 ∷ []) ∷
+    -- the parent is past the table, which reads as a dead one: its range alone cannot be wrong
+    stolen but (parent 1 64 ∷ outstanding 0 0 ∷ []) ∷
+    -- not one shallower
+    stolen but (depth 1 2 ∷ []) ∷
+    [])) ∷
     ("Outstanding counts are right." alone (stolen but (outstanding 0 0 ∷ []) ∷ stolen but (outstanding 0 2 ∷ []) ∷ stolen but (outstanding 1 1 ∷ []) ∷ [])) ∷
     ("Each live frame is either in just one place of one deque and not suspended, or in none and suspended with a live child." alone (
-        -- in two places (place 0 of worker 1's deque is 0 already: Main)
-        start but (inDeque 1 1 ∷ []) ∷
-        -- in a deque and suspended
-        stolen but (suspended 0 1 ∷ []) ∷
-        -- in none and not suspended
-        waiting but (suspended 0 0 ∷ []) ∷
-        -- the word is not 0 or 1
-        waiting but (suspended 0 2 ∷ []) ∷
-        stolen but (suspended 0 2 ∷ []) ∷
-        -- suspended without a child
-        start but (inDeque 0 0 ∷ suspended 0 1 ∷ []) ∷
-        [])) ∷
+    -- in two places (place 0 of worker 1's deque is 0 already: Main)
+    start but (inDeque 1 1 ∷ []) ∷
+    -- in a deque and suspended
+    stolen but (suspended 0 1 ∷ []) ∷
+    -- in none and not suspended
+    waiting but (suspended 0 0 ∷ []) ∷
+    -- the word is not 0 or 1
+    waiting but (suspended 0 2 ∷ []) ∷
+    stolen but (suspended 0 2 ∷ []) ∷
+    -- suspended without a child
+    start but (inDeque 0 0 ∷ suspended 0 1 ∷ []) ∷
+    [])) ∷
     ("Deques hold live frames only;" alone (
-        start but (inDeque 1 1 ∷ atPlace 1 0 5 ∷ []) ∷
-        -- past the table, which reads as a dead frame: the range alone cannot be wrong
-        start but (inDeque 1 1 ∷ atPlace 1 0 64 ∷ []) ∷
-        [])) ∷
+    start but (inDeque 1 1 ∷ atPlace 1 0 5 ∷ []) ∷
+    -- past the table, which reads as a dead frame: the range alone cannot be wrong
+    start but (inDeque 1 1 ∷ atPlace 1 0 64 ∷ []) ∷
+    [])) ∷
     ("a worker that does not exist has an empty one;" alone (stolen but (workers 1 ∷ []) ∷ [])) ∷
     ("deque places past a deque's frames are zero." alone (start but (atPlace 0 1 7 ∷ []) ∷ start but (atPlace 7 63 1 ∷ []) ∷ [])) ∷
     -- not alone: a length over 64, since 65 places of live frames hold one frame twice (placedOnce)
     ("Each frame in a deque is a child of the one above it." alone (
-        -- 1 and 2 on one deque, both children of Main
-        grown but (parent 2 0 ∷ depth 2 1 ∷ outstanding 1 0 ∷ outstanding 0 2 ∷ []) ∷
-        [])) ∷
+    -- 1 and 2 on one deque, both children of Main
+    grown but (parent 2 0 ∷ depth 2 1 ∷ outstanding 1 0 ∷ outstanding 0 2 ∷ []) ∷
+    [])) ∷
     ("A frame that is not a top has only the child below it, if any." alone (
-        -- a middle frame has a second child, on another deque
-        stacked but (live 3 1 ∷ parent 3 1 ∷ depth 3 2 ∷ outstanding 1 2 ∷ freePlace 4 ∷ inDeque 1 1 ∷ atPlace 1 0 3 ∷ nodeHolders 0 4 ∷ []) ∷
-        -- a bottom frame has one; it is in place 0, the word past the deque's frames
-        grown but (parent 1 none ∷ depth 1 0 ∷ depth 2 1 ∷ outstanding 2 1 ∷ parent 0 2 ∷ depth 0 2 ∷ outstanding 0 0 ∷ []) ∷
-        [])) ∷
+    -- a middle frame has a second child, on another deque
+    stacked but (live 3 1 ∷ parent 3 1 ∷ depth 3 2 ∷ outstanding 1 2 ∷ freePlace 4 ∷ inDeque 1 1 ∷ atPlace 1 0 3 ∷ nodeHolders 0 4 ∷ []) ∷
+    -- a bottom frame has one; it is in place 0, the word past the deque's frames
+    grown but (parent 1 none ∷ depth 1 0 ∷ depth 2 1 ∷ outstanding 2 1 ∷ parent 0 2 ∷ depth 0 2 ∷ outstanding 0 0 ∷ []) ∷
+    [])) ∷
     ("Free frame places lie once on theirs, all but the link to the next being zero." alone (
-        -- live is not 0 or 1
-        start but (live 5 2 ∷ []) ∷
-        start but (depth 5 1 ∷ []) ∷
-        start but (outstanding 5 1 ∷ []) ∷
-        start but (suspended 5 1 ∷ []) ∷
-        start but (root 5 1 ∷ []) ∷
-        -- not on the chain
-        start but (freePlace 2 ∷ []) ∷
-        -- twice
-        start but (parent 63 1 ∷ []) ∷
-        -- into a live place
-        start but (parent 63 0 ∷ []) ∷
-        -- out of the table and back, as the words past it read as zeros
-        ended 5 but (freePlace 1 ∷ parent 63 64 ∷ parent 0 none ∷ []) ∷
-        [])) ∷
+    -- live is not 0 or 1
+    start but (live 5 2 ∷ []) ∷
+    start but (depth 5 1 ∷ []) ∷
+    start but (outstanding 5 1 ∷ []) ∷
+    start but (suspended 5 1 ∷ []) ∷
+    start but (root 5 1 ∷ []) ∷
+    -- not on the chain
+    start but (freePlace 2 ∷ []) ∷
+    -- twice
+    start but (parent 63 1 ∷ []) ∷
+    -- into a live place
+    start but (parent 63 0 ∷ []) ∷
+    -- out of the table and back, as the words past it read as zeros
+    ended 5 but (freePlace 1 ∷ parent 63 64 ∷ parent 0 none ∷ []) ∷
+    [])) ∷
     []
 
 poolRows : List Row
 poolRows =
     ("Walking from each live frame gives a tree of the shape above, in which a node may stand in several places;" alone (
-        -- a leaf, a root past the nodes; the lent pool has a sixth
-        start but (nodeLeft 0 5 ∷ node 5 (1 ∷ none ∷ none ∷ 10 ∷ []) ∷ node 1 (0 ∷ 3 ∷ 0 ∷ 0 ∷ []) ∷ freeNode 1 ∷ []) ∷
-        start but (root 0 5 ∷ node 5 (1 ∷ 1 ∷ 2 ∷ 0 ∷ []) ∷ node 0 (0 ∷ 3 ∷ 0 ∷ 0 ∷ []) ∷ freeNode 0 ∷ nodeHolders 1 0 ∷ nodeHolders 2 0 ∷ []) ∷
-        -- "Inner nodes have value 0"
-        start but (nodeValue 0 5 ∷ []) ∷
-        -- "leaves have no links"
-        start but (nodeLeft 1 5 ∷ []) ∷
-        start but (nodeRight 1 5 ∷ []) ∷
-        -- a right link where the group has no right half
-        three but (nodeRight 2 5 ∷ nodeHolders 5 2 ∷ []) ∷
-        -- none where it has one
-        start but (nodeRight 0 none ∷ node 2 (0 ∷ 3 ∷ 0 ∷ 0 ∷ []) ∷ freeNode 2 ∷ []) ∷
-        [])) ∷
+    -- a leaf, a root past the nodes; the lent pool has a sixth
+    start but (nodeLeft 0 5 ∷ node 5 (1 ∷ none ∷ none ∷ 10 ∷ []) ∷ node 1 (0 ∷ 3 ∷ 0 ∷ 0 ∷ []) ∷ freeNode 1 ∷ []) ∷
+    start but (root 0 5 ∷ node 5 (1 ∷ 1 ∷ 2 ∷ 0 ∷ []) ∷ node 0 (0 ∷ 3 ∷ 0 ∷ 0 ∷ []) ∷ freeNode 0 ∷ nodeHolders 1 0 ∷ nodeHolders 2 0 ∷ []) ∷
+    -- "Inner nodes have value 0"
+    start but (nodeValue 0 5 ∷ []) ∷
+    -- "leaves have no links"
+    start but (nodeLeft 1 5 ∷ []) ∷
+    start but (nodeRight 1 5 ∷ []) ∷
+    -- a right link where the group has no right half
+    three but (nodeRight 2 5 ∷ nodeHolders 5 2 ∷ []) ∷
+    -- none where it has one
+    start but (nodeRight 0 none ∷ node 2 (0 ∷ 3 ∷ 0 ∷ 0 ∷ []) ∷ freeNode 2 ∷ []) ∷
+    [])) ∷
     ("(the free chain is one of nodes)" alone (start but (nodeLeft 4 5 ∷ nodeLeft 5 none ∷ []) ∷ [])) ∷
     ("nodes reached have right holders; all others are free and lie once on the free chain." alone (
-        -- holders, one more and one less
-        start but (nodeHolders 0 2 ∷ []) ∷
-        start but (nodeHolders 0 0 ∷ []) ∷
-        -- "A free node holds 0, the next free node or none, 0, 0."
-        start but (nodeHolders 3 1 ∷ []) ∷
-        start but (nodeRight 3 1 ∷ []) ∷
-        start but (nodeValue 3 1 ∷ []) ∷
-        -- not on the chain
-        start but (freeNode 4 ∷ []) ∷
-        -- twice
-        start but (nodeLeft 4 3 ∷ []) ∷
-        -- into a node in use
-        start but (nodeLeft 4 1 ∷ []) ∷
-        [])) ∷
+    -- holders, one more and one less
+    start but (nodeHolders 0 2 ∷ []) ∷
+    start but (nodeHolders 0 0 ∷ []) ∷
+    -- "A free node holds 0, the next free node or none, 0, 0."
+    start but (nodeHolders 3 1 ∷ []) ∷
+    start but (nodeRight 3 1 ∷ []) ∷
+    start but (nodeValue 3 1 ∷ []) ∷
+    -- not on the chain
+    start but (freeNode 4 ∷ []) ∷
+    -- twice
+    start but (nodeLeft 4 3 ∷ []) ∷
+    -- into a node in use
+    start but (nodeLeft 4 1 ∷ []) ∷
+    [])) ∷
+    -- not alone: a node reached that holds 0 and lies on the chain (so does its left link then, down to a leaf, whose right is none)
     []
 
 -- the sentences that are false

@@ -31,9 +31,9 @@ module _ (workers first : ℕ) (ds fs : List ℕ) (F : FramesFacts workers first
             rw m (howMany-one places r (isChild fs q) (h .0) (at-child fs q r (h .1) (F .child-of-above w b (suc k) (lt-of m)))
             (λ j d t. (let a = child-is fs q j .fact t in F .only-below w b k c j d (a .0) (a .1) .1))))
         | inr m ↦ rw m (howMany-none places (isChild fs q) (λ j d. elim (decided (isChild fs q j)) [
-            | inl t ↦ (let a = child-is fs q j .fact t in absurd (true≢false (sym (ltb-of (F .only-below w b k c j d (a .0) (a .1) .0)) ∙ m)))
-            | inr t ↦ t
-          ]))
+          | inl t ↦ (let a = child-is fs q j .fact t in absurd (true≢false (sym (ltb-of (F .only-below w b k c j d (a .0) (a .1) .0)) ∙ m)))
+          | inr t ↦ t
+        ]))
       ]
 
   on : (w : ℕ) → w < maxWorkers → (k : ℕ) → k < size ds w → OnDeque ds fs w k

@@ -196,16 +196,34 @@ module _ (workers first : ℕ) (ds fs : List ℕ) where
   unfolding framesSound
   facts-frames F = of-each (frameSentences workers first ds fs) (
     oneMain-is ds fs .test (F .one-main),
-    (parents-is ds fs .test (F .parents),
-    (counts-is ds fs .test (F .outstanding),
-    (placedOnce-is ds fs .test (F .placed),
-    (holdLive-is ds fs .test (F .hold-live),
-    (absentEmpty-is ds fs workers .test (F .absent),
-    (restZero-is ds fs .test (λ w b. (F .within w b, λ k c l. F .zeros w b k l c)),
-    (linked-is ds fs .test (F .child-of-above),
-    (onlyBelow-is ds fs .test (F .only-below),
-    (places-is fs first .test (F .places),
-    tt)))))))))
+    (
+      parents-is ds fs .test (F .parents),
+      (
+        counts-is ds fs .test (F .outstanding),
+        (
+          placedOnce-is ds fs .test (F .placed),
+          (
+            holdLive-is ds fs .test (F .hold-live),
+            (
+              absentEmpty-is ds fs workers .test (F .absent),
+              (
+                restZero-is ds fs .test (λ w b. (F .within w b, λ k c l. F .zeros w b k l c)),
+                (
+                  linked-is ds fs .test (F .child-of-above),
+                  (
+                    onlyBelow-is ds fs .test (F .only-below),
+                    (
+                      places-is fs first .test (F .places),
+                      tt,
+                    ),
+                  ),
+                ),
+              ),
+            ),
+          ),
+        ),
+      ),
+    ),
   )
 
 -- ---- numbers, and the whole
@@ -229,13 +247,25 @@ module _ (s : Numbers) (ws : List ℕ) where
   unfolding numbersSound
   facts-numbers F = of-each (numberSentences s ws) (
     le-is _ _ .test (F .workers-positive),
-    (le-is _ _ .test (F .workers-le),
-    (le-is _ _ .test (F .splitters-positive),
-    (le-is _ _ .test (F .splitters-le),
-    (le-is _ _ .test (F .enough),
-    (le-is _ _ .test (F .nodes-le),
-    (le-is _ _ .test (F .room),
-    tt))))))
+    (
+      le-is _ _ .test (F .workers-le),
+      (
+        le-is _ _ .test (F .splitters-positive),
+        (
+          le-is _ _ .test (F .splitters-le),
+          (
+            le-is _ _ .test (F .enough),
+            (
+              le-is _ _ .test (F .nodes-le),
+              (
+                le-is _ _ .test (F .room),
+                tt,
+              ),
+            ),
+          ),
+        ),
+      ),
+    ),
   )
 
 module _ (s : Numbers) (ds fs ws : List ℕ) where
