@@ -22,11 +22,7 @@ pub mod Simulation
 -- ---- pools, soundness
 -- the two predicates on pools
 pub mod Pools
--- chains that the check follows
-pub mod FreeLists
--- the sentences of soundness as facts
-pub mod Facts
-pub mod Sentences
+-- the sentences on trees, of live pools
 pub mod PoolSentences
 -- from a sound state to a plain machine
 pub mod FromSoundNames

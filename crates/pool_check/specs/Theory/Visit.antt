@@ -14,9 +14,9 @@ use Rattle.words.specs.Counting.{δ-other, count-nil, count-cons, count-append}
 use Rattle.words.specs.Tests.{decided, both, true≢false}
 use Rattle.pool.specs.Pool.{left, right}
 use Rattle.pool_check.specs.Algorithm.{mark, links, stamp, shaped, stamped, linked, visit, below}
-use Rattle.pool_check.specs.Ways.{onLeft, visit-off, visit-again, visit-shapeless, visit-below, below-left, below-end, below-right, visit-keeps}
-use Rattle.pool_check.specs.Shape.{tree, nodes, leaf-tree, end-tree, inner-tree, leaf-nodes, end-nodes, inner-nodes, Fits, fits-left, fits-right}
-use Rattle.pool_check.specs.Stamps.{linksTo, linksTo-le, stampOf, linked-stamp, linked-mark, linked-links, linked-linksTo, stamped-word, stamped-other, stamped-mark, stamped-links, stamped-linksTo}
+use Rattle.pool_check.specs.Theory.Ways.{onLeft, visit-off, visit-again, visit-shapeless, visit-below, below-left, below-end, below-right, visit-keeps}
+use Rattle.pool_check.specs.Theory.Shape.{tree, nodes, leaf-tree, end-tree, inner-tree, leaf-nodes, end-nodes, inner-nodes, Fits, fits-left, fits-right}
+use Rattle.pool_check.specs.Theory.Stamps.{linksTo, linksTo-le, stampOf, linked-stamp, linked-mark, linked-links, linked-linksTo, stamped-word, stamped-other, stamped-mark, stamped-links, stamped-linksTo}
 
 -- marks set three times
 three-marks : (m a b c : ℕ) {m₁ m₂ m₃ d : ℕ} → m₁ ≡ min 1 (m + a) → m₂ ≡ min 1 (m₁ + b) → m₃ ≡ min 1 (m₂ + c) → d ≡ a + (b + c) → m₃ ≡ min 1 (m + d)

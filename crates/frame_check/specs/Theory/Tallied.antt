@@ -13,6 +13,7 @@ use borrow.Author.Tests.{eq-eqb, ne-eqb}
 use Rattle.words.specs.Basics.{plus, sum, howMany, count}
 use Rattle.words.specs.Counting.{count-nil, hit-le}
 use Rattle.words.specs.Tallies.{howMany-le, sum-upto, count-step}
+use Rattle.frames.specs.Widths.{dequePlaces}
 use Rattle.frames.specs.Deques.{size, place}
 use Rattle.frame_check.specs.Algorithm.{bump, tally, tallyList, tallyDeques}
 
@@ -53,13 +54,13 @@ tally-at (suc n) f ts p b w =
     let s = bump-at (tally n f ts) (f n) p (omega (arith, length-tally n f ts)) (omega (arith, r, howMany-le n (λ k. eqb (f k) p))) in
     omega (arith, r, s)
 
-pub tallyDeques-at : (n : ℕ) (ds ts : List ℕ) (p : ℕ) → p < length ts → ((w : ℕ) → w < n → size ds w ≤ 64) → getD ts p 0 + 64 * n < 4294967296
+pub tallyDeques-at : (n : ℕ) (ds ts : List ℕ) (p : ℕ) → p < length ts → ((w : ℕ) → w < n → size ds w ≤ dequePlaces) → getD ts p 0 + dequePlaces * n < 4294967296
     → getD (tallyDeques n ds ts) p 0 ≡ getD ts p 0 + sum n (λ w. howMany (size ds w) (λ k. eqb (place ds w k) p))
 unfolding tallyDeques
 tallyDeques-at zero ds ts p b h w = omega arith
 tallyDeques-at (suc n) ds ts p b h w =
     let r = tallyDeques-at n ds ts p b (λ v c. h v (omega arith)) (omega arith) in
-    let m = sum-upto n 64 (λ v. howMany (size ds v) (λ k. eqb (place ds v k) p)) (λ v c. le-trans (howMany-le (size ds v) (λ k. eqb (place ds v k) p)) (h v (omega arith))) in
+    let m = sum-upto n dequePlaces (λ v. howMany (size ds v) (λ k. eqb (place ds v k) p)) (λ v c. le-trans (howMany-le (size ds v) (λ k. eqb (place ds v k) p)) (h v (omega arith))) in
     let s = tally-at (size ds n) (place ds n) (tallyDeques n ds ts) p (omega (arith, length-tallyDeques n ds ts)) (omega (arith, r, m, h n (omega arith))) in
     omega (arith, r, s)
 

@@ -12,7 +12,7 @@ use lib.Seq.{drop-at, drop-cons, set-at}
 use native.Mathlib.Numerals.{add-one}
 use Rattle.words.specs.Tests.{decided}
 use Rattle.soundness.specs.Soundness.{cleared}
-use Rattle.pool_check.specs.Ways.{Keeps, keeps-refl}
+use Rattle.pool_check.specs.Theory.Ways.{Keeps, keeps-refl}
 
 pub clear-yes : (N : ℕ) (w : List ℕ) → N ≤ length w → cleared N w ≡ replicate N 0 ++ drop N w
 unfolding cleared

@@ -16,11 +16,11 @@ use Rattle.sizes.specs.Leaves.{leaves, leaves-top}
 use Rattle.frames.specs.Frames.{frameAt}
 use Rattle.soundness.specs.Soundness.{lives, treeAt, treesAt, nodesAt, reached, isReached, holders, rootsBelow, liveRoots}
 use Rattle.pool_check.specs.Algorithm.{mark, links, visitPlace, visitPlaces}
-use Rattle.pool_check.specs.Ways.{place-live, place-free, Keeps, keeps-refl, keeps-trans, visit-keeps}
-use Rattle.pool_check.specs.Shape.{tree, tree-is, nodes-is, Fits}
-use Rattle.pool_check.specs.Stamps.{linkTo, linksTo}
-use Rattle.pool_check.specs.Visit.{Adds, Settled, visit-shows}
-use Rattle.pool_check.specs.Succeeds.{Honest, visit-succeeds}
+use Rattle.pool_check.specs.Theory.Ways.{place-live, place-free, Keeps, keeps-refl, keeps-trans, visit-keeps}
+use Rattle.pool_check.specs.Theory.Shape.{tree, tree-is, nodes-is, Fits}
+use Rattle.pool_check.specs.Theory.Stamps.{linkTo, linksTo}
+use Rattle.pool_check.specs.Theory.Visit.{Adds, Settled, visit-shows}
+use Rattle.pool_check.specs.Theory.Succeeds.{Honest, visit-succeeds}
 
 -- ---- lists of roots
 

@@ -14,14 +14,14 @@ use Rattle.words.specs.Loops.{count-sum}
 use Rattle.words.specs.Tests.{decided, both, lt-of, ge-of, true≢false}
 use Rattle.sizes.specs.Sizes.{height}
 use Rattle.pool.specs.Pool.{refcount}
-use Rattle.soundness.specs.Soundness.{treesAt, reached, isReached, holders, isFree, freeNodes, poolSound, liveRoots, cleared}
+use Rattle.soundness.specs.Soundness.{treesAt, reached, isReached, holders, isFree, freeNodes, nodeSound, poolSound, liveRoots, cleared}
 use Rattle.pool_check.specs.declared.PoolChecked.the-variants.{Bad, Good}
 use Rattle.pool_check.specs.Answer.{inBounds, poolChecked}
 use Rattle.pool_check.specs.Algorithm.{mark, links, fresh, visitPlaces, nodeRight, unvisited, bare, chainFrom, settle, runCheck}
-use Rattle.pool_check.specs.Ways.{settle-off, settle-on, run-out, run-off, run-on, Keeps, keeps-refl, keeps-trans}
-use Rattle.pool_check.specs.Cleared.{clear-no, clear-keeps, clear-same, clear-zeros}
-use Rattle.pool_check.specs.Places.{places-keeps, places-tree, Tallied, places-tallied}
-use Rattle.pool_check.specs.FreeList.{unvisited-le, chain-sound, chain-complete, chained, chained-length, vacants}
+use Rattle.pool_check.specs.Theory.Ways.{settle-off, settle-on, run-out, run-off, run-on, Keeps, keeps-refl, keeps-trans}
+use Rattle.pool_check.specs.Theory.Cleared.{clear-no, clear-keeps, clear-same, clear-zeros}
+use Rattle.pool_check.specs.Theory.Places.{places-keeps, places-tree, Tallied, places-tallied}
+use Rattle.pool_check.specs.Theory.FreeList.{unvisited-le, chain-sound, chain-complete, chained, chained-length, vacants}
 
 -- ---- one node: its count of positions, its holders, its places on the chain; its mark, its links counted, its reference count;
 -- is it bare?
@@ -61,22 +61,16 @@ module _ (cnt hold chain m lk rc : ℕ) (is-bare : Bool) (em : m ≡ min 1 cnt) 
 
 -- ---- after the trees
 
--- what the definition asks of node i
-abbrev nodeSound : ℕ → ℕ → List ℕ → List ℕ → ℕ → ℕ → Bool
-nodeSound n N ws rs first i =
-    (isReached n ws rs i && (eqb (refcount ws i) (holders n N ws rs i) && eqb (count i (freeNodes N ws first)) 0)) ||
-    (eqb (count i (reached n ws rs)) 0 && (isFree ws i && eqb (count i (freeNodes N ws first)) 1))
-
 module _ (n N : ℕ) (ws rs w : List ℕ) (few : N ≤ 16384) (tally : Tallied n N ws rs w) (t : treesAt n N ws rs ≡ true) (first : ℕ) where
   abbrev chain : List ℕ
   chain = freeNodes N ws first
 
   -- node i, by the definition and by the algorithm
-  sound-at : (i : ℕ) → i < N → nodeRight ws w i ≡ true → count i chain ≡ fresh w i → (0 < count i chain → bare ws i ≡ true) → nodeSound n N ws rs first i ≡ true
+  sound-at : (i : ℕ) → i < N → nodeRight ws w i ≡ true → count i chain ≡ fresh w i → (0 < count i chain → bare ws i ≡ true) → nodeSound n N ws first rs i ≡ true
   unfolding nodeRight
   sound-at i b = node-sound (count i (reached n ws rs)) (holders n N ws rs i) (count i chain) (mark w i) (links w i) (refcount ws i) (bare ws i) (tally .marks i b) (tally .counts i b)
 
-  right-at : (i : ℕ) → i < N → nodeSound n N ws rs first i ≡ true → (nodeRight ws w i ≡ true) × (count i chain ≡ fresh w i) × (0 < count i chain → bare ws i ≡ true)
+  right-at : (i : ℕ) → i < N → nodeSound n N ws first rs i ≡ true → (nodeRight ws w i ≡ true) × (count i chain ≡ fresh w i) × (0 < count i chain → bare ws i ≡ true)
   unfolding nodeRight
   right-at i b = node-right (count i (reached n ws rs)) (holders n N ws rs i) (count i chain) (mark w i) (links w i) (refcount ws i) (bare ws i) (tally .marks i b) (tally .counts i b)
 
@@ -84,15 +78,15 @@ module _ (n N : ℕ) (ws rs w : List ℕ) (few : N ≤ 16384) (tally : Tallied n
   unfolding poolSound
   settle-sound a f =
       let C = chained N ws w chain (chain-sound N ws w few (unvisited N w) N first (unvisited-le N w) f) in (
-        rw (t, C .within) (all-of N (nodeSound n N ws rs first) (λ i b. sound-at i b (all-at N (nodeRight ws w) a i b) (C .once i b) (C .empty i b))),
+        rw (t, C .within) (all-of N (nodeSound n N ws first rs) (λ i b. sound-at i b (all-at N (nodeRight ws w) a i b) (C .once i b) (C .empty i b))),
         chained-length N ws w chain C,
       )
 
   settle-complete : poolSound n N ws first rs ≡ true → (all N (nodeRight ws w) ≡ true) × (chainFrom N ws w (unvisited N w) first ≡ true)
   unfolding poolSound
   settle-complete s =
-      let p = both (below N chain) (all N (nodeSound n N ws rs first)) (both (treesAt n N ws rs) _ s .1) in
-      let nodes : (i : ℕ) → i < N → (nodeRight ws w i ≡ true) × (count i chain ≡ fresh w i) × (0 < count i chain → bare ws i ≡ true) = λ i b. right-at i b (all-at N (nodeSound n N ws rs first) (p .1) i b) in (
+      let p = both (below N chain) (all N (nodeSound n N ws first rs)) (both (treesAt n N ws rs) _ s .1) in
+      let nodes : (i : ℕ) → i < N → (nodeRight ws w i ≡ true) × (count i chain ≡ fresh w i) × (0 < count i chain → bare ws i ≡ true) = λ i b. right-at i b (all-at N (nodeSound n N ws first rs) (p .1) i b) in (
         all-of N (nodeRight ws w) (λ i b. nodes i b .0),
         chain-complete N ws w few (unvisited N w) N first (unvisited-le N w)
             (vacants N ws w chain (record { within = p .0; once = λ i b. nodes i b .1; empty = λ i b. nodes i b .2 })),
@@ -165,12 +159,12 @@ check-work n N first fs ws w = elim (decided (leb N (length w))) [
 pub free-reached : (n N : ℕ) (ws : List ℕ) (first : ℕ) (rs : List ℕ) → poolSound n N ws first rs ≡ true → length (freeNodes N ws first) + howMany N (isReached n ws rs) ≡ N
 unfolding poolSound
 free-reached n N ws first rs s =
-    let p = both (below N (freeNodes N ws first)) (all N (nodeSound n N ws rs first)) (both (treesAt n N ws rs) _ s .1) in
+    let p = both (below N (freeNodes N ws first)) (all N (nodeSound n N ws first rs)) (both (treesAt n N ws rs) _ s .1) in
     omega (
       arith,
       count-sum N (freeNodes N ws first) (p .0),
       sum-add N (λ i. count i (freeNodes N ws first)) (λ i. cond (isReached n ws rs i) 1 0),
-      sum-cong N (λ i. count i (freeNodes N ws first) + cond (isReached n ws rs i) 1 0) (λ i. 1) (λ i b. one i (all-at N (nodeSound n N ws rs first) (p .1) i b)),
+      sum-cong N (λ i. count i (freeNodes N ws first) + cond (isReached n ws rs i) 1 0) (λ i. 1) (λ i b. one i (all-at N (nodeSound n N ws first rs) (p .1) i b)),
       sum-const N 1,
     )
   where
@@ -180,7 +174,7 @@ free-reached n N ws first rs s =
       | inr e ↦ (let q : c ≤ 0 = ge-of e in rw e (omega arith))
     ]
 
-    one : (i : ℕ) → nodeSound n N ws rs first i ≡ true → count i (freeNodes N ws first) + cond (isReached n ws rs i) 1 0 ≡ 1
+    one : (i : ℕ) → nodeSound n N ws first rs i ≡ true → count i (freeNodes N ws first) + cond (isReached n ws rs i) 1 0 ≡ 1
     one i h =
         let c = count i (reached n ws rs) in
         omega (arith, counted c, node-right c (holders n N ws rs i) (count i (freeNodes N ws first)) (min 1 c) (holders n N ws rs i) (refcount ws i) (bare ws i) refl refl h .1)

@@ -12,9 +12,9 @@ use lib.Seq.{getD-set-same, getD-set-other}
 use Rattle.words.specs.Basics.{none, plus}
 use Rattle.pool.specs.Pool.{left, right}
 use Rattle.pool_check.specs.Algorithm.{mark, stamp, stamped, linked, visit, below}
-use Rattle.pool_check.specs.Ways.{onLeft, visit-again, visit-below, below-end, below-right, visit-keeps}
-use Rattle.pool_check.specs.Shape.{tree, tree-node, tree-shaped, tree-left, tree-end, tree-right, Fits, fits-left, fits-right, unique}
-use Rattle.pool_check.specs.Stamps.{stampOf, linked-stamp}
+use Rattle.pool_check.specs.Theory.Ways.{onLeft, visit-again, visit-below, below-end, below-right, visit-keeps}
+use Rattle.pool_check.specs.Theory.Shape.{tree, tree-node, tree-shaped, tree-left, tree-end, tree-right, Fits, fits-left, fits-right, unique}
+use Rattle.pool_check.specs.Theory.Stamps.{stampOf, linked-stamp}
 
 -- how node x stands, by its stamp
 pub record Stands (n N : ℕ) (ws w : List ℕ) (x : ℕ) : Type 0 where

@@ -8,17 +8,17 @@ use native.Mathlib.Omega.{arith}
 use native.Mathlib.Decide.{ℕ-discrete}
 use lib.ListN.{length}
 use lib.Dec.{eqb}
-use borrow.Author.Tests.{eqb-true, eq-eqb, ne-eqb}
+use borrow.Author.Tests.{eq-eqb, ne-eqb}
 use Rattle.words.specs.Basics.{none, sum, howMany, δ, count}
-use Rattle.words.specs.Tests.{both}
 use Rattle.words.specs.Counting.{δ-same, δ-other, count-nil, count-cons, sum-cong, hit, miss}
 use Rattle.sizes.specs.Sizes.{treeNodes}
+use Rattle.frames.specs.Widths.{maxWorkers, places, dequePlaces}
 use Rattle.frames.specs.Frames.{frameAt, freePlace}
-use Rattle.frames.specs.Deques.{size, place, dequeList, placesTo}
+use Rattle.frames.specs.Deques.{size, place, placesTo, dequeList}
 use Rattle.frames.specs.Theory.Places.{FreePlaces}
 use Rattle.soundness.specs.declared.Numbers.{Numbers}
-use Rattle.soundness.specs.Soundness.{lives, isChild, children, inDeques, poolSound, liveRoots}
-use Rattle.semantics.specs.Theory.FreeLists.{and-of}
+use Rattle.soundness.specs.Theory.Is.{Is, eq-is, and-is}
+use Rattle.soundness.specs.Soundness.{isChild, children, inDeques, poolSound, liveRoots}
 
 -- ---- terms
 
@@ -27,7 +27,7 @@ Lives fs p = frameAt fs p .live ≡ 1
 
 -- in how many places of deques the frame at p stands
 abbrev pub stands : List ℕ → ℕ → ℕ
-stands ds p = sum 8 (λ w. count p (dequeList ds w))
+stands ds p = sum maxWorkers (λ w. count p (dequeList ds w))
 
 places-count : (n : ℕ) (ds : List ℕ) (w p : ℕ) → howMany n (λ k. eqb (place ds w k) p) ≡ count p (placesTo n ds w)
 unfolding placesTo
@@ -39,33 +39,36 @@ places-count (suc n) ds w p = elim (ℕ-discrete (place ds w n) p) [
 
 pub stands-is : (ds : List ℕ) (p : ℕ) → inDeques ds p ≡ stands ds p
 unfolding dequeList
-stands-is ds p = sum-cong 8 (λ w. howMany (size ds w) (λ k. eqb (place ds w k) p)) (λ w. count p (dequeList ds w)) (λ w b. places-count (size ds w) ds w p)
+stands-is ds p = sum-cong maxWorkers (λ w. howMany (size ds w) (λ k. eqb (place ds w k) p)) (λ w. count p (dequeList ds w)) (λ w b. places-count (size ds w) ds w p)
 
 -- c is a live child of the frame at p
+pub child-is : (fs : List ℕ) (p c : ℕ) → Is (isChild fs p c) (Lives fs c × (frameAt fs c .parent ≡ p))
+child-is fs p c = and-is (eq-is (frameAt fs c .live) 1) (eq-is (frameAt fs c .parent) p)
+
 pub child-at : (fs : List ℕ) (p c : ℕ) → isChild fs p c ≡ true → Lives fs c × (frameAt fs c .parent ≡ p)
-child-at fs p c e = (let r = both (lives fs c) (eqb (frameAt fs c .parent) p) e in (eqb-true (frameAt fs c .live) 1 (r .0), eqb-true (frameAt fs c .parent) p (r .1)))
+child-at fs p c = child-is fs p c .fact
 
 pub at-child : (fs : List ℕ) (p c : ℕ) → Lives fs c → frameAt fs c .parent ≡ p → isChild fs p c ≡ true
-at-child fs p c l e = and-of (lives fs c) (eqb (frameAt fs c .parent) p) (eq-eqb (frameAt fs c .live) 1 l) (eq-eqb (frameAt fs c .parent) p e)
+at-child fs p c l e = child-is fs p c .test (l, e)
 
 -- ---- the facts
 
 -- "Either no frame lives and all deques are empty"
 abbrev pub NoFrame : List ℕ → List ℕ → Type 0
-NoFrame ds fs = ((p : ℕ) → p < 64 → Lives fs p → ⊥) × ((w : ℕ) → w < 8 → size ds w ≡ 0)
+NoFrame ds fs = ((p : ℕ) → p < places → Lives fs p → ⊥) × ((w : ℕ) → w < maxWorkers → size ds w ≡ 0)
 
 -- "or just one live frame has depth 0, with parent none"
 pub record OnlyMain (fs : List ℕ) : Type 0 where
   pub main : ℕ
-  pub inside : main < 64
+  pub inside : main < places
   pub alive : Lives fs main
   pub flat : frameAt fs main .depth ≡ 0
   pub orphan : frameAt fs main .parent ≡ none
-  pub only : (p : ℕ) → p < 64 → Lives fs p → frameAt fs p .depth ≡ 0 → p ≡ main
+  pub only : (p : ℕ) → p < places → Lives fs p → frameAt fs p .depth ≡ 0 → p ≡ main
 
 -- "a live parent one shallower"
 abbrev pub HasParent : List ℕ → ℕ → Type 0
-HasParent fs p = (frameAt fs p .parent < 64) × Lives fs (frameAt fs p .parent) × (frameAt fs p .depth ≡ suc (frameAt fs (frameAt fs p .parent) .depth))
+HasParent fs p = (frameAt fs p .parent < places) × Lives fs (frameAt fs p .parent) × (frameAt fs p .depth ≡ suc (frameAt fs (frameAt fs p .parent) .depth))
 
 -- "either in just one place of one deque and not suspended, or in none and suspended with a live child"
 abbrev pub Placed : List ℕ → List ℕ → ℕ → Type 0
@@ -75,26 +78,26 @@ Placed ds fs p = ((stands ds p ≡ 1) × (frameAt fs p .suspended ≡ 0)) ⊎ ((
 pub record PlacesFree (fs : List ℕ) (first : ℕ) : Type 0 where
   pub gs : List ℕ
   pub chain : FreePlaces fs first gs
-  pub each : (p : ℕ) → p < 64 → (Lives fs p × (count p gs ≡ 0)) ⊎ (((q : ℕ) × (frameAt fs p ≡ freePlace q)) × (count p gs ≡ 1))
+  pub each : (p : ℕ) → p < places → (Lives fs p × (count p gs ≡ 0)) ⊎ (((q : ℕ) × (frameAt fs p ≡ freePlace q)) × (count p gs ≡ 1))
 
 pub record FramesFacts (workers first : ℕ) (ds fs : List ℕ) : Type 0 where
   pub one-main : NoFrame ds fs ⊎ OnlyMain fs
-  pub parents : (p : ℕ) → p < 64 → Lives fs p → frameAt fs p .depth ≢ 0 → HasParent fs p
-  pub outstanding : (p : ℕ) → p < 64 → Lives fs p → frameAt fs p .outstanding ≡ children fs p
-  pub placed : (p : ℕ) → p < 64 → Lives fs p → Placed ds fs p
-  pub hold-live : (w : ℕ) → w < 8 → (k : ℕ) → k < size ds w → (place ds w k < 64) × Lives fs (place ds w k)
-  pub absent : (w : ℕ) → w < 8 → workers ≤ w → size ds w ≡ 0
-  pub within : (w : ℕ) → w < 8 → size ds w ≤ 64
-  pub zeros : (w : ℕ) → w < 8 → (k : ℕ) → size ds w ≤ k → k < 64 → place ds w k ≡ 0
-  pub child-of-above : (w : ℕ) → w < 8 → (k : ℕ) → suc k < size ds w → frameAt fs (place ds w (suc k)) .parent ≡ place ds w k
-  pub only-below : (w : ℕ) → w < 8 → (k : ℕ) → suc k < size ds w → (c : ℕ) → c < 64 → Lives fs c → frameAt fs c .parent ≡ place ds w (suc k)
+  pub parents : (p : ℕ) → p < places → Lives fs p → frameAt fs p .depth ≢ 0 → HasParent fs p
+  pub outstanding : (p : ℕ) → p < places → Lives fs p → frameAt fs p .outstanding ≡ children fs p
+  pub placed : (p : ℕ) → p < places → Lives fs p → Placed ds fs p
+  pub hold-live : (w : ℕ) → w < maxWorkers → (k : ℕ) → k < size ds w → (place ds w k < places) × Lives fs (place ds w k)
+  pub absent : (w : ℕ) → w < maxWorkers → workers ≤ w → size ds w ≡ 0
+  pub within : (w : ℕ) → w < maxWorkers → size ds w ≤ dequePlaces
+  pub zeros : (w : ℕ) → w < maxWorkers → (k : ℕ) → size ds w ≤ k → k < dequePlaces → place ds w k ≡ 0
+  pub child-of-above : (w : ℕ) → w < maxWorkers → (k : ℕ) → suc k < size ds w → frameAt fs (place ds w (suc k)) .parent ≡ place ds w k
+  pub only-below : (w : ℕ) → w < maxWorkers → (k : ℕ) → suc k < size ds w → (c : ℕ) → c < places → Lives fs c → frameAt fs c .parent ≡ place ds w (suc k)
       → (suc (suc k) < size ds w) × (c ≡ place ds w (suc (suc k)))
   pub places : PlacesFree fs first
 
 -- "Workers are 1 to 8, n is 1 to 256. The recorded node count is T(n) to 16,384 and at most what the lent pool holds."
 pub record NumbersFacts (s : Numbers) (ws : List ℕ) : Type 0 where
   pub workers-positive : 1 ≤ s .workers
-  pub workers-le : s .workers ≤ 8
+  pub workers-le : s .workers ≤ maxWorkers
   pub splitters-positive : 1 ≤ s .splitters
   pub splitters-le : s .splitters ≤ 256
   pub enough : treeNodes (s .splitters) ≤ s .nodes
