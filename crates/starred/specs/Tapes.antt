@@ -1,5 +1,5 @@
 -- Records, tapes and lent words that the tables are written with.
-use mathlib.Core.List.{List, [], _∷_}
+use mathlib.Core.List.{List, [], _∷_, _++_}
 use Prim.Native.Nat.{ℕ, _*_}
 use lib.ListN.{replicate}
 use Rattle.frames.specs.Widths.{frameWords, dequeWords}
@@ -38,6 +38,10 @@ anyParts = record { numbers = replicate 5 3; deques = replicate dequeWords 3; fr
 -- a pool of so many nodes, which holds anything before a start
 abbrev pub anyPool : ℕ → List ℕ
 anyPool nodes = replicate (4 * nodes) 7
+
+-- the words of a state, one after another
+abbrev pub wordsOf : State → List ℕ
+wordsOf s = s .numbers ++ (s .deques ++ s .frames)
 
 -- document 01's five values
 abbrev pub five : List ℕ
