@@ -37,7 +37,7 @@ fn faulty_program(fault: &Fault) -> String {
     let (same, copied) = FILES.split_at(changed);
     let same: String = same
         .iter()
-        .map(|file| format!("use differential::{};\n", module(file)))
+        .map(|file| format!("pub use differential::{};\n", module(file)))
         .collect();
     let copied: String = copied
         .iter()

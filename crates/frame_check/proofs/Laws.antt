@@ -7,9 +7,12 @@ use Prim.Native.Nat.{ℕ, suc, _+_, _-_, _≤_, _<_}
 use native.Mathlib.Numerals.{add-one}
 use native.Mathlib.Omega.{arith}
 use lib.Dec.{eqb, leb, ltb}
-use borrow.Author.Tests.{ltb-true, lt-ltb, eqb-true, eq-eqb, ne-eqb}
+use borrow.Author.Tests.{leb-true, ltb-true, lt-ltb, eqb-true, eq-eqb, ne-eqb}
 use Rattle.words.specs.Basics.{none, all, howMany, follow, below}
+use Rattle.words.specs.Counting.{all-at}
 use Rattle.words.specs.Tallies.{same-tests, follow-step}
+use Rattle.words.specs.Tests.{both}
+use Rattle.frames.specs.Widths.{maxWorkers, dequePlaces}
 use Rattle.frames.specs.declared.Frame.{Frame}
 use Rattle.frames.specs.Frames.{frameAt}
 use Rattle.frames.specs.Deques.{size, place}
@@ -92,3 +95,7 @@ module _ (workers first : ℕ) (ds fs : List ℕ) where
     where
       rest : Bool
       rest = (all 8 (dequeSound ds fs) && below 64 (chain fs first)) && (leb (mains fs) 1 && all 64 (placeChecked first ds fs))
+
+-- deques that fit are as long as they may be
+pub fit-sizes : (workers : ℕ) (ds : List ℕ) → all maxWorkers (dequeFits workers ds) ≡ true → (w : ℕ) → w < maxWorkers → size ds w ≤ dequePlaces
+fit-sizes workers ds e w h = leb-true (size ds w) dequePlaces (both (leb (size ds w) dequePlaces) _ (all-at maxWorkers (dequeFits workers ds) e w h) .0)

@@ -1,11 +1,11 @@
--- A law for each way out of a step's function, over plain variables.
+-- A law for each way out of a function, over plain variables.
 use mathlib.Core.Path.{_≡_, sym, ap, _∙_}
 use mathlib.Core.Bool.{true, false}
 use mathlib.Core.Logic.{_≢_, _⊎_, inl, inr}
 use mathlib.Core.List.{List}
 use Prim.Native.Nat.{ℕ, _-_, _<_}
 use lib.Dec.{eqb}
-use lib.ListN.{length}
+use lib.ListN.{length, replicate}
 use borrow.Author.Tests.{eq-eqb, ne-eqb}
 use Rattle.words.specs.Basics.{none, plus}
 use Rattle.frames.specs.declared.Frame.{Frame}
@@ -13,11 +13,28 @@ use Rattle.frames.specs.declared.Returned.{Returned}
 use Rattle.frames.specs.declared.Returned.the-variants.{Continued, Idle, Resumed, Finished}
 use Rattle.frames.specs.declared.Synced.the-variants.{Passed, Suspended}
 use Rattle.frames.specs.Widths.{places, frameWords}
-use Rattle.frames.specs.Frames.{frameAt, setFrame, withOutstanding, withSuspended, withoutChild, childOf, freePlace}
-use Rattle.frames.specs.Deques.{size, bottom, push, pop}
+use Rattle.frames.specs.Frames.{frameAt, setFrame, withOutstanding, withSuspended, withoutChild, childOf, freePlace, mainFrame, initPlaces, initFrames}
+use Rattle.frames.specs.Deques.{size, setSize, setPlace, bottom, push, pop, shiftUp, dropTop}
 use Rattle.frames.specs.Steps.{return, returned, sync, synced, spawn}
 use Rattle.frames.specs.Promises.{table, IsReturn, IsParentAfter, IsSync}
 use Rattle.frames.specs.Theory.Records.{frame-set-same, frame-set-other, frame-set-again}
+
+-- ---- a deque: n is its length before
+
+module _ (ds ds₁ ds₂ : List ℕ) (w n : ℕ) (en : n ≡ size ds w) where
+  pub pushed : (p m : ℕ) → ds₁ ≡ setPlace ds w n p → m ≡ plus n 1 → ds₂ ≡ setSize ds₁ w m → ds₂ ≡ push ds w p
+  unfolding push
+  pushed p m e₁ em e₂ = rw (e₂, e₁, em, en)
+
+  pub popped : ds₁ ≡ setPlace ds w (n - 1) 0 → ds₂ ≡ setSize ds₁ w (n - 1) → ds₂ ≡ pop ds w
+  unfolding pop
+  popped e₁ e₂ = rw (e₂, e₁, en)
+
+  pub dropped : (ds₃ : List ℕ) → ds₁ ≡ shiftUp (n - 1) ds w 0 → ds₂ ≡ setPlace ds₁ w (n - 1) 0 → ds₃ ≡ setSize ds₂ w (n - 1) → ds₃ ≡ dropTop ds w
+  unfolding dropTop
+  dropped ds₃ e₁ e₂ e₃ = rw (e₃, e₂, e₁, en)
+
+-- ---- the steps
 
 -- one of the two, and not the second
 pub one-of : {A B : Type 0} → A ⊎ B → (B → ⊥) → A
@@ -97,3 +114,8 @@ pub spawned : (ds fs ds′ fs₁ fs₂ : List ℕ) (free p w n : ℕ) (f h k : F
     → table ds′ fs₂ (h .parent) ≡ spawn (table ds fs free) w
 unfolding spawn
 spawned ds fs ds′ fs₁ fs₂ free p w n f h k ep ef eh en e₁ ek e₂ e₃ = rw (e₃, e₂, e₁, ek, en, eh, ef, ep)
+
+pub begun : (fs fs₁ fs₂ fs₃ : List ℕ) (f : Frame) → length fs ≡ frameWords → fs₁ ≡ replicate (length fs) 0 → f ≡ mainFrame 0 → fs₂ ≡ setFrame fs₁ 0 f
+    → fs₃ ≡ initPlaces (places - 1) fs₂ 1 → fs₃ ≡ initFrames (replicate frameWords 0)
+unfolding initFrames
+begun fs fs₁ fs₂ fs₃ f l e₁ ef e₂ e₃ = rw (e₃, e₂, e₁, ef, l)

@@ -28,6 +28,13 @@ shift-turn ds w at end a b c =
     let s : at + 1 - topWord w ≡ suc k = omega arith in
     rw (s, n) (sym (shift-suc (end - (at + 1)) ds w k (omega arith) ∙ rw (i, j)))
 
+-- all of it is left
+pub shift-whole : (ds : List ℕ) (w count : ℕ) → shiftUp (topWord w + count - topWord w) ds w (topWord w - topWord w) ≡ shiftUp count ds w 0
+shift-whole ds w count =
+    let n : topWord w + count - topWord w ≡ count = omega arith in
+    let k : topWord w - topWord w ≡ 0 = omega arith in
+    rw (n, k)
+
 pub shift-done : (ds : List ℕ) (w at end : ℕ) → end ≤ at → shiftUp (end - at) ds w (at - topWord w) ≡ ds
 unfolding shiftUp
 shift-done ds w at end h = let e : end - at ≡ 0 = omega arith in rw e

@@ -12,6 +12,8 @@ use borrow.Author.Tests.{lt-ltb, le-ltb}
 use Rattle.lines.specs.Output.{Buffer, storeByte, storeAll, Stores, StoresUpTo, IsOutput}
 use Rattle.lines.specs.Lines.{linesOf}
 use Rattle.words.specs.Tests.{decided, lt-of}
+-- Cut: the first 20,000 bytes of an input print what the whole prints
+pub mod Cut
 
 pub store-append : (o : Buffer) (xs ys : List ℕ) → storeAll o (xs ++ ys) ≡ storeAll (storeAll o xs) ys
 unfolding storeAll

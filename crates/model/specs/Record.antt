@@ -1,5 +1,5 @@
 -- The decoding of a record. Definitions only.
-use mathlib.Core.Bool.{Bool, true, false, cond, _&&_}
+use mathlib.Core.Bool.{Bool, true, false, cond, not, _&&_}
 use mathlib.Core.List.{List, [], _∷_}
 use Prim.Native.Nat.{ℕ, _+_, _*_}
 use lib.ListN.{length, getD}
@@ -14,6 +14,12 @@ use Rattle.model.specs.declared.Decoded.the-variants.{Valid, Invalid}
 abbrev pub little : List ℕ → ℕ
 little [] = 0
 little (b ∷ bs) = b + 256 * little bs
+
+-- is a field that this kind does not use other than zero? (The code tests this before the kind; recordOf says it kind by kind.)
+unfoldable pub unusedSet : ℕ → ℕ → ℕ → Bool
+unusedSet kind field value =
+    cond (eqb kind 5) (not (eqb value 0))
+    (cond (eqb kind 6) false (cond (not (eqb value 0)) true (cond (eqb kind 3) false (not (eqb field 0)))))
 
 -- "Unused fields are zero."
 abbrev pub validIf : Bool → Step → Decoded

@@ -5,8 +5,7 @@ ghost use mathlib.Core.Path.{_≡_};
 ghost use mathlib.Core.List.{[], _∷_};
 ghost use Prim.Native.Nat.{_+_, _≤_};
 ghost use lib.ListN.{length};
-ghost use Rattle.model.specs.Record.{little, recordOf, decodeAt};
-ghost use Rattle.model.specs.Theory.Unused.{unusedSet};
+ghost use Rattle.model.specs.Record.{little, unusedSet, recordOf, decodeAt};
 
 // A byte's number.
 fn wide(b: u8) -> u32

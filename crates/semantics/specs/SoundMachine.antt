@@ -8,8 +8,8 @@ use Rattle.words.specs.Basics.{joined}
 use Rattle.words.specs.Counting.{range}
 use Rattle.sizes.specs.Sizes.{height}
 use Rattle.pool.specs.Pool.{readAt}
+use Rattle.frames.specs.Deques.{dequeList}
 use Rattle.frames.specs.Frames.{frameAt}
-use Rattle.frames.specs.Theory.Lists.{dequeList}
 use Rattle.soundness.specs.declared.Numbers.{Numbers}
 use Rattle.soundness.specs.Soundness.{lives, inDeques, freeCount}
 use Rattle.model.specs.Machine.{Name, Frame, Machine, inUse}

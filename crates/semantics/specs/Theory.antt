@@ -48,14 +48,16 @@ pub mod Starts
 pub mod StartRelates
 -- what a refused call leaves; the work slice and the answer words after any call
 pub mod RefusedCalls
+-- a step of a sound core
+pub mod SoundSteps
 -- calls, tapes
 pub mod Runs
--- demands 2 and 3 from a relation that steps keep
-pub mod DemandsProof
+-- the plain machine fed records, and fed the steps among them
+pub mod ValidRecords
 -- the relation of a run from a start; demands 2 and 3
 pub mod StartedRuns
 -- demand 2 for sound states, however obtained
-pub mod SoundSteps
+pub mod SoundRuns
 -- an empty tape changes only the work slice
 pub mod EmptyTape
 -- a work slice that is too short is left alone

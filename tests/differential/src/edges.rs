@@ -1,6 +1,8 @@
 //! The edges of document 01, starred or not, and the edges of its refusals
 //! and lines. Every expected line is written by hand from the document.
 
+mod lengths;
+
 use crate::record::{Record, Step};
 use crate::splitrun::{header, Input, HEADER_BYTES};
 
@@ -19,6 +21,7 @@ pub fn all() -> Vec<Edge> {
     edges.extend(unfit());
     edges.extend(cut_short());
     edges.extend(tapes());
+    edges.extend(lengths::lengths());
     edges.extend(unused_fields());
     edges.extend(bad_kinds());
     edges.extend(refusals());
@@ -26,6 +29,14 @@ pub fn all() -> Vec<Edge> {
     edges.extend(outcomes());
     edges.extend(traps());
     edges.extend(pools());
+    edges
+}
+
+/// Edges that are also fed in pieces: a program that takes what its first
+/// read gives for the whole input is caught by them.
+pub fn in_pieces() -> Vec<Edge> {
+    let mut edges = starred();
+    edges.extend(lengths::telling_ends());
     edges
 }
 

@@ -17,7 +17,8 @@ pub fn input(seed: u64) -> Vec<u8> {
     match random.below(100) {
         0..=5 => unfit(&mut random),
         6..=11 => refused_whole(&mut random),
-        12..=19 => run(&mut random, Ending::Unfinished).to_bytes(),
+        12..=13 => longest(&mut random),
+        14..=19 => run(&mut random, Ending::Unfinished).to_bytes(),
         20..=74 => run(&mut random, Ending::Home).to_bytes(),
         _ => run(&mut random, Ending::PastHome).to_bytes(),
     }
@@ -52,11 +53,70 @@ fn unfit(random: &mut Random) -> Vec<u8> {
             input.to_bytes()
         }
         _ => {
-            let beyond = random.pick(&[1, 7, RECORD_BYTES, 800]);
-            input.tape = vec![0; MAX_TAPE_BYTES + beyond];
+            let mut input = filled(random);
+            let beyond = beyond_the_most(random);
+            lengthen(&mut input.tape, MAX_TAPE_BYTES + beyond);
             input.to_bytes()
         }
     }
+}
+
+/// By how much a tape is too long: by a few bytes, near 20,000 bytes of
+/// input, far longer, and by all that 16 bits of a length do not show.
+fn beyond_the_most(random: &mut Random) -> usize {
+    match random.below(5) {
+        0 => random.between(1, 2 * RECORD_BYTES),
+        1 => random.between(2_584 - RECORD_BYTES, 2_584 + RECORD_BYTES),
+        2 => random.between(1, 2 * MAX_TAPE_BYTES),
+        3 => random.pick(&[40_000, 1_000_000]),
+        _ => 65_536 * random.between(1, 2) - random.below(2 * RECORD_BYTES),
+    }
+}
+
+/// A run whose records are as many bytes as may be, at n 256 half of the
+/// time: then the input is the longest that is not unfit.
+fn filled(random: &mut Random) -> Input {
+    let splitters = match random.below(4) {
+        0..=1 => MAX_SPLITTERS,
+        2 => random.pick(&[1, MAX_SPLITTERS - 1]),
+        _ => splitter_count(random),
+    };
+    let ending = random.pick(&[Ending::Unfinished, Ending::Unfinished, Ending::Home]);
+    let mut input = run_of(random, splitters, ending);
+    // Behind the run come reads by worker 0, and a last record unlike them.
+    lengthen(&mut input.tape, MAX_TAPE_BYTES - RECORD_BYTES);
+    let kind = random.pick(&[1, 2, 4]);
+    input.tape.extend([kind, 0, 0, 0, 0, 0, 0, 0]);
+    input
+}
+
+/// Makes the tape so long, by reads of splitter 0; its last record may be
+/// cut.
+fn lengthen(tape: &mut Vec<u8>, length: usize) {
+    let read = Step::Read {
+        worker: 0,
+        splitter: 0,
+    };
+    let records = read.encode().into_iter().cycle();
+    tape.extend(records.take(length.saturating_sub(tape.len())));
+    tape.truncate(length);
+}
+
+/// The most bytes of records, or a few bytes less or more.
+fn longest(random: &mut Random) -> Vec<u8> {
+    let mut input = filled(random);
+    match random.below(4) {
+        0..=1 => {}
+        2 => {
+            let less = random.between(1, 2 * RECORD_BYTES);
+            input.tape.truncate(MAX_TAPE_BYTES - less);
+        }
+        _ => {
+            let more = random.between(1, 2 * RECORD_BYTES);
+            lengthen(&mut input.tape, MAX_TAPE_BYTES + more);
+        }
+    }
+    input.to_bytes()
 }
 
 /// Calls refused whole by 1 to 4, some by more than one of them.
@@ -72,14 +132,22 @@ fn refused_whole(random: &mut Random) -> Vec<u8> {
             0 => splitters = 0,
             1 => input.workers = random.pick(&[0, 9, 10, 256, 257, u16::MAX]),
             2 => input.nodes = random.below(shape::tree_nodes(splitters.max(1))) as u32,
-            _ => {
-                let ragged = input.tape.len() + random.between(1, 7);
-                input.tape.resize(ragged, 0);
-            }
+            _ => cut_last_record(random, &mut input.tape),
         }
     }
     input.values.truncate(splitters);
     input.to_bytes()
+}
+
+/// One to seven bytes of one more record, or of the last record less.
+fn cut_last_record(random: &mut Random, tape: &mut Vec<u8>) {
+    let bytes = random.between(1, RECORD_BYTES - 1);
+    if random.percent(50) && !tape.is_empty() {
+        tape.truncate(tape.len() - bytes);
+    } else {
+        let record = Step::Return { worker: 0 }.encode();
+        tape.extend(&record[..bytes]);
+    }
 }
 
 fn initial_values(random: &mut Random, splitters: usize) -> Vec<u32> {
@@ -141,6 +209,10 @@ fn body_length(random: &mut Random) -> usize {
 
 fn run(random: &mut Random, ending: Ending) -> Input {
     let splitters = splitter_count(random);
+    run_of(random, splitters, ending)
+}
+
+fn run_of(random: &mut Random, splitters: usize, ending: Ending) -> Input {
     let workers = random.between(1, 8);
     let nodes = pool_nodes(random, splitters);
     let values = initial_values(random, splitters);

@@ -1,7 +1,7 @@
 -- Both ways out are laws over the definitions: a deque does not fit, or everything is looked at.
 use borrow.Author.Tests.{not-true, not-false}
 use mathlib.Core.Path.{sym, _∙_}
-use Rattle.frame_check.proofs.Laws.{unfit, fit}
+use Rattle.frame_check.proofs.Laws.{unfit, fit, fit-sizes}
 use borrow.Author.Needs.{needs}
 use Rattle.frame_check.proofs.check_frames.Statement.{statement}
 use Rattle.frame_check.proofs.check_frames.Tie as tie
@@ -24,7 +24,10 @@ slice-aggregate-tally-deques : tie.Need-slice-aggregate-tally-deques
 slice-aggregate-tally-deques c = search needs
 
 tally-deques-requires : tie.Need-tally-deques-requires
-tally-deques-requires c κs = search needs
+tally-deques-requires c κs =
+    let t = c .before .before .before .before in
+    let s = t .before .before .before .before in
+    (s .pre .0, s .pre .1, fit-sizes (s .args .workers) (s .args .deques .now) (sym (t .before .deques-fit .ensures) ∙ not-false _ (t .if1 .left)))
 
 slice-aggregate-tally-chain : tie.Need-slice-aggregate-tally-chain
 slice-aggregate-tally-chain c = search needs

@@ -1,23 +1,16 @@
 -- The unused fields of a record, tested before its kind.
-use mathlib.Core.Path.{_≡_, refl, sym, _∙_}
+use mathlib.Core.Path.{_≡_, refl, sym}
 use mathlib.Core.Bool.{Bool, true, false, cond, not, _&&_}
 use mathlib.Core.Logic.{_≢_}
 use Prim.Native.Nat.{ℕ}
 use native.Mathlib.Decide.{ℕ-discrete}
-use borrow.Author.Tests.{eq-eqb, ne-eqb}
+use borrow.Author.Tests.{ne-eqb}
 use lib.Dec.{eqb}
 use Rattle.words.specs.Tests.{true≢false}
 use Rattle.model.specs.declared.Step.{Step}
 use Rattle.model.specs.declared.Step.the-variants.{Spawn, Return, Steal, Sync, Read, Write}
-use Rattle.model.specs.declared.Decoded.{Decoded}
 use Rattle.model.specs.declared.Decoded.the-variants.{Valid, Invalid}
-use Rattle.model.specs.Record.{validIf, recordOf}
-
--- is a field that this kind does not use other than zero?
-unfoldable pub unusedSet : ℕ → ℕ → ℕ → Bool
-unusedSet kind field value =
-    cond (eqb kind 5) (not (eqb value 0))
-    (cond (eqb kind 6) false (cond (not (eqb value 0)) true (cond (eqb kind 3) false (not (eqb field 0)))))
+use Rattle.model.specs.Record.{unusedSet, validIf, recordOf}
 
 -- ---- one field or two, as tests
 

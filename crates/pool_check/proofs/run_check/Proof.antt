@@ -19,7 +19,8 @@ returns-4 c = parts (out-work _ _ _ _ _ _ (c .if4 .taken))
 
 visit-places-requires : tie.Need-visit-places-requires
 visit-places-requires c κs =
-    record { pool = omega arith; work = omega arith; level = omega (arith, c .height-of .ensures, height-le (c .before .before .before .before .before .before .before .before .before .args .n) 8 (omega arith)); part = omega arith }
+    let s = c .before .before .before .before .before .before .before .before .before in
+    (record { pool = omega arith; work = omega arith; level = omega (arith, c .height-of .ensures, height-le (s .args .n) 8 (omega arith)); part = omega arith }, s .pre)
 
 returns-5 : tie.Need-returns-5
 returns-5 c =

@@ -11,9 +11,9 @@ use Rattle.words.specs.Lists.{In-perm}
 use Rattle.words.specs.Counting.{δ-other, count, count-cons}
 use Rattle.sizes.specs.Sizes.{height}
 use Rattle.pool.specs.Pool.{readAt, release}
+use Rattle.frames.specs.Deques.{dequeList}
 use Rattle.frames.specs.Frames.{frameAt, freePlace}
 use Rattle.frames.specs.Steps.{Table, return as returnTable}
-use Rattle.frames.specs.Theory.Lists.{dequeList}
 use Rattle.frames.specs.Theory.Tables.{Formed}
 use Rattle.model.specs.Machine.{Frame, Machine, live, deque}
 use Rattle.model.specs.Theory.Effects.{rest, live-at}

@@ -14,8 +14,7 @@ use Rattle.words.specs.Tests.{both}
 use Rattle.words.specs.Counting.{δ-same, δ-other, count-nil, count-cons, sum-cong, hit, miss}
 use Rattle.sizes.specs.Sizes.{treeNodes}
 use Rattle.frames.specs.Frames.{frameAt, freePlace}
-use Rattle.frames.specs.Deques.{size, place}
-use Rattle.frames.specs.Theory.Lists.{placesTo, dequeList}
+use Rattle.frames.specs.Deques.{size, place, dequeList, placesTo}
 use Rattle.frames.specs.Theory.Places.{FreePlaces}
 use Rattle.soundness.specs.declared.Numbers.{Numbers}
 use Rattle.soundness.specs.Soundness.{lives, isChild, children, inDeques, poolSound, liveRoots}

@@ -14,8 +14,8 @@ use Rattle.words.specs.Basics.{sum, joined, below, δ, count}
 use Rattle.words.specs.Tests.{decided, both, lt-of, ltb-of}
 use Rattle.words.specs.Counting.{δ-same, δ-other, count-nil, count-cons, count-append, sum-cong, sum-upd, sum-zero, sum-pos, sum-first, hit, miss, range, when, when-zero, when-pos}
 use Rattle.frames.specs.Frames.{frameAt}
-use Rattle.frames.specs.Deques.{size, place}
-use Rattle.frames.specs.Theory.Lists.{placesTo, dequeList, list-empty}
+use Rattle.frames.specs.Deques.{size, place, dequeList, placesTo}
+use Rattle.frames.specs.Theory.Lists.{list-empty}
 use Rattle.soundness.specs.Soundness.{lives, isChild, children, inDeques, rootsBelow, liveRoots}
 use Rattle.semantics.specs.Theory.FreeLists.{and-of, once-short}
 use Rattle.semantics.specs.Theory.Sentences.{Lives, stands, stands-is, FramesFacts}

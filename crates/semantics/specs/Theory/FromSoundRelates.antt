@@ -13,8 +13,9 @@ use Rattle.words.specs.Counting.{range}
 use Rattle.sizes.specs.Sizes.{height, treeNodes}
 use Rattle.pool.specs.Pool.{readAt}
 use Rattle.pool.specs.Theory.Sharing.{rootsOf as treeRoots}
+use Rattle.frames.specs.Deques.{dequeList}
 use Rattle.frames.specs.Frames.{frameAt}
-use Rattle.frames.specs.Theory.Lists.{dequeList, list-empty}
+use Rattle.frames.specs.Theory.Lists.{list-empty}
 use Rattle.soundness.specs.declared.Numbers.{Numbers}
 use Rattle.soundness.specs.Soundness.{children, freeCount, sound}
 use Rattle.model.specs.Machine.{Frame, Machine, live, deque, main, freeNodes, inUse}
@@ -48,7 +49,7 @@ getD-range h d zero a x b = absurd (omega arith)
 getD-range h d (suc c) a zero b = (let e : a ≡ a + 0 = omega arith in ap h e)
 getD-range h d (suc c) a (suc x) b = (let e : suc a + x ≡ a + suc x = omega arith in getD-range h d c (suc a) x (omega arith) ∙ ap h e)
 
-map-append : {A B : Type 0} (h : A → B) (l m : List A) → map h (l ++ m) ≡ map h l ++ map h m
+pub map-append : {A B : Type 0} (h : A → B) (l m : List A) → map h (l ++ m) ≡ map h l ++ map h m
 map-append h [] m = refl
 map-append h (x ∷ l) m = ap (λ z. h x ∷ z) (map-append h l m)
 

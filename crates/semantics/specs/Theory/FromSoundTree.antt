@@ -9,8 +9,7 @@ use native.Mathlib.Omega.{arith}
 use Rattle.words.specs.Basics.{count}
 use Rattle.words.specs.Counting.{δ-same, count-cons, howMany-some}
 use Rattle.frames.specs.Frames.{frameAt}
-use Rattle.frames.specs.Deques.{size, place}
-use Rattle.frames.specs.Theory.Lists.{placesTo, dequeList}
+use Rattle.frames.specs.Deques.{size, place, dequeList, placesTo}
 use Rattle.soundness.specs.Soundness.{children}
 use Rattle.soundness.specs.Soundness.{isChild as isChildAt}
 use Rattle.pool.specs.Theory.Sharing.{rootsOf as treeRoots}

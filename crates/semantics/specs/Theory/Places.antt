@@ -20,8 +20,7 @@ use Rattle.words.specs.Counting.{δ, δ-same, δ-other, count, count-nil, count
 use Rattle.sizes.specs.Sizes.{treeNodes}
 use Rattle.frames.specs.declared.Frame.{Frame as FrameWords}
 use Rattle.frames.specs.Frames.{frameAt}
-use Rattle.frames.specs.Deques.{bottom}
-use Rattle.frames.specs.Theory.Lists.{dequeList}
+use Rattle.frames.specs.Deques.{bottom, dequeList}
 use Rattle.frames.specs.Theory.Lists.{list-head}
 use Rattle.model.specs.History.{History}
 use Rattle.model.specs.Machine.{Name, Frame, Machine, live, deque, isChild, hasChild, named}

@@ -20,9 +20,9 @@ use Rattle.pool.specs.Theory.Operations.{Live}
 use Rattle.pool.specs.Theory.Soundness.{linkLevel, linkSize, sound-live}
 use Rattle.pool.specs.Theory.LiveLinks.{live-links, live-free, live-path}
 use Rattle.frames.specs.Frames.{frameAt}
-use Rattle.frames.specs.Deques.{size, place, bottom}
+use Rattle.frames.specs.Deques.{size, place, bottom, dequeList}
 use Rattle.frames.specs.Ranges.{ParentOf}
-use Rattle.frames.specs.Theory.Lists.{dequeList, list-length}
+use Rattle.frames.specs.Theory.Lists.{list-length}
 use Rattle.frames.specs.Theory.Places.{nextFree}
 use Rattle.soundness.specs.Soundness.{lives, rootsBelow, liveRoots, freeNodes}
 use Rattle.semantics.specs.Core.{Core, actingIn}

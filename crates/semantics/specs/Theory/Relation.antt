@@ -11,8 +11,8 @@ use lib.ListN.{length, getD}
 use Rattle.words.specs.Basics.{none, count, joined}
 use Rattle.sizes.specs.Sizes.{height, treeNodes}
 use Rattle.pool.specs.Pool.{readAt, retain, release, write}
+use Rattle.frames.specs.Deques.{dequeList}
 use Rattle.frames.specs.Frames.{frameAt, freePlace}
-use Rattle.frames.specs.Theory.Lists.{dequeList}
 use Rattle.frames.specs.Theory.Tables.{Formed}
 use Rattle.model.specs.History.{Mark, Event, History}
 use Rattle.model.specs.Machine.{Name, Frame, Machine, live, deque, isChild}

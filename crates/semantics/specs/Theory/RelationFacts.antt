@@ -15,9 +15,9 @@ use Rattle.words.specs.Basics.{joined}
 use Rattle.words.specs.Tests.{true≢false}
 use Rattle.words.specs.Counting.{δ-same, count, count-cons}
 use Rattle.words.specs.Lists.{In-perm}
+use Rattle.frames.specs.Deques.{dequeList}
 use Rattle.frames.specs.declared.Frame.{Frame as Words}
 use Rattle.frames.specs.Frames.{frameAt}
-use Rattle.frames.specs.Theory.Lists.{dequeList}
 use Rattle.model.specs.Machine.{Name, Frame, Machine, live, deque, hasChild}
 use Rattle.semantics.specs.Core.{Core}
 use Rattle.semantics.specs.Theory.Relation.{Trees, TreeLaws, childCount, placesOf, rootOf, rootsOf, Recorded, Relates}

@@ -1,252 +1,332 @@
--- Calls, over any relation `Follows M c` that each step keeps: state, pool and answers follow the plain machine that is fed the
--- same steps, through refused calls, refused records and tapes.
+-- Calls, over any relation `Follows M c` that each record keeps: answers, state and pool follow the machine that is fed the same
+-- records, through refused calls, refused records and tapes.
 use mathlib.Core.Path.{_≡_, refl, sym, ap, ap₂, _∙_, subst}
-use mathlib.Core.Bool.{true, false, cond, not}
+use mathlib.Core.Bool.{Bool, true, false, cond, not}
 use mathlib.Core.Logic.{inl, inr}
-use mathlib.Core.List.{List, [], _∷_, _++_, map}
+use mathlib.Core.List.{List, [], _∷_, _++_}
 use Prim.Native.Nat.{ℕ, zero, suc, _+_, _*_, _/_, _%_, _≤_, _<_}
 use native.Mathlib.Omega.{arith}
-use lib.ListN.{length, getD, set, length-set}
+use lib.ListN.{length, getD, set, drop, length-set, length-append}
 use lib.Seq.{getD-set-same, getD-set-other}
 use lib.Dec.{leb, ltb, eqb}
 use borrow.Author.Tests.{ltb-false}
 use Rattle.words.specs.Tests.{decided, neither}
 use Rattle.sizes.specs.Sizes.{height}
+use Rattle.soundness.specs.declared.Checked.{Checked}
 use Rattle.soundness.specs.declared.Checked.the-variants.{NoRoom, Sound}
-use Rattle.soundness.specs.Soundness.{sound, freeCount, checked, cleared}
-use Rattle.model.specs.declared.Step.{Step}
+use Rattle.soundness.specs.Soundness.{checked, cleared}
 use Rattle.model.specs.declared.Decoded.{Decoded}
 use Rattle.model.specs.declared.Decoded.the-variants.{Valid, Invalid}
-use Rattle.model.specs.Machine.{Machine}
-use Rattle.model.specs.Steps.{step, answer}
-use Rattle.model.specs.Run.{run, answers}
-use Rattle.semantics.specs.declared.Refusal.{Refusal}
+use Rattle.model.specs.Record.{recordOf}
+use Rattle.model.specs.Machine.{Machine, live}
+use Rattle.model.specs.Machine.{freeNodes as plainFree}
+use Rattle.model.specs.Theory.FrameTree.{FrameTree}
+use Rattle.model.specs.Theory.DequeShape.{DequeInvariant}
+use Rattle.model.specs.Theory.FreshMarks.{MarkInvariant}
+use Rattle.model.specs.Theory.Bounds.{Bounded}
 use Rattle.semantics.specs.declared.Refusal.the-variants.{Tape, Work}
 use Rattle.semantics.specs.declared.Answer.{Answer}
-use Rattle.semantics.specs.declared.Answer.the-variants.{Refused}
-use Rattle.semantics.specs.Answers.{answerWords}
-use Rattle.semantics.specs.Core.{Core, stepOn}
-use Rattle.semantics.specs.Entries.{numbersOf, coreOf, stateOf, Entered, entered, stepChecked, enter, recordsOf, putAnswer, Ran, ran, runOn, Played, played, notPlayed, tapeChecked, unfitTape, play}
-use Rattle.semantics.specs.Calls.{HostCall, outside, tape, StateAndPool, afterCall, afterCalls, Told, refusedWhole, toldFrom, toldIf, told, allTold, stepsTold, answersTold}
-use Rattle.semantics.specs.Theory.Words.{step-not-whole}
+use Rattle.semantics.specs.Answers.{answerWords, wordsIn}
+use Rattle.semantics.specs.Core.{Core}
+use Rattle.semantics.specs.Entries.{State, numbersOf, coreOf, stateOf, isSound, checkedState, chainFree, recordOn, OutsideResult, outsideDone, outsideRefused, outsideChecked, outsideWith, outsideOn, recordsOf, putAnswer, RecordsResult, recordsResult, runOn, TapeResult, tapeDone, tapeRefused, tapeChecked, unfitTape, tapeWith, tapeOn}
+use Rattle.semantics.specs.Calls.{HostCall, outside, tape, StateAndPool, afterCall, afterCalls, Exchange, refusedWhole, exchangesFrom, exchangesOf, exchanges, recordsIn, answersIn, freeAfter, coreIn, freeCounts}
+use Rattle.semantics.specs.Demands.{Specification, answersBy, machineBy, Answers}
+use Rattle.semantics.specs.Theory.Relation.{Relates}
+use Rattle.semantics.specs.Theory.Pools.{LiveTrees, Beyond}
+use Rattle.semantics.specs.Theory.FromSoundRelates.{map-append}
+use Rattle.semantics.specs.Theory.Simulation.{numbers-kept}
+use Rattle.semantics.specs.Theory.ToSound.{to-sound}
+use Rattle.semantics.specs.Theory.SoundSteps.{step-beyond}
+use Rattle.semantics.specs.Theory.Lengths.{Fits, fits-true}
+use Rattle.semantics.specs.Theory.Words.{words-low, words-back, not-whole}
+use Rattle.semantics.specs.Theory.RefusedCalls.{length-records, put-long}
 
--- ---- state and core
+-- ---- a core that the machine M follows
 
--- the host holds the core's state and pool
+-- the host has the core's state and pool
 abbrev pub stateAndPool : Core → StateAndPool
 stateAndPool c = record { state = stateOf c; pool = c .pool }
 
-core-back : (c : Core) → c .head .height ≡ height (c .head .numbers .splitters) → coreOf (stateOf c) (c .pool) (c .head .«free_count») ≡ c
-core-back c e = ap (λ (q : ℕ). withHeight q) (sym e)
-  where
-    withHeight : ℕ → Core
-    withHeight q =
-        record {
-          head = record { workers = c .head .numbers .workers; splitters = c .head .numbers .splitters; nodes = c .head .numbers .nodes; free = c .head .numbers .«free_node»; vacant = c .head .numbers .«free_place»; height = q; spare = c .head .«free_count» };
-          deques = c .deques;
-          frames = c .frames;
-          pool = c .pool;
-        }
+-- the nodes on the free chain after a record
+abbrev pub freeLeft : Core → Decoded → ℕ
+freeLeft c d = chainFree (stateOf (recordOn c d .core)) (recordOn c d .core .pool)
 
--- ---- answers and steps told, joined
+pub record Carried (M : Machine) (c : Core) : Type 0 where
+  pub related : Relates (LiveTrees (c .head .numbers .nodes) (M .splitters)) M c
+  pub tree : FrameTree M
+  pub deques : DequeInvariant M
+  pub marks : MarkInvariant (live M)
+  pub bounds : Bounded (M .splitters) (live M)
+  pub same-free : c .head .«free_count» ≡ plainFree M
 
-map-append : {A B : Type 0} (f : A → B) (xs ys : List A) → map f (xs ++ ys) ≡ map f xs ++ map f ys
-map-append f [] ys = refl
-map-append f (x ∷ xs) ys = ap (λ z. f x ∷ z) (map-append f xs ys)
+-- what a relation has to do: each record keeps it, and is answered as S says
+pub record Laws (S : Specification) (Follows : Machine → Core → Type 0) : Type 0 where
+  pub carried : (M : Machine) (c : Core) → Follows M c → Carried M c
+  pub keeps : (M : Machine) (c : Core) (d : Decoded) → Follows M c → Follows (S .after M d (freeLeft c d)) (recordOn c d .core)
+  pub alike : (M : Machine) (c : Core) (d : Decoded) → Follows M c → answerWords (recordOn c d .answer) ≡ S .answers M d (freeLeft c d)
 
-run-append : (M : Machine) (ss ts : List Step) → run M (ss ++ ts) ≡ run (run M ss) ts
-run-append M [] ts = refl
-run-append M (s ∷ ss) ts = run-append (step M s) ss ts
+-- the host's state and pool are those of a core that M follows
+pub record KeptBy (Follows : Machine → Core → Type 0) (h : StateAndPool) (M : Machine) : Type 0 where
+  pub core : Core
+  pub held : h ≡ stateAndPool core
+  pub follows : Follows M core
 
-answers-append : (M : Machine) (ss ts : List Step) → answers M (ss ++ ts) ≡ answers M ss ++ answers (run M ss) ts
-answers-append M [] ts = refl
-answers-append M (s ∷ ss) ts = ap (λ z. answer M s ∷ z) (answers-append (step M s) ss ts)
+module _ {M : Machine} {c : Core} (K : Carried M c) where
+  pub is-sound : (isSound (stateOf c) (c .pool) ≡ true) × (chainFree (stateOf c) (c .pool) ≡ c .head .«free_count»)
+  is-sound = to-sound M c (K .related) (K .tree) (K .deques)
 
-module _ (Follows : Machine → Core → Type 0)
-    (keeps : (M : Machine) (c : Core) (st : Step) → Follows M c → Follows (step M st) (stepOn c st .core))
-    (alike : (M : Machine) (c : Core) (st : Step) → Follows M c → answerWords (stepOn c st .answer) ≡ answer M st)
-    (is-sound : (M : Machine) (c : Core) → Follows M c → (sound (numbersOf (stateOf c)) (c .deques) (c .frames) (c .pool) ≡ true) × (freeCount (numbersOf (stateOf c)) (c .pool) ≡ c .head .«free_count»))
-    (height-is : (M : Machine) (c : Core) → Follows M c → c .head .height ≡ height (c .head .numbers .splitters)) where
-  -- the host's state and pool follow M
-  pub record Kept (h : StateAndPool) (M : Machine) : Type 0 where
-    pub core : Core
-    pub held : h ≡ stateAndPool core
-    pub follows : Follows M core
+  core-fits : Fits (stateOf c)
+  core-fits = record { numbers = refl; deques = K .related .formed .shaped .long; frames = K .related .formed .long }
+
+  -- the engine's words, with the free nodes counted, are the core
+  core-back : coreOf (stateOf c) (c .pool) (c .head .«free_count») ≡ c
+  core-back = ap withHeight (sym (K .related .numbers .height-is ∙ ap height (sym (K .related .numbers .splitters))))
+    where
+      withHeight : ℕ → Core
+      withHeight q = record { head = record { numbers = c .head .numbers; height = q; «free_count» = c .head .«free_count» }; deques = c .deques; frames = c .frames; pool = c .pool }
+
+  core-counted : coreIn (stateAndPool c) ≡ c
+  core-counted = ap (coreOf (stateOf c) (c .pool)) (is-sound .1) ∙ core-back
+
+  record-beyond : (d : Decoded) → Beyond (c .head .numbers .nodes) (c .pool) (recordOn c d .core .pool)
+  record-beyond (Valid st) = step-beyond M c (K .related) (K .tree) (K .deques) (K .same-free) st
+  record-beyond Invalid = (refl, refl)
 
   -- ---- the check
 
-  check-long : (M : Machine) (c : Core) (work : List ℕ) → Follows M c → leb (c .head .numbers .nodes) (length work) ≡ true
-      → checked (numbersOf (stateOf c)) (c .deques) (c .frames) (c .pool) work ≡ Sound (c .head .«free_count»)
+  check-long : (work : List ℕ) → leb (c .head .numbers .nodes) (length work) ≡ true → checkedState (stateOf c) (c .pool) work ≡ Sound (c .head .«free_count»)
   unfolding checked
-  check-long M c work f e = let s = is-sound M c f in rw (e, s .0, s .1)
+  check-long work e = rw (e, is-sound .0, is-sound .1)
 
-  check-short : (c : Core) (work : List ℕ) → leb (c .head .numbers .nodes) (length work) ≡ false → checked (numbersOf (stateOf c)) (c .deques) (c .frames) (c .pool) work ≡ NoRoom
+  check-short : (work : List ℕ) → leb (c .head .numbers .nodes) (length work) ≡ false → checkedState (stateOf c) (c .pool) work ≡ NoRoom
   unfolding checked
-  check-short c work e = rw e
+  check-short work e = rw e
 
   -- ---- a step from outside
 
-  enter-long : (M : Machine) (c : Core) (work : List ℕ) (st : Step) → Follows M c → leb (c .head .numbers .nodes) (length work) ≡ true
-      → enter (stateOf c) (c .pool) work st ≡ entered (stepOn c st) (cleared (c .head .numbers .nodes) work)
-  unfolding enter
-  enter-long M c work st f e = ap (λ k. stepChecked k (stateOf c) (c .pool) work st) (check-long M c work f e) ∙ ap (λ q. entered (stepOn q st) (cleared (c .head .numbers .nodes) work)) (core-back c (height-is M c f))
+  outside-is : (work : List ℕ) (d : Decoded) {k : Checked} → checkedState (stateOf c) (c .pool) work ≡ k → outsideOn (stateOf c) (c .pool) work d ≡ outsideChecked k (stateOf c) (c .pool) work d
+  unfolding outsideOn outsideWith
+  outside-is work d e = rw (fits-true (stateOf c) core-fits, e)
 
-  enter-short : (c : Core) (work : List ℕ) (st : Step) → leb (c .head .numbers .nodes) (length work) ≡ false
-      → enter (stateOf c) (c .pool) work st ≡ record { state = stateOf c; pool = c .pool; work = work; answer = Refused Work }
-  unfolding enter
-  enter-short c work st e = ap (λ k. stepChecked k (stateOf c) (c .pool) work st) (check-short c work e)
-
-  -- what a call leaves and tells, at once
-  abbrev called : StateAndPool → HostCall → StateAndPool × List Told
-  called h k = (afterCall h k, told h k)
-
-  abbrev toldOne : Step → Entered → StateAndPool × List Told
-  toldOne st e = (record { state = e .state; pool = e .pool }, cond (refusedWhole (answerWords (e .answer))) [] ((st, answerWords (e .answer)) ∷ []))
-
-  outside-long : (M : Machine) (c : Core) (st : Step) (work : List ℕ) → Follows M c → leb (c .head .numbers .nodes) (length work) ≡ true
-      → called (stateAndPool c) (outside st work) ≡ (stateAndPool (stepOn c st .core), (st, answer M st) ∷ [])
-  outside-long M c st work f e =
-      ap (toldOne st) (enter-long M c work st f e)
-      ∙ ap (λ b. (stateAndPool (stepOn c st .core), cond b [] ((st, answerWords (stepOn c st .answer)) ∷ []))) (step-not-whole c st)
-      ∙ ap (λ a. (stateAndPool (stepOn c st .core), (st, a) ∷ [])) (alike M c st f)
-
-  outside-short : (c : Core) (st : Step) (work : List ℕ) → leb (c .head .numbers .nodes) (length work) ≡ false → called (stateAndPool c) (outside st work) ≡ (stateAndPool c, [])
-  outside-short c st work e = ap (toldOne st) (enter-short c work st e)
-
-  -- with a long enough work slice the step is fed
-  pub outside-fed : (M : Machine) (c : Core) (st : Step) (work : List ℕ) → Follows M c → leb (c .head .numbers .nodes) (length work) ≡ true → told (stateAndPool c) (outside st work) ≡ (st, answer M st) ∷ []
-  outside-fed M c st work f e = ap (λ p. p .1) (outside-long M c st work f e)
-
-  -- ---- a tape's records
-
-  -- the records that are steps
-  abbrev valids : List Decoded → List Step
-  valids [] = []
-  valids (Valid st ∷ ds) = st ∷ valids ds
-  valids (Invalid ∷ ds) = valids ds
-
-  steps-from : (answers : List ℕ) (k : ℕ) (ds : List Decoded) → stepsTold (toldFrom answers k ds) ≡ valids ds
-  steps-from as′ k [] = refl
-  steps-from as′ k (Valid st ∷ ds) = ap (λ z. st ∷ z) (steps-from as′ (k + 2) ds)
-  steps-from as′ k (Invalid ∷ ds) = steps-from as′ (k + 2) ds
-
-  record RanFrom (M : Machine) (as′ : List ℕ) (k : ℕ) (ds : List Decoded) (r : Ran) : Type 0 where
-    follows : Follows (run M (valids ds)) (r .core)
-    long : length (r .answers) ≡ length as′
-    before : (j : ℕ) → j < k → getD (r .answers) j 0 ≡ getD as′ j 0
-    same : answersTold (toldFrom (r .answers) k ds) ≡ answers M (valids ds)
-
-  put-long : (as′ : List ℕ) (k : ℕ) (a : Answer) → length (putAnswer as′ k a) ≡ length as′
-  put-long as′ k a = simp length-set
-
-  put-before : (as′ : List ℕ) (k j : ℕ) (a : Answer) → j < k → getD (putAnswer as′ k a) j 0 ≡ getD as′ j 0
-  put-before as′ k j a h = getD-set-other (set as′ k (answerWords a .0)) (suc k) j (answerWords a .1) 0 (omega arith) ∙ getD-set-other as′ k j (answerWords a .0) 0 (omega arith)
-
-  put-first : (as′ : List ℕ) (k : ℕ) (a : Answer) → suc k < length as′ → getD (putAnswer as′ k a) k 0 ≡ answerWords a .0
-  put-first as′ k a h = getD-set-other (set as′ k (answerWords a .0)) (suc k) k (answerWords a .1) 0 (omega arith) ∙ getD-set-same as′ k (answerWords a .0) 0 (omega arith)
-
-  put-second : (as′ : List ℕ) (k : ℕ) (a : Answer) → suc k < length as′ → getD (putAnswer as′ k a) (suc k) 0 ≡ answerWords a .1
-  put-second as′ k a h = getD-set-same (set as′ k (answerWords a .0)) (suc k) (answerWords a .1) 0 (omega (arith, length-set as′ k (answerWords a .0)))
-
-  runs-from : (ds : List Decoded) (M : Machine) (c : Core) (as′ : List ℕ) (k : ℕ) → Follows M c → k + 2 * length ds ≤ length as′ → RanFrom M as′ k ds (runOn (ran c as′) k ds)
-  unfolding runOn
-  runs-from [] M c as′ k f h = record { follows = f; long = refl; before = λ j b. refl; same = refl }
-  runs-from (Valid st ∷ ds) M c as′ k f h =
-      let a = stepOn c st .answer in
-      let R = runs-from ds (step M st) (stepOn c st .core) (putAnswer as′ k a) (k + 2) (keeps M c st f) (omega (arith, put-long as′ k a)) in
-      let fst = R .before k (omega arith) ∙ put-first as′ k a (omega arith) ∙ ap (λ p. p .0) (alike M c st f) in
-      let snd = R .before (suc k) (omega arith) ∙ put-second as′ k a (omega arith) ∙ ap (λ p. p .1) (alike M c st f) in
-      record {
-        follows = R .follows;
-        long = R .long ∙ put-long as′ k a;
-        before = λ j b. R .before j (omega arith) ∙ put-before as′ k j a b;
-        same = λ i. (fst i, snd i) ∷ R .same i;
-      }
-  runs-from (Invalid ∷ ds) M c as′ k f h =
-      let a = Refused Refusal.Record in
-      let R = runs-from ds M c (putAnswer as′ k a) (k + 2) f (omega (arith, put-long as′ k a)) in
-      record {
-        follows = R .follows;
-        long = R .long ∙ put-long as′ k a;
-        before = λ j b. R .before j (omega arith) ∙ put-before as′ k j a b;
-        same = R .same;
-      }
+  outside-done : (work : List ℕ) (d : Decoded) → leb (c .head .numbers .nodes) (length work) ≡ true → outsideOn (stateOf c) (c .pool) work d ≡ outsideDone (recordOn c d) (cleared (c .head .numbers .nodes) work)
+  outside-done work d e = outside-is work d (check-long work e) ∙ ap (λ (q : Core). outsideDone (recordOn q d) (cleared (c .head .numbers .nodes) work)) core-back
 
   -- ---- a tape
 
-  length-records : (k : ℕ) (bytes : List ℕ) (at : ℕ) → length (Rattle.semantics.specs.Entries.recordsFrom k bytes at) ≡ k
-  unfolding Rattle.semantics.specs.Entries.recordsFrom
-  length-records zero bytes at = refl
-  length-records (suc k) bytes at = ap suc (length-records k bytes (at + 8))
+  tape-is : (bytes work as′ : List ℕ) → unfitTape bytes as′ ≡ false → {k : Checked} → checkedState (stateOf c) (c .pool) work ≡ k
+      → tapeOn (stateOf c) (c .pool) work bytes as′ ≡ tapeChecked k (stateOf c) (c .pool) work bytes as′
+  unfolding tapeOn tapeWith
+  tape-is bytes work as′ t e = rw (fits-true (stateOf c) core-fits, t, e)
 
-  abbrev toldPlay : List ℕ → Played → StateAndPool × List Told
-  toldPlay bytes p = (record { state = p .state; pool = p .pool }, toldIf (p .call) (toldFrom (p .answers) 0 (recordsOf bytes)))
+  tape-unfit : (bytes work as′ : List ℕ) → unfitTape bytes as′ ≡ true → tapeOn (stateOf c) (c .pool) work bytes as′ ≡ tapeRefused (stateOf c) (c .pool) work as′ Tape
+  unfolding tapeOn tapeWith
+  tape-unfit bytes work as′ t = rw (fits-true (stateOf c) core-fits, t)
 
-  unfit-play : (c : Core) (bytes work as′ : List ℕ) → unfitTape bytes as′ ≡ true → play (stateOf c) (c .pool) work bytes as′ ≡ notPlayed (stateOf c) (c .pool) work as′ Tape
-  unfolding play
-  unfit-play c bytes work as′ e = rw e
+  tape-done : (bytes work as′ : List ℕ) → unfitTape bytes as′ ≡ false → leb (c .head .numbers .nodes) (length work) ≡ true
+      → tapeOn (stateOf c) (c .pool) work bytes as′ ≡ tapeDone (runOn (recordsResult c as′) 0 (recordsOf bytes)) (cleared (c .head .numbers .nodes) work)
+  tape-done bytes work as′ t e =
+      tape-is bytes work as′ t (check-long work e) ∙ ap (λ (q : Core). tapeDone (runOn (recordsResult q as′) 0 (recordsOf bytes)) (cleared (c .head .numbers .nodes) work)) core-back
 
-  fit-play : (c : Core) (bytes work as′ : List ℕ) → unfitTape bytes as′ ≡ false
-      → play (stateOf c) (c .pool) work bytes as′ ≡ tapeChecked (checked (numbersOf (stateOf c)) (c .deques) (c .frames) (c .pool) work) (stateOf c) (c .pool) work bytes as′
-  unfolding play
-  fit-play c bytes work as′ e = rw e
+record-nodes : (c : Core) (d : Decoded) → recordOn c d .core .head .numbers .nodes ≡ c .head .numbers .nodes
+record-nodes c (Valid st) = numbers-kept c st .nodes
+record-nodes c Invalid = refl
 
-  play-unfit : (c : Core) (bytes work as′ : List ℕ) → unfitTape bytes as′ ≡ true → called (stateAndPool c) (tape bytes work as′) ≡ (stateAndPool c, [])
-  play-unfit c bytes work as′ e = ap (toldPlay bytes) (unfit-play c bytes work as′ e)
+-- ---- what a call leaves and tells, at once
 
-  play-short : (c : Core) (bytes work as′ : List ℕ) → unfitTape bytes as′ ≡ false → leb (c .head .numbers .nodes) (length work) ≡ false → called (stateAndPool c) (tape bytes work as′) ≡ (stateAndPool c, [])
-  play-short c bytes work as′ e s = ap (toldPlay bytes) (fit-play c bytes work as′ e ∙ ap (λ k. tapeChecked k (stateOf c) (c .pool) work bytes as′) (check-short c work s))
+abbrev called : StateAndPool → HostCall → StateAndPool × List Exchange
+called h k = (afterCall h k, exchangesOf h k)
 
-  play-long : (M : Machine) (c : Core) (bytes work as′ : List ℕ) → Follows M c → unfitTape bytes as′ ≡ false → leb (c .head .numbers .nodes) (length work) ≡ true
-      → called (stateAndPool c) (tape bytes work as′)
-      ≡ (stateAndPool (runOn (ran c as′) 0 (recordsOf bytes) .core), toldFrom (runOn (ran c as′) 0 (recordsOf bytes) .answers) 0 (recordsOf bytes))
-  play-long M c bytes work as′ f e s =
-      ap (toldPlay bytes) (fit-play c bytes work as′ e ∙ ap (λ k. tapeChecked k (stateOf c) (c .pool) work bytes as′) (check-long M c work f s)
-      ∙ ap (λ q. played (runOn (ran q as′) 0 (recordsOf bytes)) (cleared (c .head .numbers .nodes) work)) (core-back c (height-is M c f)))
+abbrev outsideTold : Decoded → OutsideResult → StateAndPool × List Exchange
+outsideTold d o = (record { state = o .state; pool = o .pool }, cond (refusedWhole (wordsIn (o .result))) [] ((d, wordsIn (o .result)) ∷ []))
+
+abbrev tapeTold : List ℕ → TapeResult → StateAndPool × List Exchange
+tapeTold bytes o = (record { state = o .state; pool = o .pool }, cond (eqb (o .result) 0) (exchangesFrom (o .answers) 0 (recordsOf bytes)) [])
+
+module _ {M : Machine} {c : Core} (K : Carried M c) where
+  pub outside-long : (kind worker field value : ℕ) (work : List ℕ) → leb (c .head .numbers .nodes) (length work) ≡ true
+      → let d = recordOf kind worker field value in called (stateAndPool c) (outside kind worker field value work) ≡ (stateAndPool (recordOn c d .core), (d, answerWords (recordOn c d .answer)) ∷ [])
+  outside-long kind worker field value work e =
+      let d : Decoded = recordOf kind worker field value in
+      let a : Answer = recordOn c d .answer in
+      ap (outsideTold d) (outside-done K work d e)
+      ∙ ap (λ (w : ℕ × ℕ). (stateAndPool (recordOn c d .core), cond (refusedWhole w) [] ((d, w) ∷ []))) (words-back (answerWords a) (words-low a))
+      ∙ ap (λ (b : Bool). (stateAndPool (recordOn c d .core), cond b [] ((d, answerWords a) ∷ []))) (not-whole c d)
+
+  outside-short : (kind worker field value : ℕ) (work : List ℕ) → leb (c .head .numbers .nodes) (length work) ≡ false → called (stateAndPool c) (outside kind worker field value work) ≡ (stateAndPool c, [])
+  outside-short kind worker field value work e = let d : Decoded = recordOf kind worker field value in ap (outsideTold d) (outside-is K work d (check-short K work e))
+
+  tape-long : (bytes work as′ : List ℕ) → unfitTape bytes as′ ≡ false → leb (c .head .numbers .nodes) (length work) ≡ true
+      → let r = runOn (recordsResult c as′) 0 (recordsOf bytes) in called (stateAndPool c) (tape bytes work as′) ≡ (stateAndPool (r .core), exchangesFrom (r .answers) 0 (recordsOf bytes))
+  tape-long bytes work as′ t e = ap (tapeTold bytes) (tape-done K bytes work as′ t e)
+
+  tape-short : (bytes work as′ : List ℕ) → unfitTape bytes as′ ≡ false → leb (c .head .numbers .nodes) (length work) ≡ false → called (stateAndPool c) (tape bytes work as′) ≡ (stateAndPool c, [])
+  tape-short bytes work as′ t e = ap (tapeTold bytes) (tape-is K bytes work as′ t (check-short K work e))
+
+  tape-not : (bytes work as′ : List ℕ) → unfitTape bytes as′ ≡ true → called (stateAndPool c) (tape bytes work as′) ≡ (stateAndPool c, [])
+  tape-not bytes work as′ t = ap (tapeTold bytes) (tape-unfit K bytes work as′ t)
+
+-- ---- the answer words of a tape
+
+records-from : (as′ : List ℕ) (k : ℕ) (ds : List Decoded) → recordsIn (exchangesFrom as′ k ds) ≡ ds
+records-from as′ k [] = refl
+records-from as′ k (d ∷ ds) = ap (λ z. d ∷ z) (records-from as′ (k + 2) ds)
+
+put-before : (as′ : List ℕ) (k j : ℕ) (a : Answer) → j < k → getD (putAnswer as′ k a) j 0 ≡ getD as′ j 0
+put-before as′ k j a h = getD-set-other (set as′ k (answerWords a .0)) (suc k) j (answerWords a .1) 0 (omega arith) ∙ getD-set-other as′ k j (answerWords a .0) 0 (omega arith)
+
+put-first : (as′ : List ℕ) (k : ℕ) (a : Answer) → suc k < length as′ → getD (putAnswer as′ k a) k 0 ≡ answerWords a .0
+put-first as′ k a h = getD-set-other (set as′ k (answerWords a .0)) (suc k) k (answerWords a .1) 0 (omega arith) ∙ getD-set-same as′ k (answerWords a .0) 0 (omega arith)
+
+put-second : (as′ : List ℕ) (k : ℕ) (a : Answer) → suc k < length as′ → getD (putAnswer as′ k a) (suc k) 0 ≡ answerWords a .1
+put-second as′ k a h = getD-set-same (set as′ k (answerWords a .0)) (suc k) (answerWords a .1) 0 (omega (arith, length-set as′ k (answerWords a .0)))
+
+-- ---- lists joined
+
+length-free : (ds : List Decoded) (c : Core) → length (freeAfter c ds) ≡ length ds
+length-free [] c = refl
+length-free (d ∷ ds) c = ap suc (length-free ds (recordOn c d .core))
+
+beyond-then : (N : ℕ) (a b c : List ℕ) → Beyond N a b → Beyond N b c → Beyond N a c
+beyond-then N a b c x y = (y .0 ∙ x .0, y .1 ∙ x .1)
+
+module _ (S : Specification) where
+  -- a list of records with as many numbers of free nodes, and another
+  answers-append : (ds : List Decoded) (ks : List ℕ) (M : Machine) (ds′ : List Decoded) (ks′ : List ℕ) → length ks ≡ length ds
+      → answersBy S M (ds ++ ds′) (ks ++ ks′) ≡ answersBy S M ds ks ++ answersBy S (machineBy S M ds ks) ds′ ks′
+  answers-append [] [] M ds′ ks′ l = refl
+  answers-append [] (k ∷ ks) M ds′ ks′ l = absurd (omega arith)
+  answers-append (d ∷ ds) [] M ds′ ks′ l = absurd (omega arith)
+  answers-append (d ∷ ds) (k ∷ ks) M ds′ ks′ l = ap (λ z. S .answers M d k ∷ z) (answers-append ds ks (S .after M d k) ds′ ks′ (omega arith))
+
+  machine-append : (ds : List Decoded) (ks : List ℕ) (M : Machine) (ds′ : List Decoded) (ks′ : List ℕ) → length ks ≡ length ds
+      → machineBy S M (ds ++ ds′) (ks ++ ks′) ≡ machineBy S (machineBy S M ds ks) ds′ ks′
+  machine-append [] [] M ds′ ks′ l = refl
+  machine-append [] (k ∷ ks) M ds′ ks′ l = absurd (omega arith)
+  machine-append (d ∷ ds) [] M ds′ ks′ l = absurd (omega arith)
+  machine-append (d ∷ ds) (k ∷ ks) M ds′ ks′ l = machine-append ds ks (S .after M d k) ds′ ks′ (omega arith)
+
+-- ---- a run
+
+-- from h to h′, with the exchanges es and the numbers ks of nodes on the chain
+pub record Ran (S : Specification) (Follows : Machine → Core → Type 0) (M : Machine) (h h′ : StateAndPool) (es : List Exchange) (ks : List ℕ) : Type 0 where
+  pub long : length ks ≡ length (recordsIn es)
+  pub kept : KeptBy Follows h′ (machineBy S M (recordsIn es) ks)
+  pub same : answersIn es ≡ answersBy S M (recordsIn es) ks
+  pub nodes : numbersOf (h′ .state) .nodes ≡ numbersOf (h .state) .nodes
+  pub beyond : Beyond (numbersOf (h .state) .nodes) (h .pool) (h′ .pool)
+
+module _ (S : Specification) (Follows : Machine → Core → Type 0) (L : Laws S Follows) where
+  ran-then : (M : Machine) (h h₁ h₂ : StateAndPool) (es es₁ : List Exchange) (ks ks₁ : List ℕ) → Ran S Follows M h h₁ es ks → Ran S Follows (machineBy S M (recordsIn es) ks) h₁ h₂ es₁ ks₁
+      → Ran S Follows M h h₂ (es ++ es₁) (ks ++ ks₁)
+  ran-then M h h₁ h₂ es es₁ ks ks₁ A B =
+      let e : recordsIn (es ++ es₁) ≡ recordsIn es ++ recordsIn es₁ = map-append (λ (t : Exchange). t .0) es es₁ in
+      record {
+        long = omega (arith, length-append ks ks₁, ap length e, length-append (recordsIn es) (recordsIn es₁), A .long, B .long);
+        kept = subst (KeptBy Follows h₂) (sym (ap (λ z. machineBy S M z (ks ++ ks₁)) e ∙ machine-append S (recordsIn es) ks M (recordsIn es₁) ks₁ (A .long))) (B .kept);
+        same = map-append (λ (t : Exchange). t .1) es es₁ ∙ ap₂ _++_ (A .same) (B .same) ∙ sym (ap (λ z. answersBy S M z (ks ++ ks₁)) e ∙ answers-append S (recordsIn es) ks M (recordsIn es₁) ks₁ (A .long));
+        nodes = B .nodes ∙ A .nodes;
+        beyond = beyond-then (numbersOf (h .state) .nodes) (h .pool) (h₁ .pool) (h₂ .pool) (A .beyond) (subst (λ N. Beyond N (h₁ .pool) (h₂ .pool)) (A .nodes) (B .beyond));
+      }
+
+  -- ---- the records of a tape
+
+  record RanOn (M : Machine) (c : Core) (as′ : List ℕ) (k : ℕ) (ds : List Decoded) (r : RecordsResult) : Type 0 where
+    follows : Follows (machineBy S M ds (freeAfter c ds)) (r .core)
+    before : (j : ℕ) → j < k → getD (r .answers) j 0 ≡ getD as′ j 0
+    same : answersIn (exchangesFrom (r .answers) k ds) ≡ answersBy S M ds (freeAfter c ds)
+    nodes : r .core .head .numbers .nodes ≡ c .head .numbers .nodes
+    beyond : Beyond (c .head .numbers .nodes) (c .pool) (r .core .pool)
+
+  runs-on : (ds : List Decoded) (M : Machine) (c : Core) (as′ : List ℕ) (k : ℕ) → Follows M c → k + 2 * length ds ≤ length as′ → RanOn M c as′ k ds (runOn (recordsResult c as′) k ds)
+  unfolding runOn
+  runs-on [] M c as′ k f h = record { follows = f; before = λ j b. refl; same = refl; nodes = refl; beyond = (refl, refl) }
+  runs-on (d ∷ ds) M c as′ k f h =
+      let a = recordOn c d .answer in
+      let c₁ = recordOn c d .core in
+      let R = runs-on ds (S .after M d (freeLeft c d)) c₁ (putAnswer as′ k a) (k + 2) (L .keeps M c d f) (omega (arith, put-long as′ k a)) in
+      let fst = R .before k (omega arith) ∙ put-first as′ k a (omega arith) ∙ ap (λ p. p .0) (L .alike M c d f) in
+      let snd = R .before (suc k) (omega arith) ∙ put-second as′ k a (omega arith) ∙ ap (λ p. p .1) (L .alike M c d f) in
+      record {
+        follows = R .follows;
+        before = λ j b. R .before j (omega arith) ∙ put-before as′ k j a b;
+        same = λ i. (fst i, snd i) ∷ R .same i;
+        nodes = R .nodes ∙ record-nodes c d;
+        beyond = beyond-then (c .head .numbers .nodes) (c .pool) (c₁ .pool) (runOn (recordsResult c₁ (putAnswer as′ k a)) (k + 2) ds .core .pool) (record-beyond (L .carried M c f) d)
+            (subst (λ N. Beyond N (c₁ .pool) (runOn (recordsResult c₁ (putAnswer as′ k a)) (k + 2) ds .core .pool)) (record-nodes c d) (R .beyond));
+      }
 
   -- ---- a call, and calls
 
-  -- h′ and ts are what a call leaves and tells
-  pub record Follows-call (M : Machine) (h : StateAndPool) (ts : List Told) : Type 0 where
-    pub kept : Kept h (run M (stepsTold ts))
-    pub same : answersTold ts ≡ answers M (stepsTold ts)
+  module _ (M : Machine) (c : Core) (f : Follows M c) where
+    -- what a call leaves and tells, from the core c
+    abbrev RanFrom : StateAndPool × List Exchange → Type 0
+    RanFrom p = Ran S Follows M (stateAndPool c) (p .0) (p .1) (freeAfter c (recordsIn (p .1)))
 
-  still : (M : Machine) (c : Core) → Follows M c → Follows-call M (stateAndPool c) []
-  still M c f = record { kept = record { core = c; held = refl; follows = f }; same = refl }
+    still : RanFrom (stateAndPool c, [])
+    still = record { long = refl; kept = record { core = c; held = refl; follows = f }; same = refl; nodes = refl; beyond = (refl, refl) }
 
-  call-at : (M : Machine) (c : Core) (k : HostCall) → Follows M c → Follows-call M (called (stateAndPool c) k .0) (called (stateAndPool c) k .1)
-  call-at M c (outside st work) f = elim (decided (leb (c .head .numbers .nodes) (length work))) [
-    | inl e ↦ subst (λ p. Follows-call M (p .0) (p .1)) (sym (outside-long M c st work f e)) (record { kept = record { core = stepOn c st .core; held = refl; follows = keeps M c st f }; same = refl })
-    | inr e ↦ subst (λ p. Follows-call M (p .0) (p .1)) (sym (outside-short c st work e)) (still M c f)
-  ]
-  call-at M c (tape bytes work as′) f = elim (decided (unfitTape bytes as′)) [
-    | inl e ↦ subst (λ p. Follows-call M (p .0) (p .1)) (sym (play-unfit c bytes work as′ e)) (still M c f)
-    | inr e ↦ elim (decided (leb (c .head .numbers .nodes) (length work))) [
-      | inl s ↦
-          let room = ltb-false (length as′) (2 * (length bytes / 8)) (neither (not (eqb (length bytes % 8) 0)) (ltb (length as′) (2 * (length bytes / 8))) e .1) in
-          let R = runs-from (recordsOf bytes) M c as′ 0 f (omega (arith, length-records (length bytes / 8) bytes 0)) in
-          let r = runOn (ran c as′) 0 (recordsOf bytes) in
-          let v = steps-from (r .answers) 0 (recordsOf bytes) in
-          subst (λ p. Follows-call M (p .0) (p .1)) (sym (play-long M c bytes work as′ f e s))
-          (record {
-            kept = record { core = r .core; held = refl; follows = subst (λ z. Follows (run M z) (r .core)) (sym v) (R .follows) };
-            same = R .same ∙ ap (answers M) (sym v);
-          })
-      | inr s ↦ subst (λ p. Follows-call M (p .0) (p .1)) (sym (play-short c bytes work as′ e s)) (still M c f)
+    one : (d : Decoded) → RanFrom (stateAndPool (recordOn c d .core), (d, answerWords (recordOn c d .answer)) ∷ [])
+    one d = record {
+      long = refl;
+      kept = record { core = recordOn c d .core; held = refl; follows = L .keeps M c d f };
+      same = ap (λ (w : ℕ × ℕ). w ∷ []) (L .alike M c d f);
+      nodes = record-nodes c d;
+      beyond = record-beyond (L .carried M c f) d;
+    }
+
+    all-records : (ds : List Decoded) (as′ : List ℕ) → 2 * length ds ≤ length as′ → let r = runOn (recordsResult c as′) 0 ds in RanFrom (stateAndPool (r .core), exchangesFrom (r .answers) 0 ds)
+    all-records ds as′ room =
+        let r = runOn (recordsResult c as′) 0 ds in
+        let R = runs-on ds M c as′ 0 f (omega (arith, room)) in
+        let v = sym (records-from (r .answers) 0 ds) in
+        record {
+          long = length-free (recordsIn (exchangesFrom (r .answers) 0 ds)) c;
+          kept = record { core = r .core; held = refl; follows = subst (λ z. Follows (machineBy S M z (freeAfter c z)) (r .core)) v (R .follows) };
+          same = R .same ∙ ap (λ z. answersBy S M z (freeAfter c z)) v;
+          nodes = R .nodes;
+          beyond = R .beyond;
+        }
+
+    call-at : (k : HostCall) → RanFrom (called (stateAndPool c) k)
+    call-at (outside kind worker field value work) = elim (decided (leb (c .head .numbers .nodes) (length work))) [
+      | inl e ↦ subst RanFrom (sym (outside-long (L .carried M c f) kind worker field value work e)) (one (recordOf kind worker field value))
+      | inr e ↦ subst RanFrom (sym (outside-short (L .carried M c f) kind worker field value work e)) still
     ]
-  ]
+    call-at (tape bytes work as′) = elim (decided (unfitTape bytes as′)) [
+      | inl t ↦ subst RanFrom (sym (tape-not (L .carried M c f) bytes work as′ t)) still
+      | inr t ↦ elim (decided (leb (c .head .numbers .nodes) (length work))) [
+        | inl e ↦
+            let room = ltb-false (length as′) (2 * (length bytes / 8)) (neither (not (eqb (length bytes % 8) 0)) (ltb (length as′) (2 * (length bytes / 8))) t .1) in
+            subst RanFrom (sym (tape-long (L .carried M c f) bytes work as′ t e)) (all-records (recordsOf bytes) as′ (omega (arith, room, length-records (length bytes / 8) bytes 0)))
+        | inr e ↦ subst RanFrom (sym (tape-short (L .carried M c f) bytes work as′ t e)) still
+      ]
+    ]
 
-  pub call-follows : (M : Machine) (h : StateAndPool) (k : HostCall) → Kept h M → Follows-call M (afterCall h k) (told h k)
-  call-follows M h k K = subst (λ q. Follows-call M (afterCall q k) (told q k)) (sym (K .held)) (call-at M (K .core) k (K .follows))
+  pub call-follows : (M : Machine) (h : StateAndPool) (k : HostCall) → KeptBy Follows h M → Ran S Follows M h (afterCall h k) (exchangesOf h k) (freeAfter (coreIn h) (recordsIn (exchangesOf h k)))
+  call-follows M h k K =
+      let c = K .core in
+      subst (λ q. Ran S Follows M q (afterCall q k) (exchangesOf q k) (freeAfter (coreIn q) (recordsIn (exchangesOf q k)))) (sym (K .held))
+      (subst (λ b. Ran S Follows M (stateAndPool c) (afterCall (stateAndPool c) k) (exchangesOf (stateAndPool c) k) (freeAfter b (recordsIn (exchangesOf (stateAndPool c) k)))) (sym (core-counted (L .carried M c (K .follows))))
+      (call-at M c (K .follows) k))
 
-  pub calls-follow : (cs : List HostCall) (M : Machine) (h : StateAndPool) → Kept h M → Follows-call M (afterCalls h cs) (allTold h cs)
-  calls-follow [] M h K = record { kept = K; same = refl }
+  pub calls-follow : (cs : List HostCall) (M : Machine) (h : StateAndPool) → KeptBy Follows h M → Ran S Follows M h (afterCalls h cs) (exchanges h cs) (freeCounts h cs)
+  calls-follow [] M h K = record { long = refl; kept = K; same = refl; nodes = refl; beyond = (refl, refl) }
   calls-follow (k ∷ cs) M h K =
       let A = call-follows M h k K in
-      let B = calls-follow cs (run M (stepsTold (told h k))) (afterCall h k) (A .kept) in
-      let e = map-append (λ (t : Told). t .0) (told h k) (allTold (afterCall h k) cs) in
+      let ks = freeAfter (coreIn h) (recordsIn (exchangesOf h k)) in
+      ran-then M h (afterCall h k) (afterCalls (afterCall h k) cs) (exchangesOf h k) (exchanges (afterCall h k) cs) ks (freeCounts (afterCall h k) cs) A
+      (calls-follow cs (machineBy S M (recordsIn (exchangesOf h k)) ks) (afterCall h k) (A .kept))
+
+  pub answers-by : (M : Machine) (h : StateAndPool) (calls : List HostCall) → KeptBy Follows h M → Answers S M h calls
+  answers-by M h calls K =
+      let R = calls-follow calls M h K in
+      let E = R .kept in
+      let C = L .carried _ (E .core) (E .follows) in
+      let s = is-sound C in
       record {
-        kept = subst (λ z. Kept (afterCalls (afterCall h k) cs) z) (sym (ap (run M) e ∙ run-append M (stepsTold (told h k)) (stepsTold (allTold (afterCall h k) cs)))) (B .kept);
-        same = map-append (λ (t : Told). t .1) (told h k) (allTold (afterCall h k) cs) ∙ ap₂ _++_ (A .same) (B .same)
-            ∙ sym (ap (answers M) e ∙ answers-append M (stepsTold (told h k)) (stepsTold (allTold (afterCall h k) cs)));
+        same-answers = R .same;
+        same-free = ap (λ (q : StateAndPool). chainFree (q .state) (q .pool)) (E .held) ∙ s .1 ∙ C .same-free;
+        still-sound = ap (λ (q : StateAndPool). isSound (q .state) (q .pool)) (E .held) ∙ s .0;
+        same-length = R .beyond .0;
+        beyond = R .beyond .1;
       }

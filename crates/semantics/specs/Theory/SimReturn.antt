@@ -16,12 +16,12 @@ use Rattle.words.specs.Tests.{decided, both, true→T, true≢false}
 use Rattle.words.specs.Lists.{In-perm, joined-set}
 use Rattle.words.specs.Distinct.{same-eq, same-ne, same-refl, same-differ}
 use Rattle.words.specs.Counting.{δ-other, count, count-cons, hit, miss}
+use Rattle.frames.specs.Deques.{dequeList}
 use Rattle.frames.specs.declared.Frame.{Frame as FrameWords}
 use Rattle.frames.specs.declared.Returned.{Returned}
 use Rattle.frames.specs.declared.Returned.the-variants.{Continued, Idle, Resumed}
 use Rattle.frames.specs.Frames.{frameAt, withoutChild, withSuspended}
 use Rattle.frames.specs.Steps.{Table, resumes, returned, returnedNumber}
-use Rattle.frames.specs.Theory.Lists.{dequeList}
 use Rattle.frames.specs.Theory.Tables.{After}
 use Rattle.frames.specs.Theory.Summary.{Finishes, Returns, return-finishes as finishes, return-stays as returns, return-resumes as resumes-parent}
 use Rattle.model.specs.Machine.{Name, Frame, Machine, live, deque, withDeque, isEmpty, isChild, hasChild, named, notNamed}

@@ -16,11 +16,11 @@ use Rattle.words.specs.Distinct.{same-refl, same-differ}
 use Rattle.words.specs.Counting.{δ-same, count, count-cons, hit, miss}
 use Rattle.sizes.specs.Sizes.{height}
 use Rattle.pool.specs.Pool.{readAt, retain}
+use Rattle.frames.specs.Deques.{dequeList}
 use Rattle.frames.specs.declared.Frame.{Frame as FrameWords}
 use Rattle.frames.specs.Frames.{frameAt, freePlace, childOf, withChild}
 use Rattle.frames.specs.Steps.{Table, spawn as spawnTable}
 use Rattle.frames.specs.Theory.Cells.{plus-one}
-use Rattle.frames.specs.Theory.Lists.{dequeList}
 use Rattle.frames.specs.Theory.Tables.{Formed}
 use Rattle.frames.specs.Theory.Summary.{Spawned, spawn-does as spawned-table}
 use Rattle.model.specs.Machine.{Name, Frame, Machine, live, deque, withDeque, hasChild}

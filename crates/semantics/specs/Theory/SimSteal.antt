@@ -11,9 +11,9 @@ use lib.Seq.{getD-set-same, getD-set-other}
 use Rattle.words.specs.Basics.{joined}
 use Rattle.words.specs.Lists.{In-perm}
 use Rattle.frames.specs.Frames.{frameAt}
-use Rattle.frames.specs.Deques.{top as topPlace}
+use Rattle.frames.specs.Deques.{top as topPlace, dequeList}
 use Rattle.frames.specs.Steps.{steal}
-use Rattle.frames.specs.Theory.Lists.{front, last, dequeList, list-length, list-top}
+use Rattle.frames.specs.Theory.Lists.{front, last, list-length, list-top}
 use Rattle.frames.specs.Theory.Summary.{Stolen, steal-does}
 use Rattle.model.specs.Machine.{Name, Frame, Machine, live, deque, top, belowTop}
 use Rattle.model.specs.Steps.{stealing, afterSteal, afterTurn, turnAnswer, stolenDepth}

@@ -17,8 +17,7 @@ use Rattle.sizes.specs.Sizes.{height, treeNodes}
 use Rattle.pool.specs.Pool.{readAt, initPool}
 use Rattle.pool.specs.Theory.Good.{After, good-start}
 use Rattle.frames.specs.Frames.{frameAt, mainFrame, initFrames}
-use Rattle.frames.specs.Deques.{initDeques}
-use Rattle.frames.specs.Theory.Lists.{dequeList}
+use Rattle.frames.specs.Deques.{initDeques, dequeList}
 use Rattle.frames.specs.Theory.Start.{length-init, init-main, init-free, init-places, init-shaped, init-first, init-others}
 use Rattle.model.specs.Machine.{Frame, live, deque, main, start}
 use Rattle.model.specs.Theory.Effects.{live-start}

@@ -8,8 +8,7 @@ use native.Mathlib.Omega.{arith}
 use native.Mathlib.Decide.{ℕ-discrete}
 use lib.ListN.{length, List·getD-eq-default}
 use Rattle.frames.specs.Frames.{frameAt}
-use Rattle.frames.specs.Deques.{size, place}
-use Rattle.frames.specs.Theory.Lists.{placesTo, dequeList}
+use Rattle.frames.specs.Deques.{size, place, dequeList, placesTo}
 use Rattle.model.specs.Machine.{Name, Frame, Machine, live, deque}
 use Rattle.model.specs.Theory.FrameTree.{FrameTree}
 use Rattle.model.specs.Theory.DequeShape.{Linked, OnlyChild, nothing, DequeInvariant}

@@ -15,8 +15,8 @@ use Rattle.words.specs.Tests.{true≢false, decided}
 use Rattle.words.specs.Counting.{count-nil, count-cons, hit, miss, sum-cong}
 use Rattle.words.specs.Distinct.{same-eq, same-ne}
 use Rattle.frames.specs.Frames.{frameAt, freePlace}
-use Rattle.frames.specs.Deques.{size}
-use Rattle.frames.specs.Theory.Lists.{dequeList, list-length}
+use Rattle.frames.specs.Deques.{size, dequeList}
+use Rattle.frames.specs.Theory.Lists.{list-length}
 use Rattle.pool.specs.Theory.Sharing.{rootsOf as treeRoots}
 use Rattle.model.specs.Machine.{Name, Frame, Machine, live, deque, isChild, hasChild}
 use Rattle.model.specs.Theory.FrameTree.{FrameTree, main-lives}

@@ -2,10 +2,9 @@
 use mathlib.Core.Path.{_≡_, refl, sym, ap, ap₂, _∙_}
 use mathlib.Core.Bool.{Bool, true, false}
 use mathlib.Core.Logic.{inl, inr}
-use mathlib.Core.List.{List, [], _∷_, _++_, tail-eq-of-cons-eq}
-use Prim.Native.Nat.{ℕ, suc, _+_, _*_, _/_, _%_, _^_, _<_}
+use mathlib.Core.List.{List, [], _∷_}
+use Prim.Native.Nat.{ℕ, _+_, _*_, _/_, _%_, _^_, _<_}
 use native.Mathlib.Omega.{arith}
-use lib.ListN.{length}
 use borrow.Author.Tests.{lt-leb}
 use Rattle.words.specs.Tests.{decided, true≢false}
 use Rattle.model.specs.declared.Step.{Step}
@@ -13,11 +12,9 @@ use Rattle.model.specs.declared.Step.the-variants.{Spawn, Return, Steal, Sync, 
 use Rattle.model.specs.declared.Decoded.{Decoded}
 use Rattle.model.specs.declared.Decoded.the-variants.{Valid, Invalid}
 use Rattle.model.specs.Machine.{Frame, Machine, deque}
-use Rattle.model.specs.Steps.{Action, spawn, return, sync, read, write, Turn, acting, stealing, turnOf, firstTrue, turnTests, refusal, step, actionAnswer, turnAnswer, answer}
-use Rattle.model.specs.Run.{trace}
+use Rattle.model.specs.Steps.{Action, spawn, return, sync, read, write, Turn, acting, stealing, turnOf, firstTrue, turnTests, refusal, actionAnswer, turnAnswer}
 use Rattle.model.specs.Run.{bottomEntry as plainBottom, turnEntry as plainEntry}
 use Rattle.model.specs.Theory.Effects.{Passes, acts}
-use Rattle.model.specs.Theory.RunSteps.{accepted-or-refused}
 use Rattle.semantics.specs.declared.Done.the-variants.{Spawned, Ended, Stolen, Waited, Value, Written}
 use Rattle.semantics.specs.declared.Refusal.{Refusal}
 use Rattle.semantics.specs.declared.Answer.{Answer}
@@ -25,8 +22,7 @@ use Rattle.semantics.specs.declared.Answer.the-variants.{Accepted, Refus
 use Rattle.semantics.specs.Answers.{refusalNumber, answerWords, bothWords, wordsIn}
 use Rattle.semantics.specs.Core.{Core, StepResult, judged, spawnOn, returnOn, stealOn, syncOn, readOn, writeOn, stepOn, testsOf, doneBy}
 use Rattle.semantics.specs.Entries.{recordOn}
-use Rattle.semantics.specs.Calls.{refusedWhole, saysAccepted, bottomEntry, turnEntry, Exchange, traceFrom, recordsIn, answersIn}
-use Rattle.semantics.specs.Demands.{fromStart, answersBy}
+use Rattle.semantics.specs.Calls.{refusedWhole, saysAccepted, bottomEntry, turnEntry}
 use Rattle.semantics.specs.Theory.Refusals.{number-range}
 
 -- ---- the two words of an answer, in one number
@@ -129,11 +125,11 @@ tests-low M (acting w a) = (omega arith, (omega arith, (omega arith, own (deque 
     own (q ∷ d) (read x) = omega arith
     own (q ∷ d) (write x v) = omega arith
 
-refusal-low : (M : Machine) (st : Step) → refusal M st < 100
+pub refusal-low : (M : Machine) (st : Step) → refusal M st < 100
 unfolding refusal
 refusal-low M st = first-low (turnTests M (turnOf st)) (tests-low M (turnOf st))
 
--- ---- the trace by the plain machine's answers is its trace
+-- ---- an accepted turn's answer says so, and what its frame did and read is told by it
 
 pub turn-told : (M : Machine) (t : Turn) → Passes M t → (saysAccepted (turnAnswer M t) ≡ true) × (turnEntry M t (turnAnswer M t) ≡ plainEntry M t)
 turn-told M (stealing w v) h = (refl, refl)
@@ -145,29 +141,3 @@ turn-told M (acting w a) h = let x = acts M w a h in rw (x .at) (own (x .actor) 
     own q d sync = (refl, refl)
     own q d (read x) = (refl, refl)
     own q d (write x v) = (refl, refl)
-
--- the records that are steps
-abbrev pub valids : List Decoded → List Step
-valids [] = []
-valids (Valid st ∷ ds) = st ∷ valids ds
-valids (Invalid ∷ ds) = valids ds
-
-pub trace-told : (M : Machine) (es : List Exchange) (ks : List ℕ) → length ks ≡ length (recordsIn es) → answersIn es ≡ answersBy fromStart M (recordsIn es) ks → traceFrom M es ≡ trace M (valids (recordsIn es))
-trace-told M [] ks l e = refl
-trace-told M (t ∷ es) [] l e = absurd (omega arith)
-trace-told M ((Invalid, a) ∷ es) (k ∷ ks) l e = trace-told M es ks (omega arith) (tail-eq-of-cons-eq e)
-trace-told M ((Valid st, a) ∷ es) (k ∷ ks) l e = elim (accepted-or-refused M st) [
-  | inl A ↦
-      let t = turn-told M (turnOf st) (A .passes) in
-      let w : a ≡ turnAnswer M (turnOf st) = ap headPair e ∙ A .answered in
-      let r = trace-told (step M st) es ks (omega arith) (tail-eq-of-cons-eq e) in
-      rw (w, t .0, t .1) (ap (λ z. plainEntry M (turnOf st) ++ z) (r ∙ ap (λ z. trace z (valids (recordsIn es))) (A .after)) ∙ sym (A .traced (valids (recordsIn es))))
-  | inr A ↦
-      let w : a ≡ (refusal M st, 0) = ap headPair e ∙ A .answered in
-      let r = trace-told (step M st) es ks (omega arith) (tail-eq-of-cons-eq e) in
-      rw (w, lt-leb 100 (refusal M st) (refusal-low M st)) (r ∙ ap (λ z. trace z (valids (recordsIn es))) (A .after) ∙ sym (A .traced (valids (recordsIn es))))
-]
-  where
-    headPair : List (ℕ × ℕ) → ℕ × ℕ
-    headPair [] = (0, 0)
-    headPair (x ∷ xs) = x

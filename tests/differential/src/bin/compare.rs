@@ -63,9 +63,10 @@ fn compare(options: &Options) -> bool {
     let program = Program::new(&options.program);
     let mut edge_tally = Tally::default();
     let edges_passed = compare_edges(&program, &mut edge_tally);
+    let pieces_passed = compare_pieces(&program);
     let mut random = RandomRuns::new(&program, options.counting);
     let random_passed = random.compare(options);
-    if !edges_passed || !random_passed {
+    if !edges_passed || !pieces_passed || !random_passed {
         return false;
     }
     let (table, missing) = tally::table(&edge_tally, &random.tally);
@@ -78,7 +79,10 @@ fn compare(options: &Options) -> bool {
 
 /// PROGRAM's output if it is the expected one, byte for byte; else why not.
 fn expect(program: &Program, input: &[u8], expected: &str) -> Result<String, String> {
-    let came = program.output(input)?;
+    judge(program.output(input)?, input, expected)
+}
+
+fn judge(came: String, input: &[u8], expected: &str) -> Result<String, String> {
     if came == expected {
         return Ok(came);
     }
@@ -102,6 +106,24 @@ fn compare_edges(program: &Program, tally: &mut Tally) -> bool {
         }
     }
     println!("edges: {} run, {failed} failed", edges.len());
+    failed == 0
+}
+
+/// Some of the edges again, the input fed in pieces.
+fn compare_pieces(program: &Program) -> bool {
+    let edges = edges::in_pieces();
+    let mut failed = 0;
+    for edge in &edges {
+        let came = program.output_in_pieces(&edge.input);
+        if let Err(reason) = came.and_then(|came| judge(came, &edge.input, &edge.expected)) {
+            println!("edge in pieces: {}", edge.name);
+            if failed == 0 {
+                println!("{reason}");
+            }
+            failed += 1;
+        }
+    }
+    println!("edges in pieces: {} run, {failed} failed", edges.len());
     failed == 0
 }
 

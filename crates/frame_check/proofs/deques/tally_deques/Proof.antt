@@ -1,6 +1,7 @@
 -- The loop keeps the tallies and the answer for the deques passed.
 use mathlib.Core.Path.{_≡_, refl, ap, _∙_}
-use Prim.Native.Nat.{_≤_, _-_}
+use Prim.Native.Nat.{_≤_, _<_, _-_}
+use Rattle.frames.specs.Widths.{maxWorkers}
 use native.Mathlib.Omega.{arith}
 use lib.ListN.{length}
 use Rattle.words.specs.Basics.{all}
@@ -22,7 +23,11 @@ unfolding tallyDeques
 loop-holds c = (refl, refl, omega arith)
 
 tally-deque-requires : tie.Need-tally-deque-requires Inv-loop μ-loop
-tally-deque-requires c κs = search needs
+tally-deque-requires c κs =
+    let l = c .before .before .loop in
+    let s = c .before .before .before .before .before .before in
+    let below : l .w < maxWorkers = c .before .loop-test .taken in
+    (s .pre .0, s .pre .1, below, s .pre .2 (l .w) below)
 
 add-w : tie.Need-add-w Inv-loop μ-loop
 add-w c = omega arith

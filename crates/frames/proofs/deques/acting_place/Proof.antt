@@ -1,3 +1,4 @@
+-- The bottom frame's place: one index past the worker's length, `bottom-is` of `specs.Theory.Sizes`.
 use mathlib.Core.Path.{refl, _∙_}
 use native.Mathlib.Omega.{arith}
 use borrow.Author.Needs.{needs}
@@ -12,7 +13,9 @@ word-past-requires c κs = omega arith
 
 returns : tie.Need-returns
 unfolding size
-returns c = c .word-past .ensures ∙ bottom-is (c .before .before .before .args .deques .now) (c .before .before .before .args .w) _ refl (omega arith)
+returns c =
+    let s = c .before .before .before in
+    c .word-past .ensures ∙ bottom-is (s .args .deques .now) (s .args .w) _ refl (omega arith)
 
 pub acting-place-spec : {M : Type 1} → statement M
 acting-place-spec = tie.close (tie.spec (λ c. search needs) (λ c. search needs) (λ c. search needs) word-past-requires returns)

@@ -1,69 +1,36 @@
+-- Each word takes the next one's frame. The loop's invariant: to shift what is left from here gives what the whole shift gives, and `at` is
+-- at or past the top's word. Its measure: the words left. The mathematics is in `proofs.Loops`.
+use mathlib.Core.Path.{_≡_, refl, sym, _∙_}
+use Prim.Native.Nat.{_+_, _-_, _≤_}
+use native.Mathlib.Omega.{arith}
+use lib.ListN.{length, getD, length-set}
+use borrow.Author.Needs.{needs}
+use Rattle.frames.specs.Deques.{shiftUp}
+use Rattle.frames.proofs.Loops.{topWord, shift-whole, shift-turn, shift-done}
 use Rattle.frames.proofs.deques.move_up.Statement.{statement}
 use Rattle.frames.proofs.deques.move_up.Tie as tie
-use Rattle.frames.proofs.deques.move_up.Reads as reads
-use Rattle.frames.proofs.deques.move_up.Lts as lts
 
 abbrev Inv-loop : tie.InvT-loop
-Inv-loop deques₀ w count at₀ end deques at = ?
+Inv-loop deques₀ w count at₀ end deques at =
+    (shiftUp (end - at) deques w (at - topWord w) ≡ shiftUp count deques₀ w 0) × (length deques ≡ length deques₀) × (topWord w ≤ at)
 
 abbrev μ-loop : tie.MeasureT-loop
-μ-loop deques₀ w count at₀ end deques at = ?
+μ-loop deques₀ w count at₀ end deques at = end - at
 
--- src/deques.rt:89:18
-mul-at : tie.Need-mul-at Inv-loop μ-loop
-mul-at c = ?
-
--- src/deques.rt:89:18
-add-at : tie.Need-add-at Inv-loop μ-loop
-add-at c = ?
-
--- src/deques.rt:90:15
-add-end : tie.Need-add-end Inv-loop μ-loop
-add-end c = ?
-
--- src/deques.rt:91:5
 loop-holds : tie.Need-loop-holds Inv-loop μ-loop
-loop-holds c = ?
+loop-holds c = (shift-whole _ (c .args .w) (c .args .count), refl, omega arith)
 
--- src/deques.rt:92:29
-add-deques : tie.Need-add-deques Inv-loop μ-loop
-add-deques c = ?
-
--- src/deques.rt:92:22
-mul-deques : tie.Need-mul-deques Inv-loop μ-loop
-mul-deques c = ?
-
--- src/deques.rt:92:22
-slice-read-deques : tie.Need-slice-read-deques Inv-loop μ-loop
-slice-read-deques c = ?
-
--- src/deques.rt:92:9
-mul-deques-2 : tie.Need-mul-deques-2 Inv-loop μ-loop
-mul-deques-2 c = ?
-
--- src/deques.rt:92:9
-slice-write-deques : tie.Need-slice-write-deques Inv-loop μ-loop
-slice-write-deques c = ?
-
--- src/deques.rt:93:9
-add-at-2 : tie.Need-add-at-2 Inv-loop μ-loop
-add-at-2 c = ?
-
--- src/deques.rt:91:5
-loop-less : tie.Need-loop-less Inv-loop μ-loop
-loop-less c = ?
-
--- src/deques.rt:91:5
 loop-again : tie.Need-loop-again Inv-loop μ-loop
-loop-again c = ?
+loop-again c =
+    let t = c .before in
+    let l = t .before .loop in
+    let same = length-set (l .deques) (l .at) (getD (l .deques) (l .at + 1) 0) in
+    (shift-turn (l .deques) (t .before .before .args .w) (l .at) _ (l .inv .2) (t .loop-test .taken) (omega arith) ∙ l .inv .0, same ∙ l .inv .1, omega arith)
 
--- src/deques.rt:85:1
-same-length : tie.Need-same-length Inv-loop μ-loop
-same-length c = ?
-
--- src/deques.rt:85:1
 returns : tie.Need-returns Inv-loop μ-loop
-returns c = ?
+returns c =
+    let l = c .before .loop in
+    sym (shift-done (l .deques) _ (l .at) _ (c .loop-test .left)) ∙ l .inv .0
 
 pub move-up-spec : {M : Type 1} → statement M
 move-up-spec =
@@ -71,17 +38,17 @@ move-up-spec =
     (tie.spec
     Inv-loop
     μ-loop
-    mul-at
-    add-at
-    add-end
+    (λ c. search needs)
+    (λ c. search needs)
+    (λ c. search needs)
     loop-holds
-    add-deques
-    mul-deques
-    slice-read-deques
-    mul-deques-2
-    slice-write-deques
-    add-at-2
-    loop-less
+    (λ c. search needs)
+    (λ c. search needs)
+    (λ c. search needs)
+    (λ c. search needs)
+    (λ c. search needs)
+    (λ c. search needs)
+    (λ c. search needs)
     loop-again
-    same-length
+    (λ c. search needs)
     returns)

@@ -1,3 +1,4 @@
+-- Six loads, as the definition has them.
 use mathlib.Core.Path.{refl}
 use borrow.Author.Needs.{needs}
 use Rattle.frames.specs.Frames.{frameAt}

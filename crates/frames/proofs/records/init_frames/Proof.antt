@@ -1,29 +1,33 @@
-use Rattle.frames.specs.Frames.{initFrames}
+-- Clears the words, then stores Main and the free places: the definition's steps (`begun` of `proofs.Ends`).
 use borrow.Author.Needs.{needs}
+use Rattle.frames.proofs.Ends.{begun}
 use Rattle.frames.proofs.records.init_frames.Statement.{statement}
 use Rattle.frames.proofs.records.init_frames.Tie as tie
 
-main-frame-requires : tie.Need-main-frame-requires
-main-frame-requires c κs = search needs
+abbrev start-of : tie.After-clear-all → tie.Start
+start-of z = z .before .before .before
 
-store-frame-requires : tie.Need-store-frame-requires
-store-frame-requires c κs = search needs
+abbrev cleared-of : tie.After-put-frame → tie.After-clear-all
+cleared-of m = m .before .before .before .before .before
 
-init-places-requires : tie.Need-init-places-requires
-init-places-requires c κs = search needs
-
-same-length : tie.Need-same-length
-same-length c = search needs
+abbrev main-of : tie.After-init-places → tie.After-put-frame
+main-of i = i .before .before .before .before
 
 returns : tie.Need-returns
-unfolding initFrames
 returns c =
-    let at-init-places = c .before .before in
-    let at-store-frame = at-init-places .before .before .before .before in
-    let at-main-frame = at-store-frame .before in
-    simp (at-init-places .init-places .ensures, at-store-frame .store-frame .ensures, at-main-frame .main-frame .ensures)
+    let i = c .before .before in
+    let m = main-of i in
+    let z = cleared-of m in
+    begun (start-of z .args .frames .now) _ _ _ _ (start-of z .pre) (z .clear-all .ensures) (m .before .main-frame .ensures) (m .put-frame .ensures) (i .init-places .ensures)
 
 pub init-frames-spec : {M : Type 1} → statement M
 init-frames-spec =
     tie.close
-    (tie.spec main-frame-requires store-frame-requires init-places-requires same-length returns)
+    (tie.spec
+    (λ c κs. search needs)
+    (λ c κs. search needs)
+    (λ c κs. search needs)
+    (λ c. search needs)
+    (λ c κs. search needs)
+    (λ c. search needs)
+    returns)

@@ -1,3 +1,4 @@
+-- An `if`, as the definition's test.
 use borrow.Author.Tests.{eq-eqb, ne-eqb}
 use Rattle.frames.proofs.records.link.Statement.{statement}
 use Rattle.frames.proofs.records.link.Tie as tie

@@ -1,5 +1,5 @@
 use borrow.Author.Tests.{eq-eqb, ne-eqb}
-use Rattle.model.specs.Theory.Unused.{unusedSet}
+use Rattle.model.specs.Record.{unusedSet}
 use Rattle.model.proofs.record.misused.Statement.{statement}
 use Rattle.model.proofs.record.misused.Tie as tie
 
