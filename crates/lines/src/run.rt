@@ -93,15 +93,7 @@ fn run_tape(
     ensures { λ r. ⌜ StoresUpTo (11 * length (now (answers .entry)) + 19) (now (out .entry)) at
         (tapeLines (tapeOn (parts (now (numbers .entry)) (now (deques .entry)) (now (frames .entry))) (now (pool .entry)) (now (work .entry)) (now (records .entry)) (now (answers .entry)))) (now (out .exit)) r ⌝ }
 {
-    let refused = splitter_tape(
-        numbers,
-        deques,
-        frames,
-        pool,
-        work,
-        records,
-        answers,
-    );
+    let refused = splitter_tape(numbers, deques, frames, pool, work, records, answers);
     if refused != 0 {
         return put_refused(out, at, refused);
     }

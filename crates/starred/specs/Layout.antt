@@ -95,61 +95,61 @@ layoutTable =
     (
       runs 2 (11 ∷ 12 ∷ 13 ∷ []) 8 [],
       leaves [] (five-of 2 3 8 6 1) (deques (0 ∷ []) []) (frames (live none 0 0 0 0 ∷ []))
-      (nodes (inner 1 1 2 ∷ inner 1 3 4 ∷ inner 1 5 none ∷ leaf 1 11 ∷ leaf 1 12 ∷ leaf 1 13 ∷ freeNode 7 ∷ freeNode none ∷ [])),
+          (nodes (inner 1 1 2 ∷ inner 1 3 4 ∷ inner 1 5 none ∷ leaf 1 11 ∷ leaf 1 12 ∷ leaf 1 13 ∷ freeNode 7 ∷ freeNode none ∷ [])),
     )
     -- "A write always takes H + 1 nodes, root first, builds the new path beside the old siblings": a child writes 91 to splitter 0
     ∷ (
       runs 1 (11 ∷ 12 ∷ []) 7 (spawns 0 ∷ writes 0 0 91 ∷ []),
       leaves (101 ∷ 1 ∷ 106 ∷ 2 ∷ []) (five-of 1 2 7 5 2) (deques (0 ∷ 1 ∷ []) []) (frames (live none 0 1 0 0 ∷ live 0 1 0 0 3 ∷ []))
-      (nodes (inner 1 1 2 ∷ leaf 1 11 ∷ leaf 2 12 ∷ inner 1 4 2 ∷ leaf 1 91 ∷ freeNode 6 ∷ freeNode none ∷ [])),
+          (nodes (inner 1 1 2 ∷ leaf 1 11 ∷ leaf 2 12 ∷ inner 1 4 2 ∷ leaf 1 91 ∷ freeNode 6 ∷ freeNode none ∷ [])),
     )
     -- "then releases the old root": it writes 92 to splitter 1, and node 3 is free
     ∷ (
       runs 1 (11 ∷ 12 ∷ []) 7 (spawns 0 ∷ writes 0 0 91 ∷ writes 0 1 92 ∷ []),
       leaves (101 ∷ 1 ∷ 106 ∷ 2 ∷ 106 ∷ 1 ∷ []) (five-of 1 2 7 3 2) (deques (0 ∷ 1 ∷ []) []) (frames (live none 0 1 0 0 ∷ live 0 1 0 0 5 ∷ []))
-      (nodes (inner 1 1 2 ∷ leaf 1 11 ∷ leaf 1 12 ∷ freeNode none ∷ leaf 1 91 ∷ inner 1 4 6 ∷ leaf 1 92 ∷ [])),
+          (nodes (inner 1 1 2 ∷ leaf 1 11 ∷ leaf 1 12 ∷ freeNode none ∷ leaf 1 91 ∷ inner 1 4 6 ∷ leaf 1 92 ∷ [])),
     )
     -- "at zero the node is freed, then its left link is released, then its right": it returns, and 5, 4, 6 are freed in this order
     ∷ (
       runs 1 (11 ∷ 12 ∷ []) 7 (spawns 0 ∷ writes 0 0 91 ∷ writes 0 1 92 ∷ returns 0 ∷ []),
       leaves (101 ∷ 1 ∷ 106 ∷ 2 ∷ 106 ∷ 1 ∷ 102 ∷ 0 ∷ []) (five-of 1 2 7 6 1) (deques (0 ∷ []) []) (frames (live none 0 0 0 0 ∷ []))
-      (nodes (inner 1 1 2 ∷ leaf 1 11 ∷ leaf 1 12 ∷ freeNode none ∷ freeNode 5 ∷ freeNode 3 ∷ freeNode 4 ∷ [])),
+          (nodes (inner 1 1 2 ∷ leaf 1 11 ∷ leaf 1 12 ∷ freeNode none ∷ freeNode 5 ∷ freeNode 3 ∷ freeNode 4 ∷ [])),
     )
     -- "The last node freed is the first taken.": Main writes 77 to splitter 0 and takes 6, the new root, and 4; 0 and 1 are freed
     ∷ (
       runs 1 (11 ∷ 12 ∷ []) 7 (spawns 0 ∷ writes 0 0 91 ∷ writes 0 1 92 ∷ returns 0 ∷ writes 0 0 77 ∷ []),
       leaves (101 ∷ 1 ∷ 106 ∷ 2 ∷ 106 ∷ 1 ∷ 102 ∷ 0 ∷ 106 ∷ 4 ∷ []) (five-of 1 2 7 1 1) (deques (0 ∷ []) []) (frames (live none 0 0 0 6 ∷ []))
-      (nodes (freeNode 5 ∷ freeNode 0 ∷ leaf 1 12 ∷ freeNode none ∷ leaf 1 77 ∷ freeNode 3 ∷ inner 1 4 2 ∷ [])),
+          (nodes (freeNode 5 ∷ freeNode 0 ∷ leaf 1 12 ∷ freeNode none ∷ leaf 1 77 ∷ freeNode 3 ∷ inner 1 4 2 ∷ [])),
     )
     -- "an idle worker takes the top frame of a victim with at least two frames"
     ∷ (
       runs 2 (5 ∷ []) 1 (spawns 0 ∷ spawns 0 ∷ steals 1 0 ∷ []),
       leaves (101 ∷ 1 ∷ 101 ∷ 2 ∷ 103 ∷ 0 ∷ []) (five-of 2 1 1 none 3) (deques (1 ∷ 2 ∷ []) (0 ∷ [])) (frames (live none 0 1 0 0 ∷ live 0 1 1 0 0 ∷ live 1 2 0 0 0 ∷ []))
-      (nodes (leaf 3 5 ∷ [])),
+          (nodes (leaf 3 5 ∷ [])),
     )
     -- "Frame places are taken and freed the same way": 1 is freed, then 2
     ∷ (
       runs 2 (5 ∷ []) 1 (spawns 0 ∷ steals 1 0 ∷ spawns 1 ∷ returns 0 ∷ returns 1 ∷ []),
       leaves (101 ∷ 1 ∷ 103 ∷ 0 ∷ 101 ∷ 1 ∷ 102 ∷ 1 ∷ 102 ∷ 0 ∷ []) (five-of 2 1 1 none 2) (deques [] (0 ∷ [])) (frames (live none 0 0 0 0 ∷ free 3 ∷ free 1 ∷ []))
-      (nodes (leaf 1 5 ∷ [])),
+          (nodes (leaf 1 5 ∷ [])),
     )
     -- and 2 is taken first
     ∷ (
       runs 2 (5 ∷ []) 1 (spawns 0 ∷ steals 1 0 ∷ spawns 1 ∷ returns 0 ∷ returns 1 ∷ spawns 1 ∷ []),
       leaves (101 ∷ 1 ∷ 103 ∷ 0 ∷ 101 ∷ 1 ∷ 102 ∷ 1 ∷ 102 ∷ 0 ∷ 101 ∷ 1 ∷ []) (five-of 2 1 1 none 1) (deques [] (0 ∷ 2 ∷ [])) (frames (live none 0 1 0 0 ∷ free 3 ∷ live 0 1 0 0 0 ∷ []))
-      (nodes (leaf 2 5 ∷ [])),
+          (nodes (leaf 2 5 ∷ [])),
     )
     -- "Else it is suspended, its worker goes idle"
     ∷ (
       runs 2 (5 ∷ []) 1 (spawns 0 ∷ steals 1 0 ∷ syncs 1 ∷ []),
       leaves (101 ∷ 1 ∷ 103 ∷ 0 ∷ 104 ∷ 1 ∷ []) (five-of 2 1 1 none 2) (deques (1 ∷ []) []) (frames (live none 0 1 1 0 ∷ live 0 1 0 0 0 ∷ []))
-      (nodes (leaf 2 5 ∷ [])),
+          (nodes (leaf 2 5 ∷ [])),
     )
     -- "the parent resumes on this worker, past its sync"
     ∷ (
       runs 2 (5 ∷ []) 1 (spawns 0 ∷ steals 1 0 ∷ syncs 1 ∷ returns 0 ∷ []),
       leaves (101 ∷ 1 ∷ 103 ∷ 0 ∷ 104 ∷ 1 ∷ 102 ∷ 2 ∷ []) (five-of 2 1 1 none 1) (deques (0 ∷ []) []) (frames (live none 0 0 0 0 ∷ []))
-      (nodes (leaf 1 5 ∷ [])),
+          (nodes (leaf 1 5 ∷ [])),
     )
     -- Main has returned: "no frame lives and all deques are empty", all nodes are free
     ∷ (

@@ -1,12 +1,13 @@
 -- Refusals 1 to 6, and the entries' own, 99: each at its condition and beside its nearest accepted neighbour, the order in which
--- they are checked, and what they leave. Two tables, a theorem each.
+-- they are checked, and what they leave. Two tables, a theorem each: starts, and tapes and steps. (1 to 3 are a start's, 4 a tape's, 5
+-- and 6 of tapes and steps.)
 use mathlib.Core.Path.{_≡_, refl}
-use mathlib.Core.Bool.{Bool, true, cond, _||_, _&&_}
+use mathlib.Core.Bool.{Bool, true, cond, _&&_}
 use mathlib.Core.List.{List, [], _∷_, _++_, map}
-use Prim.Native.Nat.{ℕ, _+_, _*_}
+use Prim.Native.Nat.{ℕ, _*_}
 use lib.ListN.{replicate}
 use lib.Dec.{eqb}
-use Rattle.words.specs.Basics.{none, same, δ, count}
+use Rattle.words.specs.Basics.{same, δ, count}
 use Rattle.sizes.specs.Sizes.{height, width, treeNodes, bit}
 use Rattle.pool.specs.Pool.{refcount, left, right, value, setNode, setRefcount, side, child, sibling, leafOf, readAt, retain, release, pathNode, copyPath, write, initLevel, initInner, initLeaves, initFree, initPool}
 use Rattle.frames.specs.Frames.{frameAt, setFrame, initPlaces, initFrames}
@@ -18,7 +19,7 @@ use Rattle.semantics.specs.Core.{spawnOn, returnOn, stealOn, syncOn, readOn, wr
 use Rattle.semantics.specs.Entries.{State, zeros, StartResult, startOn, startWith, outsideOn, outsideWith, recordsFrom, runOn, tapeOn, tapeWith}
 use Rattle.semantics.specs.Calls.{Start, startResult, HostCall, outside, tape, StateAndPool, afterStart, afterCall}
 use Rattle.semantics.specs.Demands.{answersAfter, callResult, workAfter}
-use Rattle.starred.specs.Tapes.{bytes, reads, anyParts, anyPool, wordsOf}
+use Rattle.starred.specs.Tapes.{reads, anyParts, wordsOf}
 
 -- ---- starts
 

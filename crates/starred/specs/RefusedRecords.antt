@@ -1,5 +1,10 @@
 -- Refusals 7 to 16: each at its condition and beside its nearest accepted neighbour, the order in which they are checked, and
 -- that they leave state and pool unchanged. Two tables, a theorem each: through tapes, and through steps from outside.
+--
+-- These never hold together. By the kind of step: 10 (no steal) and 11, 12 (steals); 11, 12, 13 (spawns), 14 (returns) and 15, 16 (reads,
+-- writes), but for 11 with 12 and 15 with 16; 7 and 16, for a write has no unused field. By the frames: 8 and 11 or 14, for a worker
+-- that does not exist has no frame; 10 and 14, for an idle worker has none; 9 and 11, 13 or 14, for no frame lives once Main has
+-- returned; 9 and 16, for all nodes are free then, and T(n) is at least H + 1. Of all other pairs there is a row.
 use mathlib.Core.Path.{_≡_, refl}
 use mathlib.Core.Bool.{Bool, true, cond, _&&_}
 use mathlib.Core.List.{List, [], _∷_, _++_, map}
@@ -154,7 +159,7 @@ eightWorkers = record {
   after = gives (spawns 0) 101 1 ∷ gives (steals 7 0) 103 0 ∷ gives (reads 7 0) 105 1 ∷ [];
 }
 
--- 9 holds with none of 11 (no worker has a frame), 13, 14 (no frame lives) and 16 (all nodes are free, and T(n) is at least H + 1)
+-- no frame lives, and all nodes are free
 abbrev mainReturned : Case
 mainReturned = record {
   start = starts 2 1 2;
@@ -191,7 +196,7 @@ twoFrames = record {
   after = gives (steals 1 0) 103 0 ∷ by (steals 2 0) 12 ∷ by (steals 2 1) 12 ∷ [];
 }
 
--- Main on worker 1, its child on worker 0. 10 and 14 do not hold together: an idle worker has no frame that could have a child
+-- Main on worker 1, its child on worker 0
 abbrev childElsewhere : Case
 childElsewhere = record {
   start = starts 3 1 2;
@@ -224,8 +229,7 @@ manyFrames = record {
   after = gives (reads 0 0) 105 1 ∷ gives (returns 0) 102 0 ∷ gives (spawns 0) 101 63 ∷ by (spawns 0) 13 ∷ [];
 }
 
--- "16. The step is a write and fewer than H + 1 nodes are free.": no node is free. 7 and 16 do not hold together: a write has no
--- unused field
+-- "16. The step is a write and fewer than H + 1 nodes are free.": no node is free
 abbrev noNode : Case
 noNode = record {
   start = starts 2 1 1;
@@ -290,7 +294,6 @@ stepTable =
     ∷ enters (starts 2 1 2) [] 3 0 1 0 11 0
     ∷ enters (starts 2 1 2) [] 3 1 0 0 12 0
     ∷ enters (starts 1 1 1) (nested 63 1) 1 0 0 0 13 0
-    ∷ enters (starts 1 1 1) (nested 62 1) 1 0 0 0 101 63
     ∷ enters (starts 2 1 2) (gives (spawns 0) 101 1 ∷ gives (steals 1 0) 103 0 ∷ []) 2 1 0 0 14 0
     ∷ enters (starts 2 1 2) [] 5 0 1 0 15 0
     ∷ enters (starts 2 1 1) [] 6 0 0 5 16 0
