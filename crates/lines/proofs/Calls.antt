@@ -1,38 +1,38 @@
--- The lines of a start and of a tape, by the answer to the call.
+-- The lines of a start and of a tape, by the call's result.
 use mathlib.Core.Path.{_≡_, sym, ap, _∙_}
+use mathlib.Core.Logic.{_≢_}
 use mathlib.Core.List.{List}
 use Prim.Native.Nat.{ℕ}
 use native.Mathlib.Omega.{arith}
-use lib.ListN.{length}
+use lib.ListN.{length, getD}
+use borrow.Author.Tests.{eq-eqb, ne-eqb}
 use Rattle.soundness.specs.Soundness.{freeNodes}
-use Rattle.semantics.specs.declared.State.{State}
-use Rattle.semantics.specs.declared.Refusal.{Refusal}
-use Rattle.semantics.specs.declared.Call.{Call}
-use Rattle.semantics.specs.declared.Call.the-variants.{Taken, Denied}
-use Rattle.semantics.specs.Entries.{startOn, Played, play}
-use Rattle.lines.specs.Lines.{refusedLine, takenLines, tapeLines, runLines}
+use Rattle.semantics.specs.Entries.{State, zeros, startOn, TapeResult, tapeOn}
+use Rattle.lines.specs.Lines.{refusedLine, acceptedLines, tapeLines, runLines}
 use Rattle.lines.specs.Output.{storeAll, StoresUpTo}
 
 -- the same bytes
 same : {m : ℕ} (o : List ℕ) (at : ℕ) {o' : List ℕ} {k : ℕ} (xs ys : List ℕ) → ys ≡ xs → StoresUpTo m o at xs o' k → StoresUpTo m o at ys o' k
 same o at xs ys e s = (s .0 ∙ ap (λ (bs : List ℕ). storeAll (o, at) bs) (sym e), omega (arith, s .1, ap length e))
 
-module _ {m : ℕ} (o : List ℕ) (at : ℕ) {o' : List ℕ} {k : ℕ} (a : Call) where
-  pub tape-refused : (p : Played) (r : Refusal) → a ≡ p .call → a ≡ Denied r → StoresUpTo m o at (refusedLine r) o' k → StoresUpTo m o at (tapeLines p) o' k
-  tape-refused p r e d s = same o at (refusedLine r) (tapeLines p) (rw (← e, d)) s
+module _ {m : ℕ} (o : List ℕ) (at : ℕ) {o' : List ℕ} {k : ℕ} (r : ℕ) where
+  pub tape-refused : (p : TapeResult) → r ≡ p .result → r ≢ 0 → StoresUpTo m o at (refusedLine r) o' k → StoresUpTo m o at (tapeLines p) o' k
+  tape-refused p e d s = same o at (refusedLine r) (tapeLines p) (rw (← e, ne-eqb r 0 d)) s
 
-  pub tape-taken : (p : Played) (answers : List ℕ) (state : State) (ws : List ℕ) → a ≡ p .call → a ≡ Taken → answers ≡ p .answers → state ≡ p .state → ws ≡ p .pool
-      → StoresUpTo m o at (takenLines answers (length (freeNodes (state .nodes) ws (state .free)))) o' k → StoresUpTo m o at (tapeLines p) o' k
-  tape-taken p answers state ws e d an st po s =
-      same o at (takenLines answers (length (freeNodes (state .nodes) ws (state .free)))) (tapeLines p) (rw (← e, d, ← an, ← st, ← po)) s
+  -- the free nodes are counted by the numbers 2 and 3 of the state
+  pub tape-accepted : (p : TapeResult) (answers : List ℕ) (state : State) (ws : List ℕ) (nodes first : ℕ) → r ≡ p .result → r ≡ 0
+      → answers ≡ p .answers → state ≡ p .state → ws ≡ p .pool → nodes ≡ getD (state .numbers) 2 0 → first ≡ getD (state .numbers) 3 0
+      → StoresUpTo m o at (acceptedLines answers (length (freeNodes nodes ws first))) o' k → StoresUpTo m o at (tapeLines p) o' k
+  tape-accepted p answers state ws nodes first e d an st po n f s =
+      same o at (acceptedLines answers (length (freeNodes nodes ws first))) (tapeLines p) (rw (n, f, ← e, eq-eqb r 0 d, ← an, ← st, ← po)) s
 
-  module _ (workers : ℕ) (vs vs' ws work records answers : List ℕ) (v : vs' ≡ vs) (e : a ≡ startOn workers vs' ws .call) where
-    pub run-refused : (r : Refusal) → a ≡ Denied r → StoresUpTo m o at (refusedLine r) o' k → StoresUpTo m o at (runLines workers vs ws work records answers) o' k
+  module _ (workers : ℕ) (vs vs' ws work records answers : List ℕ) (v : vs' ≡ vs) (e : r ≡ startOn zeros workers vs' ws .result) where
+    pub run-refused : r ≢ 0 → StoresUpTo m o at (refusedLine r) o' k → StoresUpTo m o at (runLines workers vs ws work records answers) o' k
     unfolding runLines
-    run-refused r d s = same o at (refusedLine r) (runLines workers vs ws work records answers) (rw (← v, ← e, d)) s
+    run-refused d s = same o at (refusedLine r) (runLines workers vs ws work records answers) (rw (← v, ← e, ne-eqb r 0 d)) s
 
-    pub run-taken : (state : State) (ws' : List ℕ) → a ≡ Taken → state ≡ startOn workers vs' ws .state → ws' ≡ startOn workers vs' ws .pool
-        → StoresUpTo m o at (tapeLines (play state ws' work records answers)) o' k → StoresUpTo m o at (runLines workers vs ws work records answers) o' k
+    pub run-accepted : (state : State) (ws' : List ℕ) → r ≡ 0 → state ≡ startOn zeros workers vs' ws .state → ws' ≡ startOn zeros workers vs' ws .pool
+        → StoresUpTo m o at (tapeLines (tapeOn state ws' work records answers)) o' k → StoresUpTo m o at (runLines workers vs ws work records answers) o' k
     unfolding runLines
-    run-taken state ws' d st po s =
-        same o at (tapeLines (play state ws' work records answers)) (runLines workers vs ws work records answers) (rw (← v, ← e, d, ← st, ← po)) s
+    run-accepted state ws' d st po s =
+        same o at (tapeLines (tapeOn state ws' work records answers)) (runLines workers vs ws work records answers) (rw (← v, ← e, eq-eqb r 0 d, ← st, ← po)) s

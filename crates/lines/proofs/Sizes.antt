@@ -1,5 +1,5 @@
 -- How many bytes the lines have at most: a word has at most ten digits.
-use mathlib.Core.Path.{_≡_, ap}
+use mathlib.Core.Path.{ap}
 use mathlib.Core.Logic.{inl, inr}
 use mathlib.Core.List.{List, [], _∷_, _++_}
 use Prim.Native.Nat.{ℕ, zero, suc, _+_, _*_, _/_, _≤_, _<_}
@@ -10,9 +10,7 @@ use Rattle.words.specs.Basics.{none, follow}
 use Rattle.words.specs.Tests.{decided, lt-of, ge-of}
 use Rattle.pool.specs.Pool.{nextFree}
 use Rattle.soundness.specs.Soundness.{freeNodes}
-use Rattle.semantics.specs.declared.Refusal.{Refusal}
-use Rattle.semantics.specs.Answers.{refusalNumber}
-use Rattle.lines.specs.Lines.{refusedLine, digit, decimal, line, freeWord, answerLines, takenLines}
+use Rattle.lines.specs.Lines.{refusedLine, digit, decimal, line, freeWord, answerLines, acceptedLines}
 use Rattle.lines.proofs.Numbers.{decimal-one, decimal-more}
 
 -- 10, 100, ..
@@ -51,12 +49,12 @@ follow-short (suc c) next a = elim (decided (eqb a none)) [
   | inr e ↦ rw (e, follow) (omega (arith, follow-short c next (next a)))
 ]
 
-pub refused-short : (r : Refusal) (k : ℕ) → k ≡ refusalNumber r → k < 4294967296 → length (refusedLine r) ≤ 19
-refused-short r k e h = rw (← e) (omega (arith, length-append (decimal k) (10 ∷ []), word-short k (omega arith)))
+pub refused-short : (k : ℕ) → k < 4294967296 → length (refusedLine k) ≤ 19
+refused-short k h = omega (arith, length-append (decimal k) (10 ∷ []), word-short k (omega arith))
 
-pub taken-short : (ws : List ℕ) (nodes : ℕ) (pool : List ℕ) (first : ℕ) → ((i : ℕ) → getD ws i 0 < 4294967296) → nodes < 4294967296
-    → length (takenLines ws (length (freeNodes nodes pool first))) ≤ 11 * length ws + 19
-taken-short ws nodes pool first h n =
+pub accepted-short : (ws : List ℕ) (nodes : ℕ) (pool : List ℕ) (first : ℕ) → ((i : ℕ) → getD ws i 0 < 4294967296) → nodes < 4294967296
+    → length (acceptedLines ws (length (freeNodes nodes pool first))) ≤ 11 * length ws + 19
+accepted-short ws nodes pool first h n =
     let free : ℕ = length (freeNodes nodes pool first) in
     let f : free ≤ suc nodes = follow-short (suc nodes) (nextFree pool) first in
     omega (arith, length-append (answerLines ws) (line (freeWord ∷ decimal free ∷ [])), length-append (decimal free) (10 ∷ []), answers-short ws h, word-short free (omega arith))

@@ -2,7 +2,7 @@
 use mathlib.Core.Path.{_≡_, refl}
 use mathlib.Core.List.{[], _∷_, _++_}
 use Rattle.lines.specs.Lines.{decimalBy, decimal, linesOf, workersIn, splittersIn, number32At, numbersAt, unfit, runLines, fitLines, refusedWord}
-use Rattle.semantics.specs.Entries.{startOn}
+use Rattle.semantics.specs.Entries.{startOn, startWith}
 
 zero-digits : decimal 0 ≡ 48 ∷ []
 unfolding decimal decimalBy
@@ -23,5 +23,5 @@ seven-bytes = refl
 
 -- "0 1 1", "refused 2": no workers
 no-workers : linesOf (0 ∷ 0 ∷ 1 ∷ 0 ∷ 1 ∷ 0 ∷ 0 ∷ 0 ∷ 7 ∷ 0 ∷ 0 ∷ 0 ∷ []) ≡ (48 ∷ 32 ∷ 49 ∷ 32 ∷ 49 ∷ 10 ∷ []) ++ (refusedWord ++ 32 ∷ 50 ∷ 10 ∷ [])
-unfolding linesOf unfit workersIn splittersIn number32At numbersAt runLines fitLines startOn decimal decimalBy
+unfolding linesOf unfit workersIn splittersIn number32At numbersAt runLines fitLines startOn startWith decimal decimalBy
 no-workers = refl

@@ -3,14 +3,9 @@ use mathlib.Core.Bool.{Bool, true, false, cond, _||_}
 use mathlib.Core.List.{List, [], _∷_, _++_}
 use Prim.Native.Nat.{ℕ, zero, suc, _+_, _-_, _*_, _/_, _%_}
 use lib.ListN.{length, getD, drop, replicate}
-use lib.Dec.{ltb}
+use lib.Dec.{eqb, ltb}
 use Rattle.model.specs.Record.{little}
-use Rattle.soundness.specs.Soundness.{freeCount}
-use Rattle.semantics.specs.declared.Refusal.{Refusal}
-use Rattle.semantics.specs.declared.Call.{Call}
-use Rattle.semantics.specs.declared.Call.the-variants.{Taken, Denied}
-use Rattle.semantics.specs.Answers.{refusalNumber}
-use Rattle.semantics.specs.Entries.{Begun, startOn, Played, play, numbersOf}
+use Rattle.semantics.specs.Entries.{zeros, chainFree, StartResult, startOn, TapeResult, tapeOn}
 
 -- ---- text
 
@@ -85,25 +80,25 @@ answerLines (a ∷ []) = []
 answerLines (a ∷ b ∷ ws) = line (decimal a ∷ decimal b ∷ []) ++ answerLines ws
 
 -- "A call refused whole prints `refused` and the number after the first line, and no more."
-abbrev pub refusedLine : Refusal → List ℕ
-refusedLine r = line (refusedWord ∷ decimal (refusalNumber r) ∷ [])
+abbrev pub refusedLine : ℕ → List ℕ
+refusedLine k = line (refusedWord ∷ decimal k ∷ [])
 
-abbrev pub callLines : Call → List ℕ → List ℕ
-callLines Taken ls = ls
-callLines (Denied r) ls = refusedLine r
+-- of a call with the result k, which is 0 or its refusal, the lines ls or that one
+abbrev pub callLines : ℕ → List ℕ → List ℕ
+callLines k ls = cond (eqb k 0) ls (refusedLine k)
 
 -- the lines of the answer words, "last `free` and the free nodes"
-abbrev pub takenLines : List ℕ → ℕ → List ℕ
-takenLines answers free = answerLines answers ++ line (freeWord ∷ decimal free ∷ [])
+abbrev pub acceptedLines : List ℕ → ℕ → List ℕ
+acceptedLines answers free = answerLines answers ++ line (freeWord ∷ decimal free ∷ [])
 
-abbrev pub tapeLines : Played → List ℕ
-tapeLines p = callLines (p .call) (takenLines (p .answers) (freeCount (numbersOf (p .state)) (p .pool)))
+abbrev pub tapeLines : TapeResult → List ℕ
+tapeLines p = callLines (p .result) (acceptedLines (p .answers) (chainFree (p .state) (p .pool)))
 
--- what follows the first line: of the start, then of the tape
+-- what follows the first line: of the start, over parts of zeros, then of the tape
 unfoldable pub runLines : ℕ → List ℕ → List ℕ → List ℕ → List ℕ → List ℕ → List ℕ
 runLines workers values pool work records answers =
-    let b : Begun = startOn workers values pool in
-    callLines (b .call) (tapeLines (play (b .state) (b .pool) work records answers))
+    let b : StartResult = startOn zeros workers values pool in
+    callLines (b .result) (tapeLines (tapeOn (b .state) (b .pool) work records answers))
 
 -- with a pool of as many whole nodes, a work slice that is long enough and two answer words per record, all zero
 unfoldable pub fitLines : ℕ → ℕ → ℕ → List ℕ → List ℕ

@@ -3,8 +3,9 @@ ghost use mathlib.Core.Path.{_≡_};
 ghost use Prim.Native.Nat.{_+_, _-_, _*_, _≤_};
 ghost use lib.ListN.{length};
 ghost use Rattle.soundness.specs.Soundness.{freeNodes};
-ghost use Rattle.semantics.specs.Entries.{play};
-ghost use Rattle.lines.specs.Lines.{numbersAt, recordsStart, answerLines, refusedLine, takenLines, tapeLines, runLines, fitLines};
+ghost use Rattle.semantics.specs.Entries.{tapeOn};
+ghost use Rattle.semantics.specs.Promises.{parts};
+ghost use Rattle.lines.specs.Lines.{numbersAt, recordsStart, answerLines, refusedLine, acceptedLines, tapeLines, runLines, fitLines};
 ghost use Rattle.lines.specs.Output.{Stores, StoresUpTo, IsOutput};
 use crate::input::is_unfit;
 use crate::input::nodes_in;
@@ -15,14 +16,13 @@ use crate::text::put_bytes;
 use crate::text::put_named;
 use crate::text::put_three;
 use crate::text::put_two;
-use engine::refusal_number;
-use engine::start;
-use engine::tape;
+use frames::DEQUE_WORDS;
+use frames::FRAME_WORDS;
 use pool::NONE;
 use pool::left_of;
-use semantics::Call;
-use semantics::Refusal;
-use semantics::State;
+use splitter::splitter_start;
+use splitter::splitter_tape;
+use words::word;
 
 // "one line per record with its two answer words"
 fn put_answers(out: &mut [u8], at: usize, answers: &[u32]) -> usize
@@ -56,14 +56,14 @@ fn count_free(nodes: u32, pool: &[u32], first: u32) -> usize
 }
 
 // `refused` and the number.
-fn put_refused(out: &mut [u8], at: usize, refusal: Refusal) -> usize
+fn put_refused(out: &mut [u8], at: usize, refusal: u32) -> usize
     ensures { λ r. ⌜ StoresUpTo 19 (now (out .entry)) at (refusedLine refusal) (now (out .exit)) r ⌝ }
 {
-    put_named(out, at, b"refused ", refusal_number(refusal) as usize)
+    put_named(out, at, b"refused ", refusal as usize)
 }
 
 // The lines of the answer words, "last `free` and the free nodes".
-fn put_taken(
+fn put_accepted(
     out: &mut [u8],
     at: usize,
     answers: &[u32],
@@ -72,7 +72,7 @@ fn put_taken(
     first: u32,
 ) -> usize
     ensures { λ r. ⌜ StoresUpTo (11 * length (now (answers .entry)) + 19) (now (out .entry)) at
-        (takenLines (now (answers .entry)) (length (freeNodes nodes (now (pool .entry)) first))) (now (out .exit)) r ⌝ }
+        (acceptedLines (now (answers .entry)) (length (freeNodes nodes (now (pool .entry)) first))) (now (out .exit)) r ⌝ }
 {
     let to = put_answers(out, at, answers);
     put_named(out, to, b"free ", count_free(nodes, pool, first))
@@ -80,7 +80,9 @@ fn put_taken(
 
 // The lines of a tape.
 fn run_tape(
-    state: State,
+    numbers: &mut [u32],
+    deques: &mut [u32],
+    frames: &mut [u32],
     pool: &mut [u32],
     work: &mut [u32],
     records: &[u8],
@@ -89,15 +91,15 @@ fn run_tape(
     at: usize,
 ) -> usize
     ensures { λ r. ⌜ StoresUpTo (11 * length (now (answers .entry)) + 19) (now (out .entry)) at
-        (tapeLines (play state (now (pool .entry)) (now (work .entry)) (now (records .entry)) (now (answers .entry)))) (now (out .exit)) r ⌝ }
+        (tapeLines (tapeOn (parts (now (numbers .entry)) (now (deques .entry)) (now (frames .entry))) (now (pool .entry)) (now (work .entry)) (now (records .entry)) (now (answers .entry)))) (now (out .exit)) r ⌝ }
 {
-    let played = tape(state, pool, work, records, answers);
-    let last = played.state;
-    let call = played.call;
-    if let Call::Denied(refusal) = call {
-        return put_refused(out, at, refusal);
+    let refused = splitter_tape(numbers, deques, frames, pool, work, records, answers);
+    if refused != 0 {
+        return put_refused(out, at, refused);
     }
-    put_taken(out, at, answers, last.nodes, pool, last.free)
+    let nodes = word(numbers, 2);
+    let first = word(numbers, 3);
+    put_accepted(out, at, answers, nodes, pool, first)
 }
 
 // The lines after the first: of the start, then of the tape.
@@ -116,13 +118,31 @@ fn run_on(
         (now (pool .entry)) (now (work .entry)) (now (records .entry)) (now (answers .entry))) (now (out .exit)) r ⌝ }
 {
     read_values(input, values);
-    let started = start(workers, values, pool);
-    let state = started.state;
-    let call = started.call;
-    if let Call::Denied(refusal) = call {
-        return put_refused(out, at, refusal);
+    let mut numbers = [0u32; 5];
+    let mut deques = [0u32; DEQUE_WORDS];
+    let mut frames = [0u32; FRAME_WORDS];
+    let refused = splitter_start(
+        &mut numbers,
+        &mut deques,
+        &mut frames,
+        workers,
+        values,
+        pool,
+    );
+    if refused != 0 {
+        return put_refused(out, at, refused);
     }
-    run_tape(state, pool, work, records, answers, out, at)
+    run_tape(
+        &mut numbers,
+        &mut deques,
+        &mut frames,
+        pool,
+        work,
+        records,
+        answers,
+        out,
+        at,
+    )
 }
 
 // The same, with a pool, a work slice and answer words of the right lengths, all zero.

@@ -1,1 +1,8 @@
+-- Starred: document 01's starred edges, one table. RefusedCalls, RefusedRecords: every refusal at its condition, and their order. Layout: the
+-- words of state and pool after short runs. Demand3Example: demand 3 of document 01's tape. Tapes: what the tables are written with.
+pub mod Tapes
 pub mod Starred
+pub mod RefusedCalls
+pub mod RefusedRecords
+pub mod Layout
+pub mod Demand3Example

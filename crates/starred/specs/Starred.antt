@@ -1,8 +1,10 @@
 -- Document 01's starred edges, through the start and the tape: one table, one theorem.
 use mathlib.Core.Path.{_≡_, refl}
+use mathlib.Core.Bool.{cond}
 use mathlib.Core.List.{List, [], _∷_, _++_, map}
-use Prim.Native.Nat.{ℕ, _+_, _-_, _*_, _/_}
+use Prim.Native.Nat.{ℕ, _+_, _*_}
 use lib.ListN.{length, replicate}
+use lib.Dec.{eqb}
 use Rattle.words.specs.Basics.{joined, δ, count}
 use Rattle.sizes.specs.Sizes.{height, width, treeNodes, bit}
 use Rattle.pool.specs.Pool.{refcount, left, right, value, setNode, setRefcount, side, child, sibling, leafOf, readAt, retain, release, pathNode, copyPath, write, initLevel, initInner, initLeaves, initFree, initPool}
@@ -11,11 +13,9 @@ use Rattle.frames.specs.Deques.{size, setSize, place, setPlace, bottom, top, pu
 use Rattle.frames.specs.Steps.{spawn, return, returned, steal, sync, synced}
 use Rattle.soundness.specs.Soundness.{oneMain, parentsLive, countsRight, placedOnce, holdLive, absentEmpty, restZero, linked, onlyBelow, placesFree, framesSound, treeAt, nodesAt, poolSound, numbersSound, rootsBelow, sound, checked, cleared}
 use Rattle.model.specs.Record.{recordOf, decodeAt}
-use Rattle.semantics.specs.declared.Call.{Call}
-use Rattle.semantics.specs.declared.Call.the-variants.{Taken, Denied}
-use Rattle.semantics.specs.Answers.{refusalNumber}
 use Rattle.semantics.specs.Core.{spawnOn, returnOn, stealOn, syncOn, readOn, writeOn, stepOn}
-use Rattle.semantics.specs.Entries.{Begun, Played, startOn, recordsFrom, runOn, play}
+use Rattle.semantics.specs.Entries.{StartResult, startOn, startWith, recordsFrom, runOn, TapeResult, tapeOn, tapeWith}
+use Rattle.starred.specs.Tapes.{spawns, returns, steals, syncs, reads, writes, anyParts, anyPool, five}
 
 -- a start, then a tape
 pub record Case : Type 0 where
@@ -30,53 +30,24 @@ pub record Outcome : Type 0 where
   pub answers : List ℕ
   pub work : List ℕ
 
-abbrev pub refusalOf : Call → ℕ
-refusalOf Taken = 0
-refusalOf (Denied r) = refusalNumber r
+abbrev pub outcomeOf : TapeResult → Outcome
+outcomeOf t = record { refused = t .result; answers = t .answers; work = t .work }
 
-abbrev pub playedOutcome : Played → Outcome
-playedOutcome p = record { refused = refusalOf (p .call); answers = p .answers; work = p .work }
+-- refused whole at the start
+abbrev pub refusedBy : ℕ → Outcome
+refusedBy k = record { refused = k; answers = []; work = [] }
 
 -- the tape is lent two answer words more than it needs, and one work word more; a start that is refused ends it
-abbrev pub tapeOutcome : Call → Begun → Case → Outcome
-tapeOutcome (Denied r) b k = record { refused = refusalNumber r; answers = []; work = [] }
-tapeOutcome Taken b k =
-    playedOutcome (play (b .state) (b .pool) (replicate (k .nodes + 1) 5) (joined (k .records)) (replicate (2 * length (k .records) + 2) 9))
-
 abbrev pub outcome : Case → Outcome
-outcome k = let b : Begun = startOn (k .workers) (k .values) (replicate (4 * k .nodes) 7) in tapeOutcome (b .call) b k
-
--- ---- records
-
-abbrev spawns : ℕ → List ℕ
-spawns w = 1 ∷ w ∷ 0 ∷ 0 ∷ 0 ∷ 0 ∷ 0 ∷ 0 ∷ []
-
-abbrev returns : ℕ → List ℕ
-returns w = 2 ∷ w ∷ 0 ∷ 0 ∷ 0 ∷ 0 ∷ 0 ∷ 0 ∷ []
-
-abbrev steals : ℕ → ℕ → List ℕ
-steals w v = 3 ∷ w ∷ v ∷ 0 ∷ 0 ∷ 0 ∷ 0 ∷ 0 ∷ []
-
-abbrev syncs : ℕ → List ℕ
-syncs w = 4 ∷ w ∷ 0 ∷ 0 ∷ 0 ∷ 0 ∷ 0 ∷ 0 ∷ []
-
-abbrev reads : ℕ → ℕ → List ℕ
-reads w x = 5 ∷ w ∷ x ∷ 0 ∷ 0 ∷ 0 ∷ 0 ∷ 0 ∷ []
-
-abbrev writes : ℕ → ℕ → ℕ → List ℕ
-writes w x v = 6 ∷ w ∷ x ∷ 0 ∷ v ∷ 0 ∷ 0 ∷ 0 ∷ []
+outcome k =
+    let b : StartResult = startOn anyParts (k .workers) (k .values) (anyPool (k .nodes)) in
+    let o : Outcome = outcomeOf (tapeOn (b .state) (b .pool) (replicate (k .nodes + 1) 5) (joined (k .records)) (replicate (2 * length (k .records) + 2) 9)) in
+    cond (eqb (b .result) 0) o (refusedBy (b .result))
 
 -- ---- the table
 
-abbrev five : List ℕ
-five = 10 ∷ 20 ∷ 30 ∷ 40 ∷ 50 ∷ []
-
 abbrev starts : ℕ → List ℕ → ℕ → List (List ℕ) → Case
 starts w vs n rs = record { workers = w; values = vs; nodes = n; records = rs }
-
--- refused whole at the start
-abbrev refusedBy : ℕ → Outcome
-refusedBy k = record { refused = k; answers = []; work = [] }
 
 -- the answer words, and after them the two that were lent besides; the work words zero, and after them the one besides
 abbrev answered : ℕ → List ℕ → Outcome
@@ -108,5 +79,5 @@ table =
     ∷ []
 
 pub starred : map (λ (row : Case × Outcome). outcome (row .0)) table ≡ map (λ (row : Case × Outcome). row .1) table
-unfolding table startOn play runOn recordsFrom recordOf decodeAt spawnOn returnOn stealOn syncOn readOn writeOn stepOn spawn return returned steal sync synced shiftUp dropTop pop top bottom side child sibling bit leafOf readAt retain release setRefcount pathNode copyPath write initPool initFree initLeaves initInner initLevel setNode height width treeNodes initDeques push setSize setPlace size place initFrames initPlaces setFrame frameAt checked cleared sound numbersSound rootsBelow framesSound oneMain parentsLive countsRight placedOnce holdLive absentEmpty restZero linked onlyBelow placesFree poolSound treeAt nodesAt refcount left right value δ count
+unfolding table startOn startWith tapeOn tapeWith runOn recordsFrom recordOf decodeAt spawnOn returnOn stealOn syncOn readOn writeOn stepOn spawn return returned steal sync synced shiftUp dropTop pop top bottom side child sibling bit leafOf readAt retain release setRefcount pathNode copyPath write initPool initFree initLeaves initInner initLevel setNode height width treeNodes initDeques push setSize setPlace size place initFrames initPlaces setFrame frameAt checked cleared sound numbersSound rootsBelow framesSound oneMain parentsLive countsRight placedOnce holdLive absentEmpty restZero linked onlyBelow placesFree poolSound treeAt nodesAt refcount left right value δ count
 starred = refl

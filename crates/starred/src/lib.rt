@@ -1,1 +1,1 @@
-// Document 01's starred edges, computed from the definitions (specs/Starred.antt). There is no code here.
+// Document 01's starred edges and further tables, computed from the definitions (specs/). There is no code here.

@@ -1,88 +1,51 @@
 -- The tape is refused, or its lines follow.
 use native.Mathlib.Omega.{arith}
+use Rattle.semantics.specs.Entries.{TapeResult, tapeOn}
+use Rattle.semantics.specs.Promises.{parts}
 use Rattle.lines.specs.Theory.{more-room}
-use Rattle.semantics.specs.Entries.{play}
-use Rattle.lines.proofs.Calls.{tape-refused, tape-taken}
+use Rattle.lines.proofs.Calls.{tape-refused, tape-accepted}
 use borrow.Author.Needs.{needs}
 use Rattle.lines.proofs.run.run_tape.Statement.{statement}
 use Rattle.lines.proofs.run.run_tape.Tie as tie
 
-tape-requires : tie.Need-tape-requires
-tape-requires c κs = search needs
+-- the places that the answers speak of, each by its way from the next
+abbrev start-of : tie.After-splitter-tape → tie.Start
+start-of t = t .before .before .before .before .before .before .before .before .before .before .before .before .before .before .before
 
-enum-known-call : tie.Need-enum-known-call
-enum-known-call c = search needs
+abbrev refused-of : tie.Then1 → tie.After-splitter-tape
+refused-of i = i .before .before .before .before .before .before .before .before .before .before .before .before .before
 
-put-refused-requires : tie.Need-put-refused-requires
-put-refused-requires c κs = search needs
+abbrev accepted-of : tie.Else1 → tie.After-splitter-tape
+accepted-of i = i .before .before .before .before .before .before .before .before .before .before .before .before .before
 
-same-length : tie.Need-same-length
-same-length c = search needs
+abbrev first-of : tie.After-word2 → tie.After-word
+first-of w = w .before .before
 
-same-length-2 : tie.Need-same-length-2
-same-length-2 c = search needs
-
-same-length-3 : tie.Need-same-length-3
-same-length-3 c = search needs
-
-same-length-4 : tie.Need-same-length-4
-same-length-4 c = search needs
+-- what the definition gives for the arguments
+abbrev result : tie.Start → TapeResult
+result s =
+    let a = s .args in
+    tapeOn (parts (a .numbers .now) (a .deques .now) (a .frames .now)) (a .pool .now) (a .work .now) (a .records .now) (a .answers .now)
 
 returns : tie.Need-returns
 returns c =
-    let p1 = c .before .before in
-    let p2 = p1 .before .before .before in
-    let p3 = p2 .before .before .before .before .before .before .before .before .before in
-    let p4 = p3 .before .before .before .before .before .before .before .before .before in
-    let a = p4 .args in
-    tape-refused (a .out .now) (a .at) _ (play (a .state) (a .pool .now) (a .work .now) (a .records .now) (a .answers .now))
-    _ (p3 .tape .ensures .result) (p2 .call .given .1) (more-room _ _ _ (omega arith) (p1 .put-refused .ensures))
-
-enum-told : tie.Need-enum-told
-enum-told c = search needs
-
-put-taken-requires : tie.Need-put-taken-requires
-put-taken-requires c κs = search needs
-
-same-length-5 : tie.Need-same-length-5
-same-length-5 c = search needs
-
-same-length-6 : tie.Need-same-length-6
-same-length-6 c = search needs
-
-same-length-7 : tie.Need-same-length-7
-same-length-7 c = search needs
-
-same-length-8 : tie.Need-same-length-8
-same-length-8 c = search needs
+    let i = c .before .before .before .before in
+    let t = refused-of i in
+    let s = start-of t in
+    tape-refused (s .args .out .now) (s .args .at) _ (result s) (t .splitter-tape .ensures .result) (i .if1 .taken) (more-room _ _ _ (omega arith) (c .before .before .put-refused .ensures))
 
 returns-2 : tie.Need-returns-2
 returns-2 c =
-    let p1 = c .before .before in
-    let p2 = p1 .before .before .before .before in
-    let p3 = p2 .before .before .before .before .before .before .before .before .before in
-    let p4 = p3 .before .before .before .before .before .before .before .before .before in
-    let a = p4 .args in
-    let e = p3 .tape .ensures in
-    tape-taken (a .out .now) (a .at) _ (play (a .state) (a .pool .now) (a .work .now) (a .records .now) (a .answers .now))
-    _ _ _ (e .result) (p2 .enum-told .given .1) (e .answers) (e .state) (e .pool) (more-room _ _ _ (omega (arith, p3 .tape .kept .1 .1 .1 .1 .0)) (p1 .put-taken .ensures))
+    let w = c .before .before .before .before .before .before in
+    let i = first-of w .before .before in
+    let t = accepted-of i in
+    let s = start-of t in
+    let e = t .splitter-tape .ensures in
+    tape-accepted (s .args .out .now) (s .args .at) _ (result s) _ _ _ _ _ (e .result) (i .if1 .left) (e .answers) (e .state) (e .pool) (first-of w .word .ensures) (w .word2 .ensures)
+    (more-room _ _ _ (omega (arith, t .splitter-tape .kept .1 .1 .1 .1 .1 .1 .0)) (c .before .before .put-accepted .ensures))
 
 pub run-tape-spec : {M : Type 1} → statement M
 run-tape-spec =
     tie.close
-    (tie.spec
-    tape-requires
-    enum-known-call
-    put-refused-requires
-    same-length
-    same-length-2
-    same-length-3
-    same-length-4
-    returns
-    enum-told
-    put-taken-requires
-    same-length-5
-    same-length-6
-    same-length-7
-    same-length-8
-    returns-2)
+    (tie.spec (λ c κs. search needs) (λ c κs. search needs) (λ c. search needs) (λ c. search needs) (λ c. search needs) (λ c. search needs) (λ c. search needs) (λ c. search needs) (λ c. search needs) returns
+    (λ c κs. search needs) (λ c κs. search needs) (λ c κs. search needs) (λ c. search needs) (λ c. search needs) (λ c. search needs) (λ c. search needs) (λ c. search needs) (λ c. search needs) (λ c. search needs) returns-2)

@@ -1,9 +1,9 @@
 -- The lines of the answer words, then that of the free nodes.
-use Rattle.lines.proofs.Sizes.{taken-short}
+use Rattle.lines.proofs.Sizes.{accepted-short}
 use Rattle.lines.specs.Theory.{stores-then}
 use borrow.Author.Needs.{needs}
-use Rattle.lines.proofs.run.put_taken.Statement.{statement}
-use Rattle.lines.proofs.run.put_taken.Tie as tie
+use Rattle.lines.proofs.run.put_accepted.Statement.{statement}
+use Rattle.lines.proofs.run.put_accepted.Tie as tie
 
 put-answers-requires : tie.Need-put-answers-requires
 put-answers-requires c κs = search needs
@@ -28,11 +28,11 @@ returns c =
     let p4 = p3 .before .before .before in
     let p5 = p4 .before .before in (
       rw (← p2 .count-free .ensures) (stores-then _ _ _ _ (p3 .put-answers .ensures) (p1 .put-named .ensures)),
-      taken-short (p5 .args .answers .now) (p5 .args .nodes) (p5 .args .pool .now) (p5 .args .first) (λ i. p4 .shared-slice-known .given i .fits) (search needs),
+      accepted-short (p5 .args .answers .now) (p5 .args .nodes) (p5 .args .pool .now) (p5 .args .first) (λ i. p4 .shared-slice-known .given i .fits) (search needs),
     )
 
-pub put-taken-spec : {M : Type 1} → statement M
-put-taken-spec =
+pub put-accepted-spec : {M : Type 1} → statement M
+put-accepted-spec =
     tie.close
     (tie.spec
     put-answers-requires

@@ -1,0 +1,163 @@
+-- The words of the state and of the pool after short runs: how nodes and frame places are numbered, taken and freed.
+use mathlib.Core.Path.{_≡_, refl}
+use mathlib.Core.Bool.{cond}
+use mathlib.Core.List.{List, [], _∷_, _++_, map}
+use Prim.Native.Nat.{ℕ, zero, suc, _+_, _-_, _*_}
+use lib.ListN.{length, replicate}
+use lib.Dec.{eqb}
+use Rattle.words.specs.Basics.{none, joined, δ, count}
+use Rattle.sizes.specs.Sizes.{height, width, treeNodes, bit}
+use Rattle.pool.specs.Pool.{refcount, left, right, value, setNode, setRefcount, side, child, sibling, leafOf, readAt, retain, release, pathNode, copyPath, write, initLevel, initInner, initLeaves, initFree, initPool}
+use Rattle.frames.specs.Frames.{frameAt, setFrame, initPlaces, initFrames}
+use Rattle.frames.specs.Deques.{size, setSize, place, setPlace, bottom, top, push, pop, shiftUp, dropTop, initDeques}
+use Rattle.frames.specs.Steps.{spawn, return, returned, steal, sync, synced}
+use Rattle.soundness.specs.Soundness.{oneMain, parentsLive, countsRight, placedOnce, holdLive, absentEmpty, restZero, linked, onlyBelow, placesFree, framesSound, treeAt, nodesAt, poolSound, numbersSound, rootsBelow, sound, checked, cleared}
+use Rattle.model.specs.Record.{recordOf, decodeAt}
+use Rattle.semantics.specs.Core.{spawnOn, returnOn, stealOn, syncOn, readOn, writeOn, stepOn}
+use Rattle.semantics.specs.Entries.{State, wholeNodes, startOn, startWith, recordsFrom, runOn, TapeResult, tapeOn, tapeWith}
+use Rattle.semantics.specs.Calls.{Start, afterStart, tapeResult}
+use Rattle.starred.specs.Tapes.{spawns, returns, steals, syncs, writes, anyParts}
+
+-- a start, and the records of a tape
+pub record Run : Type 0 where
+  pub start : Start
+  pub records : List (List ℕ)
+
+-- the answer words, the state and the pool after it
+pub record After : Type 0 where
+  pub answers : List ℕ
+  pub state : State
+  pub pool : List ℕ
+
+abbrev afterOf : TapeResult → After
+afterOf t = record { answers = t .answers; state = t .state; pool = t .pool }
+
+-- the parts and the pool hold other words before the start; the pool has three words more than its nodes
+abbrev after : Run → After
+after r = afterOf (tapeResult (afterStart (r .start)) (joined (r .records)) (replicate (wholeNodes (r .start .pool)) 5) (replicate (2 * length (r .records)) 9))
+
+abbrev runs : ℕ → List ℕ → ℕ → List (List ℕ) → Run
+runs workers values nodes records = record { start = record { parts = anyParts; workers = workers; values = values; pool = replicate (4 * nodes + 3) 7 }; records = records }
+
+-- ---- words
+
+-- a deque's length and its frames from the top; "deque places past a deque's frames are zero"
+abbrev deque : List ℕ → List ℕ
+deque ps = length ps ∷ (ps ++ replicate (64 - length ps) 0)
+
+-- of workers 0 and 1; the others have none
+abbrev deques : List ℕ → List ℕ → List ℕ
+deques ps qs = deque ps ++ (deque qs ++ replicate 390 0)
+
+-- live, parent, depth, outstanding, suspended, root
+abbrev live : ℕ → ℕ → ℕ → ℕ → ℕ → List ℕ
+live parent depth outstanding suspended root = 1 ∷ parent ∷ depth ∷ outstanding ∷ suspended ∷ root ∷ []
+
+-- "Free frame places .., all but the link to the next being zero"
+abbrev free : ℕ → List ℕ
+free next = 0 ∷ next ∷ 0 ∷ 0 ∷ 0 ∷ 0 ∷ []
+
+-- c free places in rising order, the second being p
+abbrev rising : ℕ → ℕ → List ℕ
+rising zero p = []
+rising (suc c) p = free (cond (eqb c 0) none p) ++ rising c (suc p)
+
+-- the first places, then the rest, free in rising order
+abbrev frames : List (List ℕ) → List ℕ
+frames fs = joined fs ++ rising (64 - length fs) (suc (length fs))
+
+abbrev leaf : ℕ → ℕ → List ℕ
+leaf holders v = holders ∷ none ∷ none ∷ v ∷ []
+
+abbrev inner : ℕ → ℕ → ℕ → List ℕ
+inner holders l r = holders ∷ l ∷ r ∷ 0 ∷ []
+
+-- "A free node holds 0, the next free node or none, 0, 0."
+abbrev freeNode : ℕ → List ℕ
+freeNode next = 0 ∷ next ∷ 0 ∷ 0 ∷ []
+
+-- "words beyond the last whole node .. are never changed"
+abbrev nodes : List (List ℕ) → List ℕ
+nodes ns = joined ns ++ (7 ∷ 7 ∷ 7 ∷ [])
+
+abbrev leaves : List ℕ → (numbers deques frames pool : List ℕ) → After
+leaves as′ ks ds fs ws = record { answers = as′; state = record { numbers = ks; deques = ds; frames = fs }; pool = ws }
+
+-- numbers: workers, splitters, nodes, first free node, first free place
+abbrev five-of : ℕ → ℕ → ℕ → ℕ → ℕ → List ℕ
+five-of workers n N node place′ = workers ∷ n ∷ N ∷ node ∷ place′ ∷ []
+
+-- ---- the table
+
+pub layoutTable : List (Run × After)
+layoutTable =
+    -- "At the start the tree is numbered root first, level by level, left to right; the rest are free in rising order.", "Main in place 0"
+    (
+      runs 2 (11 ∷ 12 ∷ 13 ∷ []) 8 [],
+      leaves [] (five-of 2 3 8 6 1) (deques (0 ∷ []) []) (frames (live none 0 0 0 0 ∷ []))
+          (nodes (inner 1 1 2 ∷ inner 1 3 4 ∷ inner 1 5 none ∷ leaf 1 11 ∷ leaf 1 12 ∷ leaf 1 13 ∷ freeNode 7 ∷ freeNode none ∷ [])),
+    )
+    -- "A write always takes H + 1 nodes, root first, builds the new path beside the old siblings": a child writes 91 to splitter 0
+    ∷ (
+      runs 1 (11 ∷ 12 ∷ []) 7 (spawns 0 ∷ writes 0 0 91 ∷ []),
+      leaves (101 ∷ 1 ∷ 106 ∷ 2 ∷ []) (five-of 1 2 7 5 2) (deques (0 ∷ 1 ∷ []) []) (frames (live none 0 1 0 0 ∷ live 0 1 0 0 3 ∷ []))
+          (nodes (inner 1 1 2 ∷ leaf 1 11 ∷ leaf 2 12 ∷ inner 1 4 2 ∷ leaf 1 91 ∷ freeNode 6 ∷ freeNode none ∷ [])),
+    )
+    -- "then releases the old root": it writes 92 to splitter 1, and node 3 is free
+    ∷ (
+      runs 1 (11 ∷ 12 ∷ []) 7 (spawns 0 ∷ writes 0 0 91 ∷ writes 0 1 92 ∷ []),
+      leaves (101 ∷ 1 ∷ 106 ∷ 2 ∷ 106 ∷ 1 ∷ []) (five-of 1 2 7 3 2) (deques (0 ∷ 1 ∷ []) []) (frames (live none 0 1 0 0 ∷ live 0 1 0 0 5 ∷ []))
+          (nodes (inner 1 1 2 ∷ leaf 1 11 ∷ leaf 1 12 ∷ freeNode none ∷ leaf 1 91 ∷ inner 1 4 6 ∷ leaf 1 92 ∷ [])),
+    )
+    -- "at zero the node is freed, then its left link is released, then its right": it returns, and 5, 4, 6 are freed in this order
+    ∷ (
+      runs 1 (11 ∷ 12 ∷ []) 7 (spawns 0 ∷ writes 0 0 91 ∷ writes 0 1 92 ∷ returns 0 ∷ []),
+      leaves (101 ∷ 1 ∷ 106 ∷ 2 ∷ 106 ∷ 1 ∷ 102 ∷ 0 ∷ []) (five-of 1 2 7 6 1) (deques (0 ∷ []) []) (frames (live none 0 0 0 0 ∷ []))
+          (nodes (inner 1 1 2 ∷ leaf 1 11 ∷ leaf 1 12 ∷ freeNode none ∷ freeNode 5 ∷ freeNode 3 ∷ freeNode 4 ∷ [])),
+    )
+    -- "The last node freed is the first taken.": Main writes 77 to splitter 0 and takes 6, the new root, and 4; 0 and 1 are freed
+    ∷ (
+      runs 1 (11 ∷ 12 ∷ []) 7 (spawns 0 ∷ writes 0 0 91 ∷ writes 0 1 92 ∷ returns 0 ∷ writes 0 0 77 ∷ []),
+      leaves (101 ∷ 1 ∷ 106 ∷ 2 ∷ 106 ∷ 1 ∷ 102 ∷ 0 ∷ 106 ∷ 4 ∷ []) (five-of 1 2 7 1 1) (deques (0 ∷ []) []) (frames (live none 0 0 0 6 ∷ []))
+          (nodes (freeNode 5 ∷ freeNode 0 ∷ leaf 1 12 ∷ freeNode none ∷ leaf 1 77 ∷ freeNode 3 ∷ inner 1 4 2 ∷ [])),
+    )
+    -- "an idle worker takes the top frame of a victim with at least two frames"
+    ∷ (
+      runs 2 (5 ∷ []) 1 (spawns 0 ∷ spawns 0 ∷ steals 1 0 ∷ []),
+      leaves (101 ∷ 1 ∷ 101 ∷ 2 ∷ 103 ∷ 0 ∷ []) (five-of 2 1 1 none 3) (deques (1 ∷ 2 ∷ []) (0 ∷ [])) (frames (live none 0 1 0 0 ∷ live 0 1 1 0 0 ∷ live 1 2 0 0 0 ∷ []))
+          (nodes (leaf 3 5 ∷ [])),
+    )
+    -- "Frame places are taken and freed the same way": 1 is freed, then 2
+    ∷ (
+      runs 2 (5 ∷ []) 1 (spawns 0 ∷ steals 1 0 ∷ spawns 1 ∷ returns 0 ∷ returns 1 ∷ []),
+      leaves (101 ∷ 1 ∷ 103 ∷ 0 ∷ 101 ∷ 1 ∷ 102 ∷ 1 ∷ 102 ∷ 0 ∷ []) (five-of 2 1 1 none 2) (deques [] (0 ∷ [])) (frames (live none 0 0 0 0 ∷ free 3 ∷ free 1 ∷ []))
+          (nodes (leaf 1 5 ∷ [])),
+    )
+    -- and 2 is taken first
+    ∷ (
+      runs 2 (5 ∷ []) 1 (spawns 0 ∷ steals 1 0 ∷ spawns 1 ∷ returns 0 ∷ returns 1 ∷ spawns 1 ∷ []),
+      leaves (101 ∷ 1 ∷ 103 ∷ 0 ∷ 101 ∷ 1 ∷ 102 ∷ 1 ∷ 102 ∷ 0 ∷ 101 ∷ 1 ∷ []) (five-of 2 1 1 none 1) (deques [] (0 ∷ 2 ∷ [])) (frames (live none 0 1 0 0 ∷ free 3 ∷ live 0 1 0 0 0 ∷ []))
+          (nodes (leaf 2 5 ∷ [])),
+    )
+    -- "Else it is suspended, its worker goes idle"
+    ∷ (
+      runs 2 (5 ∷ []) 1 (spawns 0 ∷ steals 1 0 ∷ syncs 1 ∷ []),
+      leaves (101 ∷ 1 ∷ 103 ∷ 0 ∷ 104 ∷ 1 ∷ []) (five-of 2 1 1 none 2) (deques (1 ∷ []) []) (frames (live none 0 1 1 0 ∷ live 0 1 0 0 0 ∷ []))
+          (nodes (leaf 2 5 ∷ [])),
+    )
+    -- "the parent resumes on this worker, past its sync"
+    ∷ (
+      runs 2 (5 ∷ []) 1 (spawns 0 ∷ steals 1 0 ∷ syncs 1 ∷ returns 0 ∷ []),
+      leaves (101 ∷ 1 ∷ 103 ∷ 0 ∷ 104 ∷ 1 ∷ 102 ∷ 2 ∷ []) (five-of 2 1 1 none 1) (deques (0 ∷ []) []) (frames (live none 0 0 0 0 ∷ []))
+          (nodes (leaf 1 5 ∷ [])),
+    )
+    -- Main has returned: "no frame lives and all deques are empty", all nodes are free
+    ∷ (
+      runs 1 (11 ∷ 12 ∷ []) 4 (returns 0 ∷ []),
+      leaves (102 ∷ 3 ∷ []) (five-of 1 2 4 2 0) (deques [] []) (frames (free 1 ∷ [])) (nodes (freeNode 3 ∷ freeNode 0 ∷ freeNode 1 ∷ freeNode none ∷ [])),
+    )
+    ∷ []
+
+pub layout : map (λ (row : Run × After). after (row .0)) layoutTable ≡ map (λ (row : Run × After). row .1) layoutTable
+unfolding layoutTable startOn startWith tapeOn tapeWith runOn recordsFrom recordOf decodeAt spawnOn returnOn stealOn syncOn readOn writeOn stepOn spawn return returned steal sync synced shiftUp dropTop pop top bottom side child sibling bit leafOf readAt retain release setRefcount pathNode copyPath write initPool initFree initLeaves initInner initLevel setNode height width treeNodes initDeques push setSize setPlace size place initFrames initPlaces setFrame frameAt checked cleared sound numbersSound rootsBelow framesSound oneMain parentsLive countsRight placedOnce holdLive absentEmpty restZero linked onlyBelow placesFree poolSound treeAt nodesAt refcount left right value δ count
+layout = refl

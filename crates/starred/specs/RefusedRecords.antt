@@ -1,0 +1,311 @@
+-- Refusals 7 to 16: each at its condition and beside its nearest accepted neighbour, the order in which they are checked, and
+-- that they leave state and pool unchanged. Two tables, a theorem each: through tapes, and through steps from outside.
+--
+-- These never hold together. By the kind of step: 10 (no steal) and 11, 12 (steals); 11, 12, 13 (spawns), 14 (returns) and 15, 16 (reads,
+-- writes), but for 11 with 12 and 15 with 16; 7 and 16, for a write has no unused field. By the frames: 8 and 11 or 14, for a worker
+-- that does not exist has no frame; 10 and 14, for an idle worker has none; 9 and 11, 13 or 14, for no frame lives once Main has
+-- returned; 9 and 16, for all nodes are free then, and T(n) is at least H + 1. Of all other pairs there is a row.
+use mathlib.Core.Path.{_≡_, refl}
+use mathlib.Core.Bool.{Bool, true, cond, _&&_}
+use mathlib.Core.List.{List, [], _∷_, _++_, map}
+use Prim.Native.Nat.{ℕ, zero, suc, _+_, _-_, _*_}
+use lib.ListN.{length, replicate}
+use lib.Dec.{ltb}
+use Rattle.words.specs.Basics.{joined, same, δ, count}
+use Rattle.sizes.specs.Sizes.{height, width, treeNodes, bit}
+use Rattle.pool.specs.Pool.{refcount, left, right, value, setNode, setRefcount, side, child, sibling, leafOf, readAt, retain, release, pathNode, copyPath, write, initLevel, initInner, initLeaves, initFree, initPool}
+use Rattle.frames.specs.Frames.{frameAt, setFrame, initPlaces, initFrames}
+use Rattle.frames.specs.Deques.{size, setSize, place, setPlace, bottom, top, push, pop, shiftUp, dropTop, initDeques}
+use Rattle.frames.specs.Steps.{spawn, return, returned, steal, sync, synced}
+use Rattle.soundness.specs.Soundness.{oneMain, parentsLive, countsRight, placedOnce, holdLive, absentEmpty, restZero, linked, onlyBelow, placesFree, framesSound, treeAt, nodesAt, poolSound, numbersSound, rootsBelow, sound, checked, cleared}
+use Rattle.model.specs.Record.{recordOf, decodeAt}
+use Rattle.semantics.specs.Core.{spawnOn, returnOn, stealOn, syncOn, readOn, writeOn, stepOn}
+use Rattle.semantics.specs.Answers.{wordsIn}
+use Rattle.semantics.specs.Entries.{wholeNodes, startOn, startWith, OutsideResult, outsideOn, outsideWith, recordsFrom, runOn, TapeResult, tapeOn, tapeWith}
+use Rattle.semantics.specs.Calls.{Start, StateAndPool, afterStart, outsideResult, tapeResult}
+use Rattle.starred.specs.Tapes.{bytes, spawns, returns, steals, syncs, reads, writes, anyParts, anyPool, wordsOf}
+
+-- ---- tapes
+
+-- a record and its two answer words
+abbrev pub Row : Type 0
+Row = List ℕ × (ℕ × ℕ)
+
+-- refused by k: "A refused record gives its refusal and 0"
+abbrev by : List ℕ → ℕ → Row
+by r k = (r, (k, 0))
+
+abbrev gives : List ℕ → ℕ → ℕ → Row
+gives r a b = (r, (a, b))
+
+-- a start, then records: some that lead to a state, those that it refuses, some more
+pub record Case : Type 0 where
+  pub start : Start
+  pub before : List Row
+  pub refused : List Row
+  pub after : List Row
+
+abbrev bytesOf : List Row → List ℕ
+bytesOf rows = joined (map (λ (r : Row). r .0) rows)
+
+abbrev saidOf : List Row → List ℕ
+saidOf rows = joined (map (λ (r : Row). r .1 .0 ∷ r .1 .1 ∷ []) rows)
+
+abbrev played : Start → List Row → TapeResult
+played b rows = tapeResult (afterStart b) (bytesOf rows) (replicate (wholeNodes (b .pool)) 5) (replicate (2 * length rows) 9)
+
+-- the answer words of all the records; and whether the refused ones changed nothing
+abbrev seen : Case → List ℕ × Bool
+seen k =
+    let p : TapeResult = played (k .start) (k .before) in
+    let q : TapeResult = played (k .start) (k .before ++ k .refused) in
+    (played (k .start) (k .before ++ (k .refused ++ k .after)) .answers, same (wordsOf (q .state)) (wordsOf (p .state)) && same (q .pool) (p .pool))
+
+abbrev said : Case → List ℕ × Bool
+said k = (saidOf (k .before ++ (k .refused ++ k .after)), true)
+
+-- n splitters of value 1
+abbrev starts : ℕ → ℕ → ℕ → Start
+starts workers n nodes = record { parts = anyParts; workers = workers; values = replicate n 1; pool = anyPool nodes }
+
+-- c nested spawns, the first to the depth d
+abbrev nested : ℕ → ℕ → List Row
+nested zero d = []
+nested (suc c) d = gives (spawns 0) 101 d ∷ nested c (suc d)
+
+-- Main alone on worker 0's deque, worker 1 idle, one free node, which is enough for a write
+abbrev atStart : Case
+atStart = record {
+  start = starts 2 1 2;
+  before = [];
+  refused =
+      -- "7. The kind is not 1 to 6 .."
+      by (bytes 0 0 0 0) 7
+      ∷ by (bytes 7 0 0 0) 7
+      ∷ by (bytes 255 0 0 0) 7
+      -- ".. or an unused field is not zero": each unused field of each kind
+      ∷ by (bytes 1 0 1 0) 7
+      ∷ by (bytes 1 0 0 1) 7
+      ∷ by (bytes 2 0 1 0) 7
+      ∷ by (bytes 2 0 0 1) 7
+      ∷ by (bytes 3 1 0 1) 7
+      ∷ by (bytes 4 0 1 0) 7
+      ∷ by (bytes 4 0 0 1) 7
+      ∷ by (bytes 5 0 0 1) 7
+      -- their highest bytes
+      ∷ by (1 ∷ 0 ∷ 0 ∷ 1 ∷ 0 ∷ 0 ∷ 0 ∷ 0 ∷ []) 7
+      ∷ by (5 ∷ 0 ∷ 0 ∷ 0 ∷ 0 ∷ 0 ∷ 0 ∷ 1 ∷ []) 7
+      -- 7 before 8, 10, 11, 12 and 15
+      ∷ by (bytes 0 2 0 0) 7
+      ∷ by (bytes 1 2 1 0) 7
+      ∷ by (bytes 5 1 0 1) 7
+      ∷ by (bytes 3 0 1 1) 7
+      ∷ by (bytes 3 1 2 1) 7
+      ∷ by (bytes 5 0 1 1) 7
+      -- "8. The worker does not exist.", of each kind
+      ∷ by (spawns 2) 8
+      ∷ by (returns 2) 8
+      ∷ by (steals 2 0) 8
+      ∷ by (syncs 2) 8
+      ∷ by (reads 2 0) 8
+      ∷ by (writes 2 0 5) 8
+      ∷ by (reads 255 0) 8
+      -- 8 before 12 and 15 (and 10: a worker that does not exist has no frame)
+      ∷ by (steals 2 2) 8
+      ∷ by (reads 2 1) 8
+      ∷ by (writes 2 1 5) 8
+      -- "10. The step is not a steal and the worker is idle.", of each kind
+      ∷ by (spawns 1) 10
+      ∷ by (returns 1) 10
+      ∷ by (syncs 1) 10
+      ∷ by (reads 1 0) 10
+      ∷ by (writes 1 0 5) 10
+      -- 10 before 15
+      ∷ by (reads 1 1) 10
+      ∷ by (writes 1 1 5) 10
+      -- "11. The step is a steal and the thief is not idle."; 11 before 12: the victim has one frame, none, or does not exist
+      ∷ by (steals 0 0) 11
+      ∷ by (steals 0 1) 11
+      ∷ by (steals 0 2) 11
+      -- "12. The victim does not exist or has fewer than two frames."
+      ∷ by (steals 1 0) 12
+      ∷ by (steals 1 1) 12
+      ∷ by (steals 1 2) 12
+      ∷ by (3 ∷ 1 ∷ 0 ∷ 1 ∷ 0 ∷ 0 ∷ 0 ∷ 0 ∷ []) 12
+      -- "15. The step is a read or a write and the splitter is not below n."
+      ∷ by (reads 0 1) 15
+      ∷ by (writes 0 1 5) 15
+      ∷ by (5 ∷ 0 ∷ 0 ∷ 1 ∷ 0 ∷ 0 ∷ 0 ∷ 0 ∷ []) 15
+      ∷ [];
+  after =
+      -- the neighbours that are accepted
+      gives (syncs 0) 104 0
+      ∷ gives (reads 0 0) 105 1
+      ∷ gives (writes 0 0 8) 106 1
+      ∷ gives (spawns 0) 101 1
+      ∷ gives (steals 1 0) 103 0
+      ∷ gives (reads 1 0) 105 8
+      ∷ gives (returns 0) 102 1
+      ∷ gives (returns 1) 102 3
+      ∷ [];
+}
+
+-- "1 to 8 workers, numbered from 0": the last one is there, and idle
+abbrev eightWorkers : Case
+eightWorkers = record {
+  start = starts 8 1 1;
+  before = [];
+  refused = by (reads 7 0) 10 ∷ by (reads 8 0) 8 ∷ by (steals 1 7) 12 ∷ by (steals 8 7) 8 ∷ [];
+  after = gives (spawns 0) 101 1 ∷ gives (steals 7 0) 103 0 ∷ gives (reads 7 0) 105 1 ∷ [];
+}
+
+-- no frame lives, and all nodes are free
+abbrev mainReturned : Case
+mainReturned = record {
+  start = starts 2 1 2;
+  before = gives (returns 0) 102 3 ∷ [];
+  refused =
+      -- "9. Main has returned.", of each kind; 9 before 10 and 12
+      by (spawns 0) 9
+      ∷ by (returns 0) 9
+      ∷ by (steals 1 0) 9
+      ∷ by (steals 1 2) 9
+      ∷ by (syncs 0) 9
+      ∷ by (reads 0 0) 9
+      ∷ by (writes 0 0 5) 9
+      ∷ by (spawns 1) 9
+      -- 9 before 15
+      ∷ by (reads 0 1) 9
+      ∷ by (writes 0 1 5) 9
+      -- 7 and 8 before 9
+      ∷ by (bytes 0 0 0 0) 7
+      ∷ by (bytes 1 0 1 0) 7
+      ∷ by (spawns 2) 8
+      ∷ by (steals 2 0) 8
+      ∷ [];
+  after = [];
+}
+
+-- worker 0 has Main and a child of it
+abbrev twoFrames : Case
+twoFrames = record {
+  start = starts 3 1 2;
+  before = gives (spawns 0) 101 1 ∷ [];
+  -- 11 where the victim has two frames
+  refused = by (steals 0 0) 11 ∷ by (steals 1 2) 12 ∷ [];
+  after = gives (steals 1 0) 103 0 ∷ by (steals 2 0) 12 ∷ by (steals 2 1) 12 ∷ [];
+}
+
+-- Main on worker 1, its child on worker 0
+abbrev childElsewhere : Case
+childElsewhere = record {
+  start = starts 3 1 2;
+  before = gives (spawns 0) 101 1 ∷ gives (steals 1 0) 103 0 ∷ [];
+  refused =
+      -- "14. The step is a return and the frame has a live child."
+      by (returns 1) 14
+      -- 7 before 14
+      ∷ by (bytes 2 1 1 0) 7
+      -- 11 before 12, 12
+      ∷ by (steals 0 1) 11
+      ∷ by (steals 2 0) 12
+      ∷ by (steals 2 1) 12
+      ∷ [];
+  after = gives (returns 0) 102 1 ∷ gives (returns 1) 102 3 ∷ [];
+}
+
+-- "13. The step is a spawn and 64 frames live.": "The 63rd nested spawn gives 101 63, the 64th 13; after one return it is accepted."
+abbrev manyFrames : Case
+manyFrames = record {
+  start = starts 2 1 1;
+  before = nested 63 1;
+  refused =
+      by (spawns 0) 13
+      -- 7, 8 and 10 before 13
+      ∷ by (bytes 1 0 1 0) 7
+      ∷ by (spawns 2) 8
+      ∷ by (spawns 1) 10
+      ∷ [];
+  after = gives (reads 0 0) 105 1 ∷ gives (returns 0) 102 0 ∷ gives (spawns 0) 101 63 ∷ by (spawns 0) 13 ∷ [];
+}
+
+-- "16. The step is a write and fewer than H + 1 nodes are free.": no node is free
+abbrev noNode : Case
+noNode = record {
+  start = starts 2 1 1;
+  before = [];
+  refused =
+      by (writes 0 0 5) 16
+      -- "skipping the new path when the written value is equal" is a trap
+      ∷ by (writes 0 0 1) 16
+      -- 8, 10 and 15 before 16
+      ∷ by (writes 2 0 5) 8
+      ∷ by (writes 1 0 5) 10
+      ∷ by (writes 0 1 5) 15
+      ∷ [];
+  after = gives (reads 0 0) 105 1 ∷ [];
+}
+
+-- H is 1: one node is free, or two
+abbrev oneNode : Case
+oneNode = record { start = starts 1 2 4; before = []; refused = by (writes 0 1 5) 16 ∷ by (writes 0 2 5) 15 ∷ []; after = gives (reads 0 1) 105 1 ∷ [] }
+
+abbrev twoNodes : Case
+twoNodes = record { start = starts 1 2 5; before = []; refused = by (writes 0 2 5) 15 ∷ []; after = gives (writes 0 1 5) 106 2 ∷ gives (reads 0 1) 105 5 ∷ [] }
+
+pub recordTable : List Case
+recordTable = atStart ∷ eightWorkers ∷ mainReturned ∷ twoFrames ∷ childElsewhere ∷ manyFrames ∷ noNode ∷ oneNode ∷ twoNodes ∷ []
+
+pub record-refusals : map seen recordTable ≡ map said recordTable
+unfolding recordTable startOn startWith tapeOn tapeWith outsideOn outsideWith runOn recordsFrom recordOf decodeAt spawnOn returnOn stealOn syncOn readOn writeOn stepOn spawn return returned steal sync synced shiftUp dropTop pop top bottom side child sibling bit leafOf readAt retain release setRefcount pathNode copyPath write initPool initFree initLeaves initInner initLevel setNode height width treeNodes initDeques push setSize setPlace size place initFrames initPlaces setFrame frameAt checked cleared sound numbersSound rootsBelow framesSound oneMain parentsLive countsRight placedOnce holdLive absentEmpty restZero linked onlyBelow placesFree poolSound treeAt nodesAt refcount left right value δ count
+record-refusals = refl
+
+-- ---- steps from outside
+
+-- a step after a tape: its numbers, and its two answer words
+pub record StepRow : Type 0 where
+  pub start : Start
+  pub before : List Row
+  pub kind : ℕ
+  pub worker : ℕ
+  pub field : ℕ
+  pub value : ℕ
+  pub words : ℕ × ℕ
+
+abbrev enters : Start → List Row → (kind worker field value : ℕ) → ℕ → ℕ → StepRow
+enters b rows k w f v x y = record { start = b; before = rows; kind = k; worker = w; field = f; value = v; words = (x, y) }
+
+-- the answer words; and whether the step, if it was refused, changed nothing
+abbrev stepSeen : StepRow → (ℕ × ℕ) × Bool
+stepSeen r =
+    let p : TapeResult = played (r .start) (r .before) in
+    let h : StateAndPool = record { state = p .state; pool = p .pool } in
+    let o : OutsideResult = outsideResult h (r .kind) (r .worker) (r .field) (r .value) (replicate (wholeNodes (h .pool)) 5) in
+    let unchanged : Bool = same (wordsOf (o .state)) (wordsOf (h .state)) && same (o .pool) (h .pool) in
+    (wordsIn (o .result), cond (ltb (wordsIn (o .result) .0) 100) unchanged true)
+
+pub stepTable : List StepRow
+stepTable =
+    enters (starts 2 1 2) [] 0 0 0 0 7 0
+    ∷ enters (starts 2 1 2) [] 1 0 0 1 7 0
+    ∷ enters (starts 2 1 2) [] 5 2 0 0 8 0
+    ∷ enters (starts 2 1 2) (gives (returns 0) 102 3 ∷ []) 5 0 0 0 9 0
+    ∷ enters (starts 2 1 2) [] 5 1 0 0 10 0
+    ∷ enters (starts 2 1 2) [] 3 0 1 0 11 0
+    ∷ enters (starts 2 1 2) [] 3 1 0 0 12 0
+    ∷ enters (starts 1 1 1) (nested 63 1) 1 0 0 0 13 0
+    ∷ enters (starts 2 1 2) (gives (spawns 0) 101 1 ∷ gives (steals 1 0) 103 0 ∷ []) 2 1 0 0 14 0
+    ∷ enters (starts 2 1 2) [] 5 0 1 0 15 0
+    ∷ enters (starts 2 1 1) [] 6 0 0 5 16 0
+    ∷ enters (starts 2 1 2) [] 6 0 0 5 106 1
+    ∷ enters (starts 2 1 2) [] 5 0 0 0 105 1
+    -- a number that its field in a record could not hold
+    ∷ enters (starts 2 1 2) [] 257 0 0 0 7 0
+    ∷ enters (starts 2 1 2) [] 5 256 0 0 8 0
+    ∷ enters (starts 2 1 2) [] 3 1 65536 0 12 0
+    ∷ enters (starts 2 1 2) [] 5 0 65536 0 15 0
+    ∷ []
+
+pub step-refusals : map stepSeen stepTable ≡ map (λ (row : StepRow). (row .words, true)) stepTable
+unfolding stepTable startOn startWith tapeOn tapeWith outsideOn outsideWith runOn recordsFrom recordOf decodeAt spawnOn returnOn stealOn syncOn readOn writeOn stepOn spawn return returned steal sync synced shiftUp dropTop pop top bottom side child sibling bit leafOf readAt retain release setRefcount pathNode copyPath write initPool initFree initLeaves initInner initLevel setNode height width treeNodes initDeques push setSize setPlace size place initFrames initPlaces setFrame frameAt checked cleared sound numbersSound rootsBelow framesSound oneMain parentsLive countsRight placedOnce holdLive absentEmpty restZero linked onlyBelow placesFree poolSound treeAt nodesAt refcount left right value δ count
+step-refusals = refl
