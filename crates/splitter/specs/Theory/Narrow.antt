@@ -25,7 +25,7 @@ use Rattle.semantics.specs.declared.Refusal.the-variants.{NoWorker, MainReturne
 use Rattle.semantics.specs.Core.{Core, StepResult, noWorker, allIdle, idle, judged, actingTests, stepOn}
 use Rattle.semantics.specs.Entries.{State, numbersOf, coreOf, checkedState, recordOn, outsideDone, outsideChecked, outsideWith}
 use Rattle.semantics.specs.Theory.Refusals.{refusedBy}
-use Rattle.semantics.specs.Theory.Sentences.{sound-facts}
+use Rattle.soundness.specs.Theory.Sentences.{sound-facts}
 
 -- ---- numbers
 
