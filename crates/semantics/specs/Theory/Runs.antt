@@ -25,11 +25,11 @@ use Rattle.semantics.specs.Core.{Core}
 use Rattle.semantics.specs.Entries.{numbersOf, coreOf, stateOf, isSound, checkedState, chainFree, recordOn, OutsideResult, outsideDone, outsideChecked, outsideWith, outsideOn, recordsOf, putAnswer, RecordsResult, recordsResult, runOn, TapeResult, tapeDone, tapeRefused, tapeChecked, unfitTape, tapeWith, tapeOn}
 use Rattle.semantics.specs.Calls.{HostCall, outside, tape, StateAndPool, afterCall, afterCalls, Exchange, refusedWhole, exchangesFrom, exchangesOf, exchanges, recordsIn, answersIn, freeAfter, coreIn, freeCounts}
 use Rattle.semantics.specs.Demands.{Specification, answersBy, machineBy, Answers}
+use Rattle.semantics.specs.Promises.{Fits}
 use Rattle.semantics.specs.Theory.Pools.{Beyond}
 use Rattle.semantics.specs.Theory.FromSoundRelates.{map-append}
 use Rattle.semantics.specs.Theory.Simulation.{numbers-kept}
 use Rattle.semantics.specs.Theory.SoundSteps.{step-beyond, Carried, is-sound}
-use Rattle.semantics.specs.Promises.{Fits}
 use Rattle.semantics.specs.Theory.Fitting.{fits-true}
 use Rattle.semantics.specs.Theory.Words.{words-low, words-back, not-whole}
 use Rattle.semantics.specs.Theory.TapeWords.{length-records, records-from, put-long, put-before, put-first, put-second}

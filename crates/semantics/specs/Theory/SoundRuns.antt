@@ -51,7 +51,7 @@ step-own c st = judged-own (testsOf c st) c (doneBy c st) (done-own c st)
 -- ---- a step
 
 module _ (M : Machine) (c : Core) (st : Step) (K : Carried M c) where
-  -- it is the number on the chain
+  -- the engine's own number of free nodes is that of the chain
   own-left : stepOn c st .core .head .«free_count» ≡ freeLeft c (Valid st)
   own-left = sym (is-sound (step-carried M c st K) .1)
 
