@@ -4,7 +4,7 @@ use mathlib.Core.Logic.{_↔_}
 use mathlib.Core.Bool.{Bool, true, cond, _||_}
 use mathlib.Core.List.{List·Memᴰ as In}
 use mathlib.Core.List.{List, [], _∷_, map}
-use Prim.Native.Nat.{ℕ, suc, _+_, _*_, _/_, _≤_, _<_}
+use Prim.Native.Nat.{ℕ, suc, _+_, _*_, _/_, _<_}
 use lib.ListN.{length, drop}
 use lib.Dec.{eqb}
 use Rattle.words.specs.Basics.{count}
@@ -17,7 +17,7 @@ use Rattle.model.specs.Machine.{Name, Machine, start, live, inUse}
 use Rattle.model.specs.Machine.{freeNodes as plainFree}
 use Rattle.model.specs.Steps.{step, answer}
 use Rattle.model.specs.Run.{Entry, IsFrame, stepsOf, readsOf, oneWorkerSteps}
-use Rattle.semantics.specs.Entries.{State, zeros, wholeNodes, numbersOf, isSound, chainFree, OutsideResult, TapeResult}
+use Rattle.semantics.specs.Entries.{State, zeros, wholeNodes, numbersOf, isSound, chainFree}
 use Rattle.semantics.specs.Answers.{wordsIn}
 use Rattle.semantics.specs.SoundMachine.{machineOf}
 use Rattle.semantics.specs.Calls.{Start, startResult, HostCall, outside, tape, StateAndPool, afterStart, outsideResult, tapeResult, afterCall, afterCalls, exchanges, recordsIn, answersIn, freeCounts, saysAccepted, traceFrom}

@@ -1,5 +1,5 @@
 -- "Empty tape: no answers, only the work slice changed", for every state, pool and slices.
-use mathlib.Core.Path.{_≡_, refl, ap}
+use mathlib.Core.Path.{_≡_, refl}
 use mathlib.Core.Logic.{inl, inr}
 use mathlib.Core.Bool.{false}
 use mathlib.Core.List.{List, []}

@@ -1,6 +1,6 @@
 -- What a call leaves when it is refused, and of the work slice and the answer words in any case; for every state and pool.
 use mathlib.Core.Path.{_≡_, refl, sym, ap, ap₂, _∙_, subst}
-use mathlib.Core.Bool.{Bool, true, false, cond, _||_}
+use mathlib.Core.Bool.{Bool, false, cond}
 use mathlib.Core.Logic.{inl, inr}
 use mathlib.Core.List.{List, [], _∷_}
 use Prim.Native.Nat.{ℕ, zero, suc, _+_, _*_, _/_, _≤_, _<_}
@@ -16,6 +16,7 @@ use Rattle.soundness.specs.Soundness.{cleared}
 use Rattle.soundness.specs.declared.Checked.{Checked}
 use Rattle.soundness.specs.declared.Checked.the-variants.{NoRoom, Sound}
 use Rattle.model.specs.declared.Decoded.{Decoded}
+use Rattle.model.specs.declared.Decoded.the-variants.{Invalid}
 use Rattle.model.specs.Record.{recordOf}
 use Rattle.semantics.specs.declared.Answer.{Answer}
 use Rattle.semantics.specs.Answers.{answerWords, wordsIn}
@@ -35,10 +36,10 @@ pub refused-start : (b : Start) → 0 < startResult b .result → RefusedStart b
 refused-start b h = elim (start-cases (b .parts) (b .workers) (b .values) (b .pool)) [
   | inl e ↦ record { state = λ r. ap (λ (o : StartResult). o .state) e; zero = λ r. absurd (omega (arith, r, ap (λ (o : StartResult). o .result) e)); pool = ap (λ (o : StartResult). o .pool) e }
   | inr (inl R) ↦ record {
-      state = λ r. absurd (omega (arith, r, R .low, ap (λ (o : StartResult). o .result) (R .result)));
-      zero = λ r. ap (λ (o : StartResult). o .state) (R .result);
-      pool = ap (λ (o : StartResult). o .pool) (R .result);
-    }
+    state = λ r. absurd (omega (arith, r, R .low, ap (λ (o : StartResult). o .result) (R .result)));
+    zero = λ r. ap (λ (o : StartResult). o .state) (R .result);
+    pool = ap (λ (o : StartResult). o .pool) (R .result);
+  }
   | inr (inr A) ↦ absurd (omega (arith, h, ap (λ (o : StartResult). o .result) (A .result)))
 ]
 
@@ -94,6 +95,16 @@ refused-call h (outside kind worker field value work) r =
 refused-call h (tape bytes work answers) r =
     let k = tape-keeps (h .state) (h .pool) work bytes answers r in
     record { same = ap₂ (λ (s : State) (ws : List ℕ). record { state = s; pool = ws }) (k .0 .0) (k .0 .1); same-answers = k .1 }
+
+-- a record that is no step is refused, whatever the state
+pub invalid-refused : (h : StateAndPool) (kind worker field value : ℕ) (work : List ℕ) → recordOf kind worker field value ≡ Invalid → IsRefused h (outside kind worker field value work)
+unfolding outsideOn outsideWith
+invalid-refused h kind worker field value work e = rw e (elim (decided (fits (h .state))) [ inl f ↦ rw f (checked-low (checkedState (h .state) (h .pool) work)) | inr f ↦ rw f (omega arith) ])
+  where
+    checked-low : (k : Checked) → wordsIn (outsideChecked k (h .state) (h .pool) work Invalid .result) .0 < 100
+    checked-low NoRoom = omega arith
+    checked-low Checked.Unsound = omega arith
+    checked-low (Sound n) = omega arith
 
 -- ---- the answer words past the last record's
 

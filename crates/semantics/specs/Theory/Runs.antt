@@ -4,7 +4,7 @@ use mathlib.Core.Path.{_≡_, refl, sym, ap, ap₂, _∙_, subst}
 use mathlib.Core.Bool.{Bool, true, false, cond, not}
 use mathlib.Core.Logic.{inl, inr}
 use mathlib.Core.List.{List, [], _∷_, _++_}
-use Prim.Native.Nat.{ℕ, zero, suc, _+_, _*_, _/_, _%_, _≤_, _<_}
+use Prim.Native.Nat.{ℕ, suc, _+_, _*_, _/_, _%_, _≤_, _<_}
 use native.Mathlib.Omega.{arith}
 use lib.ListN.{length, getD, length-append}
 use lib.Dec.{leb, ltb, eqb}
@@ -18,18 +18,18 @@ use Rattle.model.specs.declared.Decoded.{Decoded}
 use Rattle.model.specs.declared.Decoded.the-variants.{Valid, Invalid}
 use Rattle.model.specs.Record.{recordOf}
 use Rattle.model.specs.Machine.{Machine}
-use Rattle.semantics.specs.declared.Refusal.the-variants.{Tape, Work}
+use Rattle.semantics.specs.declared.Refusal.the-variants.{Tape}
 use Rattle.semantics.specs.declared.Answer.{Answer}
 use Rattle.semantics.specs.Answers.{answerWords, wordsIn}
 use Rattle.semantics.specs.Core.{Core}
-use Rattle.semantics.specs.Entries.{State, numbersOf, coreOf, stateOf, isSound, checkedState, chainFree, recordOn, OutsideResult, outsideDone, outsideRefused, outsideChecked, outsideWith, outsideOn, recordsOf, putAnswer, RecordsResult, recordsResult, runOn, TapeResult, tapeDone, tapeRefused, tapeChecked, unfitTape, tapeWith, tapeOn}
+use Rattle.semantics.specs.Entries.{numbersOf, coreOf, stateOf, isSound, checkedState, chainFree, recordOn, OutsideResult, outsideDone, outsideChecked, outsideWith, outsideOn, recordsOf, putAnswer, RecordsResult, recordsResult, runOn, TapeResult, tapeDone, tapeRefused, tapeChecked, unfitTape, tapeWith, tapeOn}
 use Rattle.semantics.specs.Calls.{HostCall, outside, tape, StateAndPool, afterCall, afterCalls, Exchange, refusedWhole, exchangesFrom, exchangesOf, exchanges, recordsIn, answersIn, freeAfter, coreIn, freeCounts}
 use Rattle.semantics.specs.Demands.{Specification, answersBy, machineBy, Answers}
+use Rattle.semantics.specs.Promises.{Fits}
 use Rattle.semantics.specs.Theory.Pools.{Beyond}
 use Rattle.semantics.specs.Theory.FromSoundRelates.{map-append}
 use Rattle.semantics.specs.Theory.Simulation.{numbers-kept}
 use Rattle.semantics.specs.Theory.SoundSteps.{step-beyond, Carried, is-sound}
-use Rattle.semantics.specs.Promises.{Fits}
 use Rattle.semantics.specs.Theory.Fitting.{fits-true}
 use Rattle.semantics.specs.Theory.Words.{words-low, words-back, not-whole}
 use Rattle.semantics.specs.Theory.TapeWords.{length-records, records-from, put-long, put-before, put-first, put-second}

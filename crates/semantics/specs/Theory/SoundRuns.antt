@@ -16,11 +16,11 @@ use Rattle.model.specs.declared.Decoded.the-variants.{Valid, Invalid}
 use Rattle.model.specs.Machine.{Machine}
 use Rattle.model.specs.Steps.{step, answer}
 use Rattle.semantics.specs.declared.Refusal.{Refusal}
-use Rattle.semantics.specs.Answers.{refusalNumber, answerWords}
+use Rattle.semantics.specs.Answers.{answerWords}
 use Rattle.semantics.specs.Core.{Core, StepResult, judged, spawnOn, returnOn, stealOn, syncOn, readOn, writeOn, stepOn, testsOf, doneBy}
 use Rattle.semantics.specs.Entries.{fits, numbersOf, isSound, recordOn}
 use Rattle.semantics.specs.Calls.{HostCall, StateAndPool, coreIn}
-use Rattle.semantics.specs.Demands.{plainAfter, plainAnswer, withFree, fromSound, plainOf, SoundRun}
+use Rattle.semantics.specs.Demands.{plainAfter, withFree, fromSound, plainOf, SoundRun}
 use Rattle.semantics.specs.Theory.Refusals.{number-range}
 use Rattle.semantics.specs.Theory.SoundSteps.{Carried, is-sound, sound-carried, rebased, simulated, step-carried}
 use Rattle.semantics.specs.Theory.Fitting.{true-fits, state-back}
@@ -51,7 +51,7 @@ step-own c st = judged-own (testsOf c st) c (doneBy c st) (done-own c st)
 -- ---- a step
 
 module _ (M : Machine) (c : Core) (st : Step) (K : Carried M c) where
-  -- it is the number on the chain
+  -- the engine's own number of free nodes is that of the chain
   own-left : stepOn c st .core .head .«free_count» ≡ freeLeft c (Valid st)
   own-left = sym (is-sound (step-carried M c st K) .1)
 

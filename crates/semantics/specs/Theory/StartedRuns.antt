@@ -32,12 +32,12 @@ use Rattle.semantics.specs.Core.{Core, stepOn}
 use Rattle.semantics.specs.Entries.{State, StartResult, fits, recordOn, wholeNodes}
 use Rattle.semantics.specs.Calls.{Start, startResult, HostCall, outside, StateAndPool, afterStart, afterCall, afterCalls, Exchange, exchangesOf, exchanges, recordsIn, answersIn, freeAfter, coreIn, freeCounts}
 use Rattle.semantics.specs.Demands.{plainAfter, plainAnswer, fromStart, answersBy, machineBy, plainStart, Demand2, traceOf, MainReturned, callOf, oneByOne, oneWorkerCalls, aloneStart, allAccepted, AllFree, Demand3}
+use Rattle.semantics.specs.Promises.{Fits}
 use Rattle.semantics.specs.Theory.Relation.{TreeLaws, Relates, rootsOf}
 use Rattle.semantics.specs.Theory.Pools.{LiveTrees, GoodTrees, good-laws}
 use Rattle.semantics.specs.Theory.FromSoundRelates.{map-append}
 use Rattle.semantics.specs.Theory.Simulation.{simulates, numbers-kept}
 use Rattle.semantics.specs.Theory.ToSound.{good-relates, all-free}
-use Rattle.semantics.specs.Promises.{Fits}
 use Rattle.semantics.specs.Theory.Fitting.{true-fits}
 use Rattle.semantics.specs.Theory.SoundSteps.{Carried}
 use Rattle.semantics.specs.Theory.Starts.{Fit, fit-started, started-fit}
