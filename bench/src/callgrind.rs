@@ -43,7 +43,7 @@ fn count(peer: Peer, job: Job) -> u64 {
         .args([
             "--tool=callgrind",
             "--callgrind-out-file=/dev/null",
-            "--toggle-collect=bench_measured",
+            "--toggle-collect=bench_measured*",
         ])
         .arg(one)
         .arg(peer.name())

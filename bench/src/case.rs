@@ -7,6 +7,11 @@ pub const WORKERS: usize = 4;
 /// The record workloads' pool has this many times T(n) nodes.
 pub const POOL_VIEWS: usize = 32;
 pub const MAX_NODES: usize = 16_384;
+/// Steps in calls of their own, and their workers.
+pub const SINGLE_STEPS: usize = 256;
+pub const SINGLE_WORKERS: usize = 2;
+/// Frames that a control record lets live at most.
+pub const MAX_LIVE: usize = 24;
 
 #[derive(Clone, Copy, PartialEq, Eq, Debug)]
 pub enum Workload {
@@ -69,28 +74,44 @@ pub fn tree_nodes(n: usize) -> usize {
     sum
 }
 
+/// As many frames as the pool has full views for, beside one path; no write is refused then.
+fn max_live(n: usize, nodes: usize) -> usize {
+    let path = n.next_power_of_two().ilog2() as usize + 1;
+    MAX_LIVE.min((nodes - path) / tree_nodes(n))
+}
+
 fn values(n: usize) -> Vec<u32> {
     (0..n as u32).map(|i| 1000 + i).collect()
 }
 
 impl Case {
-    /// Four workers, a frame each: Main and its line of three descendants. Each frame has made n / 2 writes, so the trees
-    /// share some nodes. Then the records.
+    /// A tape of records.
     pub fn records(workload: Workload, n: usize) -> Self {
-        let mut generator = Generator::new(1, WORKERS, n);
-        for thief in 1..WORKERS {
+        Case::new(workload, n, WORKERS, POOL_VIEWS * tree_nodes(n), RECORDS)
+    }
+
+    /// Records to be fed one by one, each in a call of its own.
+    pub fn steps(workload: Workload, n: usize, nodes: usize) -> Self {
+        Case::new(workload, n, SINGLE_WORKERS, nodes, SINGLE_STEPS)
+    }
+
+    /// Each worker has a frame: Main and its line of descendants. Each frame has made n / 2 writes, so the trees share some nodes. Then
+    /// the records.
+    fn new(workload: Workload, n: usize, workers: usize, nodes: usize, records: usize) -> Self {
+        let mut generator = Generator::new(1, workers, n, max_live(n, nodes));
+        for thief in 1..workers {
             generator.spawn(0);
             generator.steal(thief, 0);
         }
-        for worker in 0..WORKERS {
+        for worker in 0..workers {
             (0..n.div_ceil(2)).for_each(|_| generator.write(worker));
         }
         let prelude = generator.take();
-        (0..RECORDS).for_each(|_| one_record(&mut generator, workload));
+        (0..records).for_each(|_| one_record(&mut generator, workload));
         Case {
-            workers: WORKERS,
+            workers,
             values: values(n),
-            nodes: POOL_VIEWS * tree_nodes(n),
+            nodes,
             prelude,
             tape: generator.take(),
         }
@@ -104,7 +125,7 @@ impl Case {
 
     /// An empty tape on a state with many frames.
     pub fn standing(standing: Standing) -> Self {
-        let mut generator = Generator::new(2, 1, standing.n);
+        let mut generator = Generator::new(2, 1, standing.n, standing.frames);
         for frame in 0..standing.frames {
             if frame > 0 {
                 generator.spawn(0);

@@ -1,8 +1,9 @@
 //! Every peer must answer as the library does, before anything is measured.
 
 use crate::case::{Case, Workload};
-use crate::measure::answers;
+use crate::measure::{answers, step_answers};
 use crate::peer::{Peer, PEERS};
+use crate::steps;
 
 const WRITTEN: u32 = 106;
 
@@ -32,8 +33,25 @@ fn agree(peer: Peer, expected: &[u32], given: &[u32]) -> bool {
     expected == given || (!peer.has_nodes() && expected[0] == WRITTEN && given[0] == WRITTEN)
 }
 
-/// Every workload at every size.
+/// Single steps answer as the tape does.
+fn assert_same_steps(case: &Case, what: &str) {
+    assert_same_answers(case, what);
+    for peer in PEERS {
+        let same = step_answers(peer, case).as_flattened() == answers(peer, case);
+        assert!(
+            same,
+            "{what}: {} answers single steps otherwise",
+            peer.name()
+        );
+    }
+}
+
+/// Every workload at every size, and the single steps.
 pub fn all(workloads: &[Workload], sizes: &[usize]) {
+    for (workload, n, nodes) in steps::all() {
+        let what = format!("single steps, {} {n}", workload.name());
+        assert_same_steps(&Case::steps(workload, n, nodes), &what);
+    }
     for &workload in workloads {
         for &n in sizes {
             assert_same_answers(

@@ -32,9 +32,29 @@ fn archive() -> String {
     )
 }
 
+/// The commit; dirty if a file of it has changed, but for what the bench itself writes.
+fn commit() -> String {
+    let git = |words: &[&str]| {
+        said(
+            "git",
+            &[&["-C", env!("CARGO_MANIFEST_DIR")], words].concat(),
+        )
+    };
+    let changed = git(&[
+        "status",
+        "--porcelain",
+        "--untracked-files=no",
+        "--",
+        ":/",
+        ":(top,exclude)docs/BENCH.md",
+        ":(top,exclude)docs/bench_*.svg",
+    ]);
+    let dirty = if changed == "-" { "" } else { "-dirty" };
+    git(&["describe", "--always"]) + dirty
+}
+
 /// Lines of a list in markdown.
 pub fn list() -> String {
-    let package = env!("CARGO_MANIFEST_DIR");
     let facts = [
         ("date", said("date", &["-u", "+%Y-%m-%d %H:%M UTC"])),
         (
@@ -46,10 +66,7 @@ pub fn list() -> String {
                 said("uname", &["-srm"])
             ),
         ),
-        (
-            "commit",
-            said("git", &["-C", package, "describe", "--always", "--dirty"]),
-        ),
+        ("commit", commit()),
         ("libsplitter.a", archive()),
         ("rustc", said("rustc", &["--version"])),
         ("valgrind", said("valgrind", &["--version"])),

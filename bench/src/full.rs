@@ -3,10 +3,13 @@
 use crate::case::{Standing, WORKLOADS};
 use crate::checks::{self, CheckCost};
 use crate::compare;
+use crate::facts;
 use crate::peer::PEERS;
 use crate::pictures;
 use crate::records::{self, Cost};
 use crate::report;
+use crate::stack::{self, Stack};
+use crate::steps::{self, StepCost};
 use crate::tables::SIZES;
 use crate::timing::{self, Time};
 use std::fs;
@@ -17,6 +20,8 @@ use std::path::Path;
 const GROWTH: [usize; 9] = [1, 2, 4, 8, 16, 32, 64, 128, 256];
 
 pub struct Figures {
+    pub facts: String,
+    pub stack: Option<Stack>,
     pub costs: Vec<Cost>,
     pub times: Vec<Time>,
     /// One frame, growing pool.
@@ -25,6 +30,8 @@ pub struct Figures {
     pub sharing: Vec<CheckCost>,
     /// The same after writes in each frame.
     pub written: Vec<CheckCost>,
+    /// Single steps.
+    pub steps: Vec<StepCost>,
 }
 
 /// Writes BENCH.md, bench_records.svg and bench_check.svg to `docs`, and prints the first.
@@ -49,6 +56,7 @@ pub fn run(docs: &Path) -> io::Result<()> {
 }
 
 fn measure() -> Figures {
+    let facts = facts::list();
     eprintln!("bench: time");
     let times = timing::time_all(&WORKLOADS, &SIZES);
     eprintln!("bench: instructions of records");
@@ -56,7 +64,12 @@ fn measure() -> Figures {
     eprintln!("bench: instructions of the check");
     let all_sizes =
         |standings: fn(usize) -> Vec<Standing>| checks::count(&SIZES.map(standings).concat());
+    eprintln!("bench: instructions of single steps");
+    let steps = steps::count();
     Figures {
+        facts,
+        stack: stack::measure(),
+        steps,
         costs,
         times,
         over_nodes: all_sizes(checks::over_nodes),

@@ -3,9 +3,6 @@
 use crate::random::Random;
 use crate::tape::{record, READ, RETURN, SPAWN, STEAL, SYNC, WRITE};
 
-/// Frames that a control record lets live at most: the record workloads' pool holds as many full views and a path.
-const MAX_LIVE: usize = 24;
-
 struct Frame {
     parent: Option<usize>,
     outstanding: usize,
@@ -18,13 +15,15 @@ pub struct Generator {
     /// Every frame ever made; Main is 0.
     frames: Vec<Frame>,
     live: usize,
+    /// So many live at most.
+    max_live: usize,
     /// Top frame first.
     deques: Vec<Vec<usize>>,
     tape: Vec<u8>,
 }
 
 impl Generator {
-    pub fn new(seed: u64, workers: usize, splitters: usize) -> Self {
+    pub fn new(seed: u64, workers: usize, splitters: usize, max_live: usize) -> Self {
         let mut deques = vec![Vec::new(); workers];
         deques[0].push(0);
         Generator {
@@ -36,6 +35,7 @@ impl Generator {
                 suspended: false,
             }],
             live: 1,
+            max_live,
             deques,
             tape: Vec::new(),
         }
@@ -142,7 +142,7 @@ impl Generator {
             }
             let bottom = self.bottom(worker);
             match self.random.below(5) {
-                0 | 1 if self.live < MAX_LIVE => return self.spawn(worker),
+                0 | 1 if self.live < self.max_live => return self.spawn(worker),
                 2 | 3 if bottom != 0 && self.frames[bottom].outstanding == 0 => {
                     return self.end(worker)
                 }

@@ -4,10 +4,13 @@ use crate::case::Workload;
 use crate::checks::CheckCost;
 use crate::peer::Peer;
 use crate::records::{self, Cost};
+use crate::stack::Stack;
 use crate::tables::SIZES;
 
 /// How much more than plain Rust's the check may cost.
 const CHECK_LIMIT: f64 = 1.2;
+/// How much more than plain Rust's a control record may cost.
+const CONTROL_LIMIT: f64 = 1.05;
 
 struct Goal {
     what: &'static str,
@@ -16,8 +19,8 @@ struct Goal {
 }
 
 /// Lines of a list in markdown.
-pub fn list(costs: &[Cost], checks: &[&CheckCost]) -> String {
-    let goals = [
+pub fn list(costs: &[Cost], checks: &[&CheckCost], stack: Option<&Stack>) -> String {
+    let mut goals = vec![
         records_goal(
             "mix: no more instructions per further record than plain Rust",
             costs,
@@ -30,13 +33,28 @@ pub fn list(costs: &[Cost], checks: &[&CheckCost]) -> String {
             Workload::Reads,
             |ratio| ratio < 1.0,
         ),
+        records_goal(
+            "control: at most 1.05 times the instructions per further record of plain Rust",
+            costs,
+            Workload::Control,
+            |ratio| ratio <= CONTROL_LIMIT,
+        ),
         check_goal(checks),
     ];
+    goals.extend(stack.map(stack_goal));
     let line = |goal: Goal| {
         let met = if goal.met { "met" } else { "not met" };
         format!("- {}: **{met}** ({})\n", goal.what, goal.figures)
     };
-    goals.map(line).concat()
+    goals.into_iter().map(line).collect()
+}
+
+fn stack_goal(stack: &Stack) -> Goal {
+    Goal {
+        what: "stack: no call takes more than SPLITTER_STACK_BYTES (`host/include/splitter.h`)",
+        met: stack.kept,
+        figures: stack.bytes.clone(),
+    }
 }
 
 fn records_goal(

@@ -10,6 +10,8 @@ pub enum Job {
     NoRecords(Workload, usize),
     /// An empty tape on a state made for the check.
     Check(Standing),
+    /// A workload's records, each in a call of its own; n and the nodes of the pool.
+    Steps(Workload, usize, usize),
 }
 
 impl Job {
@@ -18,7 +20,13 @@ impl Job {
             Job::Records(workload, n) => Case::records(workload, n),
             Job::NoRecords(workload, n) => Case::records(workload, n).without_records(),
             Job::Check(standing) => Case::standing(standing),
+            Job::Steps(workload, n, nodes) => Case::steps(workload, n, nodes),
         }
+    }
+
+    /// Whether each record has a call of its own.
+    pub fn is_single(self) -> bool {
+        matches!(self, Job::Steps(..))
     }
 
     pub fn words(self) -> Vec<String> {
@@ -30,6 +38,14 @@ impl Job {
             Job::Check(s) => {
                 let numbers = [s.n, s.nodes, s.frames, s.writes].map(|number| number.to_string());
                 [vec!["check".into()], numbers.to_vec()].concat()
+            }
+            Job::Steps(workload, n, nodes) => {
+                let numbers = [n, nodes].map(|number| number.to_string());
+                [
+                    vec!["steps".into(), workload.name().into()],
+                    numbers.to_vec(),
+                ]
+                .concat()
             }
         }
     }
@@ -43,6 +59,11 @@ impl Job {
                 frames: number(frames)?,
                 writes: number(writes)?,
             })),
+            ["steps", workload, n, nodes] => Some(Job::Steps(
+                Workload::named(workload)?,
+                number(n)?,
+                number(nodes)?,
+            )),
             [workload, n] => Some(Job::Records(Workload::named(workload)?, number(n)?)),
             [workload, n, "empty"] => Some(Job::NoRecords(Workload::named(workload)?, number(n)?)),
             _ => None,

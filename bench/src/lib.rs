@@ -21,6 +21,8 @@ mod random;
 mod records;
 mod report;
 mod scale;
+mod stack;
+mod steps;
 mod svg;
 mod table;
 mod tables;

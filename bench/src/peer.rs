@@ -3,6 +3,7 @@
 use crate::case::Case;
 use crate::library::Library;
 use crate::machine::Machine;
+use crate::tape::record;
 use crate::values::Values;
 use host_tests::plain;
 
@@ -24,6 +25,14 @@ pub const PEERS: [Peer; 4] = [Peer::Library, Peer::Plain, Peer::Copying, Peer::I
 pub trait Run {
     /// The refusal of the whole call, or 0.
     fn tape(&mut self, tape: &[u8], answers: &mut [u32]) -> u32;
+
+    /// A step in a call of its own: its answer words. The fields are kind, worker, field and value.
+    fn step(&mut self, [kind, worker, field, value]: [u32; 4]) -> [u32; 2] {
+        let mut answer = [0; 2];
+        let record = record(kind as u8, worker as u8, field as u16, value);
+        self.tape(&record, &mut answer);
+        answer
+    }
 }
 
 impl Peer {
@@ -74,6 +83,10 @@ impl Run for Library {
     fn tape(&mut self, tape: &[u8], answers: &mut [u32]) -> u32 {
         Library::tape(self, tape, answers)
     }
+
+    fn step(&mut self, fields: [u32; 4]) -> [u32; 2] {
+        Library::step(self, fields)
+    }
 }
 
 impl<V: Values> Run for Machine<V> {
@@ -112,5 +125,10 @@ impl Run for Plain {
             tape,
             answers,
         )
+    }
+
+    fn step(&mut self, [kind, worker, field, value]: [u32; 4]) -> [u32; 2] {
+        let Plain { state, pool, work } = self;
+        plain::step(state, pool, work, kind, worker, field, value).into()
     }
 }

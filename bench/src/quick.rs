@@ -5,6 +5,7 @@ use crate::checks;
 use crate::compare;
 use crate::peer::Peer;
 use crate::records::{self, Cost};
+use crate::steps;
 use crate::tables::{self, SIZES};
 
 const PEERS: [Peer; 2] = [Peer::Library, Peer::Plain];
@@ -17,6 +18,8 @@ pub fn run() {
         "{}",
         tables::instructions(&costs, &PEERS, Cost::marginal).markdown()
     );
+    println!("Instructions of a call with one step:\n");
+    println!("{}", tables::steps(&steps::count()).markdown());
     println!("Instructions of a call with an empty tape, that is of the soundness check:\n");
     println!(
         "{}",

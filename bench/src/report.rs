@@ -1,9 +1,8 @@
 //! docs/BENCH.md, from the figures alone.
 
-use crate::case::{POOL_VIEWS, WORKERS};
+use crate::case::{MAX_LIVE, POOL_VIEWS, SINGLE_STEPS, SINGLE_WORKERS, WORKERS};
 use crate::checks::CheckCost;
 use crate::contents;
-use crate::facts;
 use crate::full::Figures;
 use crate::goals;
 use crate::peer::PEERS;
@@ -24,7 +23,7 @@ const PEERS_TEXT: &str = "\
 
 All are fed the same tapes and give the same answer words, which the bench compares before it measures.
 
-- library: `splitter_tape` of libsplitter.a through its C interface.
+- library: `splitter_tape` of libsplitter.a through its C interface, and `splitter_step` for single steps.
 - plain: the same algorithm in plain Rust on `&mut` state (`tests/host/src/plain.rs`), with the same soundness check in each call.
 - copying: a machine in Rust that keeps a `Vec<u32>` of values for each live frame; spawn copies it into the buffer of its frame's
   place, which later frames in this place use again.
@@ -52,13 +51,17 @@ pub fn text(figures: &Figures) -> String {
         .collect();
     [
         HEAD.to_string(),
-        facts::list(),
-        format!("\n## Goals\n\n{}\n", goals::list(&figures.costs, &checks)),
+        figures.facts.clone(),
+        format!(
+            "\n## Goals\n\n{}\n",
+            goals::list(&figures.costs, &checks, figures.stack.as_ref())
+        ),
         PEERS_TEXT.to_string(),
         how(),
         section("What the tapes hold (n = 16)", "", contents::table(16)),
         records(figures),
         rates(figures),
+        steps(figures),
         check(figures),
         PICTURES.to_string(),
     ]
@@ -77,8 +80,8 @@ fn how() -> String {
 
 A tape has 8,192 records, all accepted, made from a seed. Before it, not measured, comes a fresh start with {WORKERS} workers and
 {POOL_VIEWS} T(n) nodes and a prelude: each worker gets a frame, and each frame makes n / 2 writes (rounded up) to random splitters, so
-that their trees share some nodes. Reads and writes take a random busy worker and a random splitter. Mix is 70 in 100 reads, 22 writes, 8 control. At most 24
-frames live.
+that their trees share some nodes. Reads and writes take a random busy worker and a random splitter. Mix is 70 in 100 reads, 22 writes,
+8 control. At most {MAX_LIVE} frames live.
 
 Instructions are callgrind's, of the one call and nothing else, after one such call that is not counted. \"Per further record\" is a
 call with all records less a call with an empty tape, divided by 8,192: the check, once per call, is not in it. \"With the check\" is
@@ -118,6 +121,15 @@ fn rates(figures: &Figures) -> String {
         ratio,
         table(Time::rate_with_check),
     )
+}
+
+fn steps(figures: &Figures) -> String {
+    let intro = format!(
+        "\
+Instructions of a call with one step, its check included: the mean over {SINGLE_STEPS} calls, all accepted, one after the other. {SINGLE_WORKERS} workers; the
+prelude is as for the tapes. As many frames live at most as the pool has full views for beside a path, {MAX_LIVE} at most."
+    );
+    section("Single steps", &intro, tables::steps(&figures.steps))
 }
 
 fn check(figures: &Figures) -> String {

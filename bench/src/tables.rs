@@ -4,6 +4,7 @@ use crate::case::{Workload, WORKLOADS};
 use crate::checks::CheckCost;
 use crate::peer::{Peer, PEERS};
 use crate::records::{self, Cost};
+use crate::steps::StepCost;
 use crate::table::{grouped, Table};
 use crate::timing::{self, Time};
 
@@ -48,6 +49,29 @@ pub fn rates(times: &[Time], of: fn(&Time) -> f64) -> Table {
     by_peer(&PEERS, 1, |peer, workload, n| {
         of(timing::find(times, peer, workload, n)) / 1e6
     })
+}
+
+pub fn steps(steps: &[StepCost]) -> Table {
+    let header = [
+        "workload",
+        "n",
+        "nodes",
+        "library",
+        "plain",
+        "library / plain",
+    ];
+    let mut table = Table::new(header.map(String::from).into());
+    for step in steps {
+        table.row(vec![
+            step.workload.name().to_string(),
+            step.n.to_string(),
+            grouped(step.nodes as u64),
+            grouped(step.library().round() as u64),
+            grouped(step.plain().round() as u64),
+            format!("{:.2}", step.ratio()),
+        ]);
+    }
+    table
 }
 
 pub fn checks(checks: &[CheckCost]) -> Table {

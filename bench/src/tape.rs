@@ -13,3 +13,10 @@ pub fn record(kind: u8, worker: u8, field: u16, value: u32) -> [u8; 8] {
     let [v0, v1, v2, v3] = value.to_le_bytes();
     [kind, worker, f0, f1, v0, v1, v2, v3]
 }
+
+/// Kind, worker, field and value, as a step takes them.
+pub fn fields(&[kind, worker, f0, f1, v0, v1, v2, v3]: &[u8; 8]) -> [u32; 4] {
+    let field = u16::from_le_bytes([f0, f1]);
+    let value = u32::from_le_bytes([v0, v1, v2, v3]);
+    [kind.into(), worker.into(), field.into(), value]
+}

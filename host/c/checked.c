@@ -19,9 +19,8 @@ uint64_t same(const char *what, uint64_t got, uint64_t wanted) {
 }
 
 uint32_t checked_start(struct checked *run, unsigned workers, const uint32_t *values, size_t values_len) {
-    const struct splitter_lent *lent = &run->lent;
-    uint32_t got = splitter_start(lent->state, lent->state_len, workers, values, values_len, lent->pool, lent->pool_len);
-    same("start", got, plain_start(&run->plain, workers, values, values_len, lent->pool_len / SPLITTER_NODE_WORDS));
+    uint32_t got = splitter_lent_start(&run->lent, workers, values, values_len);
+    same("start", got, plain_start(&run->plain, workers, values, values_len, run->lent.pool_len / SPLITTER_NODE_WORDS));
     return got;
 }
 
@@ -57,9 +56,7 @@ static uint64_t plain_record(struct plain *machine, const uint8_t *record) {
 }
 
 void checked_tape(struct checked *run, const uint8_t *tape, size_t tape_len, uint32_t *answers, size_t answers_len) {
-    const struct splitter_lent *lent = &run->lent;
-    same("tape", splitter_tape(lent->state, lent->state_len, lent->pool, lent->pool_len, lent->work, lent->work_len,
-                               tape, tape_len, answers, answers_len), SPLITTER_OK);
+    same("tape", splitter_lent_tape(&run->lent, tape, tape_len, answers, answers_len), SPLITTER_OK);
     for (size_t i = 0; i < tape_len / SPLITTER_RECORD_BYTES; i++) {
         uint64_t wanted = plain_record(&run->plain, tape + i * SPLITTER_RECORD_BYTES);
         same("record", splitter_answer(answers[2 * i], answers[2 * i + 1]), wanted);

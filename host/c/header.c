@@ -28,7 +28,7 @@ static void records(void) {
 static void names(void) {
     unsigned named = 0;
     for (uint32_t i = 0; i < 1000; i++) {
-        unsigned known = i <= SPLITTER_POOL_FULL || i == SPLITTER_SHORT_STATE || (i >= SPLITTER_SPAWNED && i <= SPLITTER_WRITTEN);
+        unsigned known = i <= SPLITTER_POOL_FULL || i == SPLITTER_BAD_STATE || (i >= SPLITTER_SPAWNED && i <= SPLITTER_WRITTEN);
         EXPECT(strcmp(splitter_name(i), "unknown number") != 0, known);
         named += known;
         for (uint32_t j = 0; known && j < i; j++) {
@@ -36,6 +36,17 @@ static void names(void) {
         }
     }
     EXPECT(named, 24);
+}
+
+/* The parts lie one after the other, with nothing between them. */
+static void layout(void) {
+    const size_t word = sizeof(uint32_t);
+    EXPECT(offsetof(struct splitter_state, numbers), 0);
+    EXPECT(offsetof(struct splitter_state, deques), SPLITTER_NUMBERS_WORDS * word);
+    EXPECT(offsetof(struct splitter_state, frames), (SPLITTER_NUMBERS_WORDS + SPLITTER_DEQUES_WORDS) * word);
+    EXPECT(sizeof(struct splitter_state), (SPLITTER_NUMBERS_WORDS + SPLITTER_DEQUES_WORDS + SPLITTER_FRAMES_WORDS) * word);
+    EXPECT(SPLITTER_DEQUES_WORDS, SPLITTER_MAX_WORKERS * (1 + SPLITTER_MAX_FRAMES));
+    EXPECT(SPLITTER_FRAMES_WORDS, SPLITTER_MAX_FRAMES * 6);
 }
 
 static void sizes(void) {
@@ -55,27 +66,54 @@ static void steps(const struct splitter_lent *lent) {
     ANSWER(splitter_read(lent, 0, 1), SPLITTER_VALUE, 99);
 }
 
+/* The numbers after a start with 2 workers, 2 splitters and 6 nodes: 3 are Main's, and Main has place 0. */
+static void numbers(const struct splitter_state *state) {
+    EXPECT(state->numbers[SPLITTER_NUMBER_WORKERS], 2);
+    EXPECT(state->numbers[SPLITTER_NUMBER_SPLITTERS], 2);
+    EXPECT(state->numbers[SPLITTER_NUMBER_NODES], 6);
+    EXPECT(state->numbers[SPLITTER_NUMBER_FREE_NODE], 3);
+    EXPECT(state->numbers[SPLITTER_NUMBER_FREE_FRAME], 1);
+}
+
+/* The calls over a state go on with the run that the calls over lent memory began, and the other way. */
+static void tapes(const struct splitter_lent *lent) {
+    const uint8_t tape[SPLITTER_RECORD_BYTES] = {SPLITTER_READ, 0, 1};
+    uint32_t answers[4] = {0, 0, 7, 7};
+    EXPECT(splitter_lent_tape(lent, tape, sizeof tape, answers, 4), SPLITTER_OK);
+    EXPECT(splitter_state_tape(lent->state, lent->pool, lent->pool_len, lent->work, lent->work_len, tape, sizeof tape, answers + 2, 2),
+           SPLITTER_OK);
+    ANSWER(splitter_answer(answers[0], answers[1]), SPLITTER_VALUE, 99);
+    ANSWER(splitter_answer(answers[2], answers[3]), SPLITTER_VALUE, 99);
+    ANSWER(splitter_state_step(lent->state, lent->pool, lent->pool_len, lent->work, lent->work_len, SPLITTER_READ, 0, 0, 0),
+           SPLITTER_VALUE, 10);
+}
+
 /* A step's arguments are words: none is cut down to a record's field. */
 static void wide_fields(const struct splitter_lent *lent) {
-    ANSWER(splitter_take(lent, 256 + SPLITTER_SPAWN, 0, 0, 0), SPLITTER_BAD_RECORD, 0);
-    ANSWER(splitter_take(lent, 0, 0, 0, 0), SPLITTER_BAD_RECORD, 0);
-    ANSWER(splitter_take(lent, SPLITTER_SPAWN, 256, 0, 0), SPLITTER_NO_WORKER, 0);
-    ANSWER(splitter_take(lent, SPLITTER_SPAWN, 0, 65536, 0), SPLITTER_BAD_RECORD, 0);
-    ANSWER(splitter_take(lent, SPLITTER_SYNC, 0, 0, 1), SPLITTER_BAD_RECORD, 0);
-    ANSWER(splitter_take(lent, SPLITTER_STEAL, 1, 65536, 0), SPLITTER_NO_VICTIM, 0);
-    ANSWER(splitter_take(lent, SPLITTER_READ, 0, 65537, 0), SPLITTER_NO_SPLITTER, 0);
-    ANSWER(splitter_take(lent, SPLITTER_WRITE, 0, 65537, 7), SPLITTER_NO_SPLITTER, 0);
+    ANSWER(splitter_lent_step(lent, 256 + SPLITTER_SPAWN, 0, 0, 0), SPLITTER_BAD_RECORD, 0);
+    ANSWER(splitter_lent_step(lent, 0, 0, 0, 0), SPLITTER_BAD_RECORD, 0);
+    ANSWER(splitter_lent_step(lent, SPLITTER_SPAWN, 256, 0, 0), SPLITTER_NO_WORKER, 0);
+    ANSWER(splitter_lent_step(lent, SPLITTER_SPAWN, 0, 65536, 0), SPLITTER_BAD_RECORD, 0);
+    ANSWER(splitter_lent_step(lent, SPLITTER_SYNC, 0, 0, 1), SPLITTER_BAD_RECORD, 0);
+    ANSWER(splitter_lent_step(lent, SPLITTER_STEAL, 1, 65536, 0), SPLITTER_NO_VICTIM, 0);
+    ANSWER(splitter_lent_step(lent, SPLITTER_READ, 0, 65537, 0), SPLITTER_NO_SPLITTER, 0);
+    ANSWER(splitter_lent_step(lent, SPLITTER_WRITE, 0, 65537, 7), SPLITTER_NO_SPLITTER, 0);
 }
 
 int main(void) {
     static const uint32_t values[2] = {10, 20};
-    static uint32_t state[SPLITTER_STATE_WORDS], pool[6 * SPLITTER_NODE_WORDS], work[6];
-    const struct splitter_lent lent = {state, SPLITTER_STATE_WORDS, pool, 6 * SPLITTER_NODE_WORDS, work, 6};
+    static struct splitter_state state;
+    static uint32_t pool[6 * SPLITTER_NODE_WORDS], work[6];
+    const struct splitter_lent lent = {&state, pool, 6 * SPLITTER_NODE_WORDS, work, 6};
     records();
     names();
+    layout();
     sizes();
-    EXPECT(splitter_start(state, SPLITTER_STATE_WORDS, 2, values, 2, pool, 6 * SPLITTER_NODE_WORDS), SPLITTER_OK);
+    EXPECT(splitter_lent_start(&lent, 2, values, 0), SPLITTER_NO_VALUES);
+    EXPECT(splitter_state_start(&state, 2, values, 2, pool, 6 * SPLITTER_NODE_WORDS), SPLITTER_OK);
+    numbers(&state);
     steps(&lent);
+    tapes(&lent);
     wide_fields(&lent);
     return failures == 0 ? 0 : 1;
 }

@@ -44,13 +44,13 @@ static void refused_calls(void) {
     struct splitter_lent lent = run.lent;
     const uint8_t tape[SPLITTER_RECORD_BYTES] = {SPLITTER_SPAWN};
     uint32_t answers[2];
-    show(splitter_tape(lent.state, lent.state_len, lent.pool, lent.pool_len, lent.work, lent.work_len,
-                       tape, sizeof tape - 1, answers, 2), SPLITTER_BAD_TAPE, "a tape of 7 bytes");
+    show(splitter_lent_tape(&lent, tape, sizeof tape - 1, answers, 2), SPLITTER_BAD_TAPE, "a tape of 7 bytes");
     lent.work_len -= 1;
     show(splitter_read(&lent, 0, 3), SPLITTER_SHORT_WORK, "a work slice with a word too few");
     lent = run.lent;
-    lent.state_len -= 1;
-    show(splitter_read(&lent, 0, 3), SPLITTER_SHORT_STATE, "a state slice with a word too few");
+    show(splitter_step(lent.state->numbers, SPLITTER_NUMBERS_WORDS, lent.state->deques, SPLITTER_DEQUES_WORDS,
+                       lent.state->frames, SPLITTER_FRAMES_WORDS - 1, lent.pool, lent.pool_len, lent.work, lent.work_len,
+                       SPLITTER_READ, 0, 3, 0), SPLITTER_BAD_STATE, "frames with a word too few");
     run.lent.pool[0] ^= 1;
     show(splitter_read(&run.lent, 0, 3), SPLITTER_UNSOUND, "a bit of the pool has flipped");
     run.lent.pool[0] ^= 1;

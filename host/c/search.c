@@ -21,11 +21,12 @@ const uint32_t factory_marks[BLOCKS] = {GOOD, GOOD, GOOD, BAD,  GOOD,  GOOD,  GO
 static const unsigned bad_blocks[BAD_BLOCKS] = {3, 9};
 
 /* The memory lent to the library, and what may be used of it. */
-static uint32_t state[SPLITTER_STATE_WORDS], pool[NODES * SPLITTER_NODE_WORDS], work[NODES];
+static struct splitter_state state;
+static uint32_t pool[NODES * SPLITTER_NODE_WORDS], work[NODES];
 struct checked run;
 
 void lend(unsigned nodes) {
-    struct splitter_lent lent = {state, SPLITTER_STATE_WORDS, pool, nodes * SPLITTER_NODE_WORDS, work, nodes};
+    struct splitter_lent lent = {&state, pool, nodes * SPLITTER_NODE_WORDS, work, nodes};
     run.lent = lent;
 }
 

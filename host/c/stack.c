@@ -10,14 +10,15 @@
 
 enum { NODES = 2048, PAINT = 0xa5, FRAMES = 64, RECORDS = 6 * FRAMES };
 
-static uint32_t state[SPLITTER_STATE_WORDS], pool[NODES * SPLITTER_NODE_WORDS], work[NODES], values[SPLITTER_MAX_SPLITTERS];
-static const struct splitter_lent lent = {state, SPLITTER_STATE_WORDS, pool, NODES * SPLITTER_NODE_WORDS, work, NODES};
+static struct splitter_state state;
+static uint32_t pool[NODES * SPLITTER_NODE_WORDS], work[NODES], values[SPLITTER_MAX_SPLITTERS];
+static const struct splitter_lent lent = {&state, pool, NODES * SPLITTER_NODE_WORDS, work, NODES};
 static uint8_t tape[RECORDS * SPLITTER_RECORD_BYTES];
 static uint32_t answers[2 * RECORDS];
 static unsigned char stack[1 << 17];
 
 static void start(void) {
-    splitter_start(state, SPLITTER_STATE_WORDS, 2, values, SPLITTER_MAX_SPLITTERS, pool, NODES * SPLITTER_NODE_WORDS);
+    splitter_lent_start(&lent, 2, values, SPLITTER_MAX_SPLITTERS);
 }
 
 /* Down to the deepest frame, a write in each; a steal and a sync; then all the way back. */
@@ -35,7 +36,7 @@ static void steps(void) {
 }
 
 static void tapes(void) {
-    splitter_tape(state, SPLITTER_STATE_WORDS, pool, NODES * SPLITTER_NODE_WORDS, work, NODES, tape, sizeof tape, answers, 2 * RECORDS);
+    splitter_lent_tape(&lent, tape, sizeof tape, answers, 2 * RECORDS);
 }
 
 /* The same steps as records. The rest of the tape stays zero: refused records. */

@@ -1,7 +1,8 @@
 /* Random runs through the archive, every answer compared with the plain machine's. Usage: stress [RUNS [SEED]].
  *
- * Beyond the answers: words past each lent slice and past the last whole node never change; the work slice is zero after each call;
- * a refused call or step leaves state and pool as they were; a pool with a wrong count of holders is refused. */
+ * Beyond the answers: words around the state, past each other slice and past the last whole node never change; the work slice is zero
+ * after each call; a refused call or step leaves state and pool as they were; a pool with a wrong count of holders is refused, and so is a
+ * part of the state with another length. */
 #include <stdio.h>
 #include <stdlib.h>
 #include <string.h>
@@ -11,9 +12,15 @@
 enum { NODES = 1024, GUARD = 3, STEPS = 300, RECORDS = 20 };
 #define GUARD_WORD 0xdeadbeefu
 
-static uint32_t state[SPLITTER_STATE_WORDS + GUARD], old_state[SPLITTER_STATE_WORDS];
+static struct {
+    uint32_t before[GUARD];
+    struct splitter_state state;
+    uint32_t after[GUARD];
+} guarded;
+static struct splitter_state *const state = &guarded.state;
+static struct splitter_state old_state;
 static uint32_t pool[NODES * SPLITTER_NODE_WORDS + GUARD], old_pool[NODES * SPLITTER_NODE_WORDS];
-static uint32_t work[NODES + GUARD], answers[2 * RECORDS + GUARD];
+static uint32_t work[NODES + GUARD], answers[2 * RECORDS + GUARD], values[SPLITTER_MAX_SPLITTERS];
 static struct checked run;
 static unsigned long counts[SPLITTER_WRITTEN + 1]; /* by first answer word */
 
@@ -43,7 +50,8 @@ static void check_guard(const uint32_t *words, const char *what) {
 
 /* After every call. */
 static void check_memory(void) {
-    check_guard(run.lent.state + run.lent.state_len, "words past the state changed");
+    check_guard(guarded.before, "words before the state changed");
+    check_guard(guarded.after, "words past the state changed");
     check_guard(run.lent.pool + run.plain.nodes * SPLITTER_NODE_WORDS, "words past the last whole node changed");
     check_guard(run.lent.work + run.lent.work_len, "words past the work slice changed");
     for (size_t i = 0; i < run.lent.work_len; i++) {
@@ -59,12 +67,12 @@ static void soil_work(void) {
 }
 
 static void remember(void) {
-    memcpy(old_state, state, sizeof old_state);
+    old_state = *state;
     memcpy(old_pool, pool, sizeof old_pool);
 }
 
 static void check_unchanged(void) {
-    if (memcmp(old_state, state, sizeof old_state) != 0 || memcmp(old_pool, pool, sizeof old_pool) != 0) {
+    if (memcmp(&old_state, state, sizeof old_state) != 0 || memcmp(old_pool, pool, sizeof old_pool) != 0) {
         surprise("a refused step changed state or pool");
     }
 }
@@ -98,7 +106,7 @@ static void stress_step(void) {
     soil_work();
     remember();
     uint64_t wanted = plain_step(&run.plain, s.kind, s.worker, s.field, s.value);
-    same("step", splitter_take(&run.lent, s.kind, s.worker, s.field, s.value), wanted);
+    same("step", splitter_lent_step(&run.lent, s.kind, s.worker, s.field, s.value), wanted);
     counts[splitter_answer_kind(wanted)] += 1;
     if (splitter_answer_kind(wanted) < SPLITTER_SPAWNED) {
         check_unchanged();
@@ -125,7 +133,7 @@ static void stress_tape(void) {
 static void stress_refused(const struct splitter_lent *lent, uint32_t wanted) {
     struct step s = any_step();
     remember();
-    same("refused", splitter_take(lent, s.kind, s.worker, s.field, s.value), wanted);
+    same("refused", splitter_lent_step(lent, s.kind, s.worker, s.field, s.value), wanted);
     check_unchanged();
     counts[wanted] += 1;
 }
@@ -146,29 +154,70 @@ static void stress_short_work(void) {
     stress_refused(&lent, SPLITTER_SHORT_WORK);
 }
 
+/* The three calls over parts of these lengths, one of them wrong; other refusals' conditions may hold as well. */
+static void call_bad_state(uint32_t *const parts[3], const size_t lengths[3]) {
+    const uint8_t tape[SPLITTER_RECORD_BYTES] = {0};
+    uint32_t words[2] = {GUARD_WORD, GUARD_WORD};
+    const struct splitter_lent *lent = &run.lent;
+    struct step s = any_step();
+    same("start", splitter_start(parts[0], lengths[0], parts[1], lengths[1], parts[2], lengths[2],
+                                 any(10), values, any(3), lent->pool, lent->pool_len), SPLITTER_BAD_STATE);
+    same("step", splitter_step(parts[0], lengths[0], parts[1], lengths[1], parts[2], lengths[2], lent->pool, lent->pool_len,
+                               lent->work, any(2), s.kind, s.worker, s.field, s.value), SPLITTER_BAD_STATE);
+    same("tape", splitter_tape(parts[0], lengths[0], parts[1], lengths[1], parts[2], lengths[2], lent->pool, lent->pool_len,
+                               lent->work, any(2), tape, 7 + any(2), words, any(3)), SPLITTER_BAD_STATE);
+    if (words[0] != GUARD_WORD || words[1] != GUARD_WORD) {
+        surprise("a refused tape changed its answers");
+    }
+    counts[SPLITTER_BAD_STATE] += 3;
+}
+
+/* Any other length of a part, shorter or longer: nothing changes. */
+static void stress_bad_state(void) {
+    static uint32_t longer[SPLITTER_DEQUES_WORDS + GUARD]; /* apart, for slices must not overlap; always zero */
+    uint32_t *parts[3] = {state->numbers, state->deques, state->frames};
+    size_t lengths[3] = {SPLITTER_NUMBERS_WORDS, SPLITTER_DEQUES_WORDS, SPLITTER_FRAMES_WORDS};
+    unsigned part = any(3);
+    if (any(2) == 0) {
+        lengths[part] = any((uint32_t)lengths[part]);
+    } else {
+        parts[part] = longer;
+        lengths[part] += 1 + any(GUARD);
+    }
+    remember();
+    call_bad_state(parts, lengths);
+    check_unchanged();
+    for (size_t i = 0; i < sizeof longer / sizeof longer[0]; i++) {
+        if (longer[i] != 0) {
+            surprise("a refused call changed a part of the state");
+        }
+    }
+}
+
 static void stress_call(void) {
     switch (any(40)) {
     case 0: stress_unsound(); break;
     case 1: stress_short_work(); break;
-    case 2:
-    case 3: stress_tape(); break;
+    case 2: stress_bad_state(); break;
+    case 3:
+    case 4: stress_tape(); break;
     default: stress_step(); break;
     }
 }
 
 static void stress_run(void) {
-    uint32_t values[SPLITTER_MAX_SPLITTERS];
     unsigned n = 1 + any(any(4) == 0 ? SPLITTER_MAX_SPLITTERS : 20);
     unsigned tree = (unsigned)splitter_tree_nodes(n);
     unsigned nodes = tree + any(any(2) == 0 ? 3 * tree : NODES - tree + 1);
     nodes = nodes < NODES ? nodes : NODES;
-    struct splitter_lent lent = {state, SPLITTER_STATE_WORDS, pool, nodes * SPLITTER_NODE_WORDS + any(4), work, nodes};
+    struct splitter_lent lent = {state, pool, nodes * SPLITTER_NODE_WORDS + any(4), work, nodes};
     run.lent = lent;
     for (unsigned i = 0; i < n; i++) {
         values[i] = any(5);
     }
     memset(work, 0, sizeof work);
-    guard(state + lent.state_len);
+    guard(guarded.before);
+    guard(guarded.after);
     guard(pool + nodes * SPLITTER_NODE_WORDS);
     guard(work + lent.work_len);
     same("start", checked_start(&run, 1 + any(SPLITTER_MAX_WORKERS), values, n), SPLITTER_OK);
@@ -192,7 +241,7 @@ static unsigned long argument(const char *text) {
 static unsigned long count_answers(void) {
     unsigned long sum = 0;
     for (uint32_t kind = SPLITTER_SHORT_WORK; kind <= SPLITTER_WRITTEN; kind++) {
-        int comes = kind <= SPLITTER_POOL_FULL || kind >= SPLITTER_SPAWNED;
+        int comes = kind <= SPLITTER_POOL_FULL || kind == SPLITTER_BAD_STATE || kind >= SPLITTER_SPAWNED;
         if (comes && counts[kind] == 0) {
             printf("never answered: %u (%s)\n", kind, splitter_name(kind));
             exit(1);

@@ -5,7 +5,8 @@
  * overlap, and no pointer may be NULL, also of an empty slice. One call at a time may use a state and its pool: locking is the host's.
  *
  * Memory to lend, and its owner is always the host:
- *   state     SPLITTER_STATE_WORDS words; what they hold between calls is the engine's. Further words are never changed.
+ *   state     three slices, the members of struct splitter_state: numbers, deques, frames. A call changes them in place; what they hold
+ *             between calls is the engine's. Each must have just its length, or the call is refused (SPLITTER_BAD_STATE).
  *   pool      SPLITTER_NODE_WORDS words for each node, T(n) to SPLITTER_MAX_NODES nodes: splitter_tree_nodes(n) gives T(n).
  *   work      a word for each node of the pool, for the check of state and pool; the words are zero afterwards.
  *   answers   two words for each record of a tape.
@@ -14,7 +15,8 @@
  * them. Every call checks what it is handed: state and pool that are not sound are refused (SPLITTER_UNSOUND), not used. A foreign
  * change that leaves them sound, such as another value in a leaf, cannot be seen.
  *
- * The four functions are the library. Below them are inline helpers: a call for each kind of step, records, texts.
+ * The four functions are the library. Below them are inline helpers: the same calls over struct splitter_state and over struct
+ * splitter_lent, a call for each kind of step, records, texts. A host needs no others than those over struct splitter_lent.
  */
 #ifndef SPLITTER_H
 #define SPLITTER_H
@@ -26,14 +28,32 @@
 extern "C" {
 #endif
 
-#define SPLITTER_STATE_WORDS 909u /* 5 numbers, 8 deques of 65 words, 64 frame records of 6 words */
+#define SPLITTER_NUMBERS_WORDS 5u  /* SPLITTER_NUMBER_WORKERS to SPLITTER_NUMBER_FREE_FRAME */
+#define SPLITTER_DEQUES_WORDS 520u /* for each of 8 workers its deque's length, then 64 places for its frames from the top */
+#define SPLITTER_FRAMES_WORDS 384u /* 64 records: live, parent or next free place, depth, outstanding, suspended, root */
 #define SPLITTER_NODE_WORDS 4u
 #define SPLITTER_MAX_NODES 16384u
 #define SPLITTER_MAX_SPLITTERS 256u
 #define SPLITTER_MAX_WORKERS 8u
 #define SPLITTER_MAX_FRAMES 64u
 #define SPLITTER_RECORD_BYTES 8u
-#define SPLITTER_STACK_BYTES 24576u /* a call takes less stack than this, on x86-64; measured (host/c/stack.c) */
+#define SPLITTER_STACK_BYTES 2048u /* a call takes at most this much stack, on x86-64; measured (host/c/stack.c) */
+
+/* The state of a run. The calls write it; a host may read and copy it. */
+struct splitter_state {
+    uint32_t numbers[SPLITTER_NUMBERS_WORDS];
+    uint32_t deques[SPLITTER_DEQUES_WORDS];
+    uint32_t frames[SPLITTER_FRAMES_WORDS];
+};
+
+/* The places of the numbers. None is 4,294,967,295. */
+enum {
+    SPLITTER_NUMBER_WORKERS = 0,
+    SPLITTER_NUMBER_SPLITTERS = 1,
+    SPLITTER_NUMBER_NODES = 2,     /* the recorded nodes of the pool */
+    SPLITTER_NUMBER_FREE_NODE = 3, /* the first free node, or none */
+    SPLITTER_NUMBER_FREE_FRAME = 4 /* the first free frame place, or none */
+};
 
 /* Kinds of steps: a record's first byte, and splitter_step's kind. */
 enum {
@@ -70,7 +90,8 @@ enum {
     SPLITTER_SUSPENDED = 1 /* the frame waits for its children; its worker is idle */
 };
 
-/* Refusals. Of a whole call: nothing has changed but the work slice's words (zero), and after a refused start the state (zeros). */
+/* Refusals. Of a whole call: nothing has changed but the work slice's words (zero), and after a start refused by 1, 2 or 3 the state
+ * (zeros). */
 enum {
     SPLITTER_NO_VALUES = 1,  /* start: 0 or more than 256 initial values */
     SPLITTER_NO_WORKERS = 2, /* start: 0 or more than 8 workers */
@@ -89,22 +110,24 @@ enum {
     SPLITTER_CHILD_LIVES = 14,  /* a return, and the frame has a live child */
     SPLITTER_NO_SPLITTER = 15,  /* a read or write, and the splitter is not below n */
     SPLITTER_POOL_FULL = 16,    /* a write, and fewer than H + 1 nodes are free */
-    /* Of the interface, before all others: the state slice has fewer than SPLITTER_STATE_WORDS words; nothing at all has changed. */
-    SPLITTER_SHORT_STATE = 99
+    /* Of the interface, before all others: a part of the state has another length than it must have; nothing at all has changed. */
+    SPLITTER_BAD_STATE = 99
 };
 
 /* Begins a run with n = values_len splitters. SPLITTER_OK, or a refusal: 99, 1, 2, 3. */
-uint32_t splitter_start(uint32_t *state, size_t state_len, uint32_t workers, const uint32_t *values, size_t values_len,
-                        uint32_t *pool, size_t pool_len);
+uint32_t splitter_start(uint32_t *numbers, size_t numbers_len, uint32_t *deques, size_t deques_len, uint32_t *frames, size_t frames_len,
+                        uint32_t workers, const uint32_t *values, size_t values_len, uint32_t *pool, size_t pool_len);
 
 /* One step. field is the splitter of a read or write, the victim of a steal, else 0; value is a write's, else 0.
  * The low half of the result is the first answer word (101 to 106, or a refusal: 99, 5, 6, then 7 to 16), the high half the second. */
-uint64_t splitter_step(uint32_t *state, size_t state_len, uint32_t *pool, size_t pool_len, uint32_t *work, size_t work_len,
+uint64_t splitter_step(uint32_t *numbers, size_t numbers_len, uint32_t *deques, size_t deques_len, uint32_t *frames, size_t frames_len,
+                       uint32_t *pool, size_t pool_len, uint32_t *work, size_t work_len,
                        uint32_t kind, uint32_t worker, uint32_t field, uint32_t value);
 
 /* A tape of records, 8 bytes each: kind, worker, field (2 bytes), value (4 bytes), little-endian. SPLITTER_OK, with two answer words for
  * each record, or a refusal: 99, 4, 5, 6. A refused record gives its refusal and 0, and the tape goes on. */
-uint32_t splitter_tape(uint32_t *state, size_t state_len, uint32_t *pool, size_t pool_len, uint32_t *work, size_t work_len,
+uint32_t splitter_tape(uint32_t *numbers, size_t numbers_len, uint32_t *deques, size_t deques_len, uint32_t *frames, size_t frames_len,
+                       uint32_t *pool, size_t pool_len, uint32_t *work, size_t work_len,
                        const uint8_t *tape, size_t tape_len, uint32_t *answers, size_t answers_len);
 
 /* T(n): the nodes that one full view of n splitters takes, the least that a pool can have. The sum over the tree's levels for any n, 0 for 0;
@@ -125,44 +148,72 @@ static inline uint64_t splitter_answer(uint32_t kind, uint32_t number) {
     return (uint64_t)number << 32 | kind;
 }
 
-/* What a host lends to every step of a run: lengths are in words. */
+/* The three calls over a whole state: SPLITTER_BAD_STATE never comes. */
+static inline uint32_t splitter_state_start(struct splitter_state *state, uint32_t workers, const uint32_t *values, size_t values_len,
+                                            uint32_t *pool, size_t pool_len) {
+    return splitter_start(state->numbers, SPLITTER_NUMBERS_WORDS, state->deques, SPLITTER_DEQUES_WORDS,
+                          state->frames, SPLITTER_FRAMES_WORDS, workers, values, values_len, pool, pool_len);
+}
+
+static inline uint64_t splitter_state_step(struct splitter_state *state, uint32_t *pool, size_t pool_len, uint32_t *work, size_t work_len,
+                                           uint32_t kind, uint32_t worker, uint32_t field, uint32_t value) {
+    return splitter_step(state->numbers, SPLITTER_NUMBERS_WORDS, state->deques, SPLITTER_DEQUES_WORDS,
+                         state->frames, SPLITTER_FRAMES_WORDS, pool, pool_len, work, work_len, kind, worker, field, value);
+}
+
+static inline uint32_t splitter_state_tape(struct splitter_state *state, uint32_t *pool, size_t pool_len, uint32_t *work, size_t work_len,
+                                           const uint8_t *tape, size_t tape_len, uint32_t *answers, size_t answers_len) {
+    return splitter_tape(state->numbers, SPLITTER_NUMBERS_WORDS, state->deques, SPLITTER_DEQUES_WORDS,
+                         state->frames, SPLITTER_FRAMES_WORDS, pool, pool_len, work, work_len, tape, tape_len, answers, answers_len);
+}
+
+/* What a host lends to every call of a run: lengths are in words. */
 struct splitter_lent {
-    uint32_t *state;
-    size_t state_len;
+    struct splitter_state *state;
     uint32_t *pool;
     size_t pool_len;
     uint32_t *work;
     size_t work_len;
 };
 
-/* splitter_step over lent memory, then one call for each kind of step. */
-static inline uint64_t splitter_take(const struct splitter_lent *lent, uint32_t kind, uint32_t worker, uint32_t field, uint32_t value) {
-    return splitter_step(lent->state, lent->state_len, lent->pool, lent->pool_len, lent->work, lent->work_len,
-                         kind, worker, field, value);
+/* The three calls over lent memory, then one for each kind of step. */
+static inline uint32_t splitter_lent_start(const struct splitter_lent *lent, uint32_t workers, const uint32_t *values, size_t values_len) {
+    return splitter_state_start(lent->state, workers, values, values_len, lent->pool, lent->pool_len);
+}
+
+static inline uint64_t splitter_lent_step(const struct splitter_lent *lent, uint32_t kind, uint32_t worker, uint32_t field,
+                                          uint32_t value) {
+    return splitter_state_step(lent->state, lent->pool, lent->pool_len, lent->work, lent->work_len, kind, worker, field, value);
+}
+
+static inline uint32_t splitter_lent_tape(const struct splitter_lent *lent, const uint8_t *tape, size_t tape_len,
+                                          uint32_t *answers, size_t answers_len) {
+    return splitter_state_tape(lent->state, lent->pool, lent->pool_len, lent->work, lent->work_len,
+                               tape, tape_len, answers, answers_len);
 }
 
 static inline uint64_t splitter_spawn(const struct splitter_lent *lent, uint32_t worker) {
-    return splitter_take(lent, SPLITTER_SPAWN, worker, 0, 0);
+    return splitter_lent_step(lent, SPLITTER_SPAWN, worker, 0, 0);
 }
 
 static inline uint64_t splitter_return(const struct splitter_lent *lent, uint32_t worker) {
-    return splitter_take(lent, SPLITTER_RETURN, worker, 0, 0);
+    return splitter_lent_step(lent, SPLITTER_RETURN, worker, 0, 0);
 }
 
 static inline uint64_t splitter_steal(const struct splitter_lent *lent, uint32_t worker, uint32_t victim) {
-    return splitter_take(lent, SPLITTER_STEAL, worker, victim, 0);
+    return splitter_lent_step(lent, SPLITTER_STEAL, worker, victim, 0);
 }
 
 static inline uint64_t splitter_sync(const struct splitter_lent *lent, uint32_t worker) {
-    return splitter_take(lent, SPLITTER_SYNC, worker, 0, 0);
+    return splitter_lent_step(lent, SPLITTER_SYNC, worker, 0, 0);
 }
 
 static inline uint64_t splitter_read(const struct splitter_lent *lent, uint32_t worker, uint32_t splitter) {
-    return splitter_take(lent, SPLITTER_READ, worker, splitter, 0);
+    return splitter_lent_step(lent, SPLITTER_READ, worker, splitter, 0);
 }
 
 static inline uint64_t splitter_write(const struct splitter_lent *lent, uint32_t worker, uint32_t splitter, uint32_t value) {
-    return splitter_take(lent, SPLITTER_WRITE, worker, splitter, value);
+    return splitter_lent_step(lent, SPLITTER_WRITE, worker, splitter, value);
 }
 
 /* Writes a record of SPLITTER_RECORD_BYTES bytes, on any machine, and gives the place after it. */
@@ -204,7 +255,7 @@ static inline const char *splitter_name(uint32_t number) {
     case SPLITTER_CHILD_LIVES: return "the frame has a live child";
     case SPLITTER_NO_SPLITTER: return "no such splitter";
     case SPLITTER_POOL_FULL: return "too few free nodes";
-    case SPLITTER_SHORT_STATE: return "the state slice is too short";
+    case SPLITTER_BAD_STATE: return "a part of the state has another length than it must have";
     default: return "unknown number";
     }
 }

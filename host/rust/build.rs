@@ -21,4 +21,5 @@ fn main() {
     }
     println!("cargo:rustc-link-search=native={}", folder.display());
     println!("cargo:rustc-link-lib=static=splitter");
+    println!("cargo:archive={}", archive.display()); // DEP_SPLITTER_ARCHIVE for the build of a crate that depends on this one
 }

@@ -5,7 +5,7 @@
 #include <stdlib.h>
 #include <string.h>
 
-enum { STATE, POOL, WORK, ANSWERS, SLICES };
+enum { NUMBERS, DEQUES, FRAMES, POOL, WORK, ANSWERS, SLICES };
 
 static void stop(const char *why, unsigned long call)
 {
@@ -52,13 +52,15 @@ static void call(FILE *file, uint32_t entry, unsigned long number)
     uint8_t *bytes = narrow(input, inputs);
     uint64_t got = 0;
     if (entry == 1)
-        got = splitter_start(slice[STATE], length[STATE], argument[0], input, inputs, slice[POOL], length[POOL]);
+        got = splitter_start(slice[NUMBERS], length[NUMBERS], slice[DEQUES], length[DEQUES], slice[FRAMES], length[FRAMES],
+                             argument[0], input, inputs, slice[POOL], length[POOL]);
     else if (entry == 2)
-        got = splitter_step(slice[STATE], length[STATE], slice[POOL], length[POOL], slice[WORK], length[WORK],
+        got = splitter_step(slice[NUMBERS], length[NUMBERS], slice[DEQUES], length[DEQUES], slice[FRAMES], length[FRAMES],
+                            slice[POOL], length[POOL], slice[WORK], length[WORK],
                             argument[0], argument[1], argument[2], argument[3]);
     else
-        got = splitter_tape(slice[STATE], length[STATE], slice[POOL], length[POOL], slice[WORK], length[WORK],
-                            bytes, inputs, slice[ANSWERS], length[ANSWERS]);
+        got = splitter_tape(slice[NUMBERS], length[NUMBERS], slice[DEQUES], length[DEQUES], slice[FRAMES], length[FRAMES],
+                            slice[POOL], length[POOL], slice[WORK], length[WORK], bytes, inputs, slice[ANSWERS], length[ANSWERS]);
     if ((uint32_t)got != result[0] || (uint32_t)(got >> 32) != result[1])
         stop("another result", number);
     for (int i = 0; i < SLICES; i++) {

@@ -8,8 +8,11 @@
 #
 # SPLITTER_LIB_DIR: the archive's folder, if not target/staticlib of the repository.
 set -euo pipefail
-cd "$(dirname "$0")"
-library=${SPLITTER_LIB_DIR:-../../target/staticlib}/libsplitter.a
+repository=$(cd "$(dirname "$0")/../.." && pwd)
+SPLITTER_LIB_DIR=$(realpath -m "${SPLITTER_LIB_DIR:-$repository/target/staticlib}")
+export SPLITTER_LIB_DIR
+library=$SPLITTER_LIB_DIR/libsplitter.a
+cd "$repository/tests/host"
 scratch=$(mktemp -d)
 trap 'rm -rf "$scratch"' EXIT
 

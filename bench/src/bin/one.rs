@@ -1,4 +1,5 @@
-//! Runs one peer on one case, for callgrind: `one PEER WORKLOAD N [empty]` or `one PEER check N NODES FRAMES WRITES`.
+//! Runs one peer on one case, for callgrind: `one PEER WORKLOAD N [empty]`, `one PEER check N NODES FRAMES WRITES` or
+//! `one PEER steps WORKLOAD N NODES`.
 //! By hand: `valgrind --tool=callgrind --dump-instr=yes --toggle-collect=bench_measured one library mix 16`.
 
 use bench::job::Job;
@@ -14,9 +15,9 @@ fn main() -> ExitCode {
         .split_first()
         .and_then(|(peer, job)| Some((Peer::named(peer)?, Job::from_words(job)?)));
     let Some((peer, job)) = asked else {
-        eprintln!("one PEER WORKLOAD N [empty]\none PEER check N NODES FRAMES WRITES");
+        eprintln!("one PEER WORKLOAD N [empty]\none PEER check N NODES FRAMES WRITES\none PEER steps WORKLOAD N NODES");
         return ExitCode::FAILURE;
     };
-    measure::once(peer, &job.case());
+    measure::once(peer, job);
     ExitCode::SUCCESS
 }

@@ -26,7 +26,7 @@ use Rattle.semantics.specs.Promises.{parts, IsTape}
 use Rattle.semantics.specs.Ranges.{Kept}
 use Rattle.semantics.specs.Theory.WorkSlice.{checked-room, no-room-keeps}
 use Rattle.semantics.specs.Theory.Kept.{kept-start}
-use Rattle.engine.specs.Promises.{core, checkNumber}
+use Rattle.engine.specs.Promises.{core, checkNumber, freeIn}
 
 -- ---- the check
 
@@ -104,10 +104,18 @@ module _ (s : Numbers) (ds fs ws ks : List ℕ) where
 
 -- ---- a tape over parts that have their lengths
 
+-- a call that the check does not refuse
+not-refused : (k : Checked) → checkNumber k ≡ 0 → k ≡ Sound (freeIn k)
+not-refused NoRoom e = absurd (omega arith)
+not-refused Checked.Unsound e = absurd (omega arith)
+not-refused (Sound free) e = refl
+
 -- the check found the parts sound
-pub found-sound : (s : Numbers) (ds fs ws ks ks′ : List ℕ) (k : Checked) (free : ℕ) (h : Head) → length ds ≡ dequeWords → length fs ≡ frameWords
-    → Checks s ds fs ws ks ks′ k → k ≡ Sound free → h ≡ headOf s free → Kept (core h ds fs ws)
-found-sound s ds fs ws ks ks′ k free h ed ef ek e eh = subst (λ (g : Head). Kept (core g ds fs ws)) (sym eh) (kept-start s ds fs ws ks free ed ef (sym e ∙ ek .1))
+pub found-sound : (s : Numbers) (ds fs ws ks ks′ : List ℕ) (k : Checked) (r free : ℕ) (h : Head) → length ds ≡ dequeWords → length fs ≡ frameWords
+    → Checks s ds fs ws ks ks′ k → r ≡ checkNumber k → r ≡ 0 → free ≡ freeIn k → h ≡ headOf s free → Kept (core h ds fs ws)
+found-sound s ds fs ws ks ks′ k r free h ed ef ek er z e eh =
+    let found : k ≡ Sound free = not-refused k (sym er ∙ z) ∙ ap Sound (sym e) in
+    subst (λ (g : Head). Kept (core g ds fs ws)) (sym eh) (kept-start s ds fs ws ks free ed ef (sym found ∙ ek .1))
 
 -- a tape that fits has room for its answers
 pub fit-answers : (bytes rs : List ℕ) (b : Bool) → b ≡ unfitTape bytes rs → b ≡ false → 2 * (length bytes / 8) ≤ length rs
@@ -137,20 +145,21 @@ module _ (ns ds fs ws ks bytes rs : List ℕ) (b : Bool) (eb : b ≡ unfitTape b
     unfolding tapeWith
     by-check o e = rw (sym eb ∙ fit) (e ∙ ap (λ (j : Checked). tapeChecked j s ws ks bytes rs) (checks .1))
 
-    refused-by : (j : Checked) → k ≡ j → (r : ℕ) → r ≡ checkNumber k → ((free : ℕ) → k ≡ Sound free → ⊥) → result s ws ks′ rs r ≡ tapeChecked k s ws ks bytes rs
-    refused-by NoRoom e r er no =
+    refused-by : (j : Checked) → k ≡ j → (r : ℕ) → r ≡ checkNumber k → 0 < r → result s ws ks′ rs r ≡ tapeChecked k s ws ks bytes rs
+    refused-by NoRoom e r er l =
         let kept : ks′ ≡ ks = checks .0 ∙ no-room-keeps (numbersIn ns) ds fs ws ks (sym (checks .1) ∙ e) in
         rw (er, e, kept)
-    refused-by Checked.Unsound e r er no = rw (er, e, checks .0)
-    refused-by (Sound free) e r er no = absurd (no free e)
+    refused-by Checked.Unsound e r er l = rw (er, e, checks .0)
+    refused-by (Sound free) e r er l = absurd (omega (arith, ap checkNumber e))
 
-    pub tape-refused : (r : ℕ) → r ≡ checkNumber k → ((free : ℕ) → k ≡ Sound free → ⊥) → IsTape (tapeWith (parts ns ds fs) ws ks bytes rs) ns ds fs ws ks′ rs r
-    tape-refused r er no = by-result _ ns ds fs ws ks′ rs r (by-check (result s ws ks′ rs r) (refused-by k refl r er no))
+    pub tape-refused : (r : ℕ) → r ≡ checkNumber k → 0 < r → IsTape (tapeWith (parts ns ds fs) ws ks bytes rs) ns ds fs ws ks′ rs r
+    tape-refused r er l = by-result _ ns ds fs ws ks′ rs r (by-check (result s ws ks′ rs r) (refused-by k refl r er l))
 
-    pub tape-done : (free : ℕ) (h h′ : Head) (ns′ ds′ fs′ ws′ rs′ : List ℕ) → k ≡ Sound free → h ≡ headOf n free
+    pub tape-done : (r free : ℕ) (h h′ : Head) (ns′ ds′ fs′ ws′ rs′ : List ℕ) → r ≡ checkNumber k → r ≡ 0 → free ≡ freeIn k → h ≡ headOf n free
         → recordsResult (core h′ ds′ fs′ ws′) rs′ ≡ runOn (recordsResult (core h ds fs ws) rs) 0 (recordsOf bytes)
         → ns′ ≡ numberWords (h′ .numbers) → IsTape (tapeWith (parts ns ds fs) ws ks bytes rs) ns′ ds′ fs′ ws′ ks′ rs′ 0
-    tape-done free h h′ ns′ ds′ fs′ ws′ rs′ e eh er en′ =
+    tape-done r free h h′ ns′ ds′ fs′ ws′ rs′ ek′ z ef eh er en′ =
+        let e : k ≡ Sound free = not-refused k (sym ek′ ∙ z) ∙ ap Sound (sym ef) in
         let o : recordsResult (core h′ ds′ fs′ ws′) rs′ ≡ runOn (recordsResult (coreOf s ws free) rs) 0 (recordsOf bytes) =
             er ∙ ap (λ (g : Head). runOn (recordsResult (core g ds fs ws) rs) 0 (recordsOf bytes)) (eh ∙ ap (λ (m : Numbers). headOf m free) en) in
         let d : tapeDone (recordsResult (core h′ ds′ fs′ ws′) rs′) (cleared (numbersIn ns .nodes) ks) ≡ tapeChecked k s ws ks bytes rs = rw e (ap (λ q. tapeDone q (cleared (numbersIn ns .nodes) ks)) o) in

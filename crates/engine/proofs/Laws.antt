@@ -2,10 +2,11 @@
 use mathlib.Core.Path.{_≡_, refl, sym, ap, _∙_}
 use mathlib.Core.Logic.{inl, inr}
 use mathlib.Core.Bool.{Bool, true, false, not, _||_, _&&_}
-use mathlib.Core.List.{List, []}
+use mathlib.Core.List.{List, [], _∷_}
 use Prim.Native.Nat.{ℕ, suc, _-_, _≤_, _<_}
 use native.Mathlib.Omega.{arith}
 use lib.Dec.{eqb, ltb}
+use lib.ListN.{length, set}
 use borrow.Author.Tests.{eq-eqb, ne-eqb, lt-ltb, le-ltb}
 use Rattle.words.specs.Basics.{all}
 use Rattle.words.specs.Tests.{decided, true≢false, neither, not-false, lt-of, ge-of}
@@ -81,3 +82,14 @@ module _ (h : Head) (ds : List ℕ) where
 
           pub steal-no-victim : b ≡ true → idles ≡ false → Refuse NoVictim ≡ verdict (stealTests (core h ds [] []) w v)
           steal-no-victim t a = rw (lt-ltb w (h .numbers .workers) l, a, eq-eqb (size ds w) 0 (sym e ∙ z), ← eb, t)
+
+-- ---- the numbers' words
+
+pub five-words : (l : List ℕ) (a b d e f : ℕ) → length l ≡ 5 → set (set (set (set (set l 0 a) 1 b) 2 d) 3 e) 4 f ≡ a ∷ b ∷ d ∷ e ∷ f ∷ []
+five-words [] a b d e f h = absurd (omega arith)
+five-words (q ∷ []) a b d e f h = absurd (omega arith)
+five-words (q ∷ r ∷ []) a b d e f h = absurd (omega arith)
+five-words (q ∷ r ∷ s ∷ []) a b d e f h = absurd (omega arith)
+five-words (q ∷ r ∷ s ∷ t ∷ []) a b d e f h = absurd (omega arith)
+five-words (q ∷ r ∷ s ∷ t ∷ u ∷ []) a b d e f h = refl
+five-words (q ∷ r ∷ s ∷ t ∷ u ∷ v ∷ l) a b d e f h = absurd (omega arith)

@@ -84,3 +84,18 @@ module _ (h : Head) (ds fs ws : List ℕ) (w v : ℕ) (ready : Ready (core h ds 
   pub top-asks : (p : ℕ) → p ≡ top ds v → (length fs ≡ frameWords) × (p < places)
   unfolding top
   top-asks p e = (ready .long-frames, subst (λ (k : ℕ). k < places) (sym e) (ready .held v 0 (steal-asks .2) (omega (arith, steal-asks .4))))
+
+-- ---- a read and a write
+
+module _ (c : Core) (w p : ℕ) (r : Ready c) (a : ActsAt c w p) (root : ℕ) (er : root ≡ frameAt (c .frames) p .root) where
+  pub read-asks : (x : ℕ) → x < c .head .numbers .splitters
+      → (4 * c .head .numbers .nodes ≤ length (c .pool)) × (c .head .height ≤ 32) × PathIn (c .head .numbers .nodes) (c .pool) (c .head .height) root x
+  read-asks x l = (
+    r .links .room,
+    omega (arith, r .low),
+    subst (λ (i : ℕ). PathIn (c .head .numbers .nodes) (c .pool) (c .head .height) i x) (sym er) (a .path x l),
+  )
+
+  pub write-asks : LinksIn (c .head .numbers .nodes) (c .pool) × (0 < c .head .numbers .nodes) × (c .head .height ≤ 32)
+      × Link (c .head .numbers .nodes) (c .head .numbers .«free_node») × Link (c .head .numbers .nodes) root
+  write-asks = (r .links, r .nodes-positive, omega (arith, r .low), r .free-node, inl (subst (λ (i : ℕ). i < c .head .numbers .nodes) (sym er) (a .root)))

@@ -118,13 +118,15 @@ module _ (h : Head) (ds fs ws : List ℕ) (w : ℕ) where
   pub sync-done : (o : Out) (ds′ fs′ : List ℕ) (s : Synced) → IsSync ds fs w ds′ fs′ s → (headAfter h o ≡ h) × (o .answer ≡ Accepted (Waited s)) → Leaves h o ds′ fs′ ws (kindOn (core h ds fs ws) (Sync w))
   unfolding syncOn
   sync-done o ds′ fs′ s e u =
-      ap₂ (λ (g : Head) (a : Answer). stepResult g ds′ fs′ ws a) (u .0) (u .1) ∙ rw (e .outcome (h .numbers .«free_place»), ← e .after (h .numbers .«free_place»))
+      let acts : stepResult h ds′ fs′ ws (Accepted (Waited s)) ≡ kindOn (core h ds fs ws) (Sync w) = rw (e .outcome (h .numbers .«free_place»), ← e .after (h .numbers .«free_place»)) in
+      ap₂ (λ (g : Head) (a : Answer). stepResult g ds′ fs′ ws a) (u .0) (u .1) ∙ acts
 
   module _ (p root x : ℕ) (ep : p ≡ bottom ds w) (er : root ≡ frameAt fs p .root) (l : x < h .numbers .splitters) where
     pub read-done : (o : Out) (y : ℕ) → y ≡ readAt (h .height) ws root x → (headAfter h o ≡ h) × (o .answer ≡ Accepted (Value y)) → Leaves h o ds fs ws (kindOn (core h ds fs ws) (Read w x))
     unfolding readOn
     read-done o y e u =
-        ap₂ (λ (g : Head) (a : Answer). stepResult g ds fs ws a) (u .0) (u .1) ∙ rw (lt-ltb x (h .numbers .splitters) l, e, er, ep)
+        let acts : stepResult h ds fs ws (Accepted (Value y)) ≡ kindOn (core h ds fs ws) (Read w x) = rw (lt-ltb x (h .numbers .splitters) l, e, er, ep) in
+        ap₂ (λ (g : Head) (a : Answer). stepResult g ds fs ws a) (u .0) (u .1) ∙ acts
 
     pub write-done : h .height < h .«free_count» → (fs′ ws′ : List ℕ) (v first count : ℕ)
         → (ws′ ≡ write (h .height) ws (h .numbers .«free_node») (h .«free_count») root x v .0)
@@ -160,8 +162,9 @@ module _ (h : Head) (ds fs ws : List ℕ) (w v : ℕ) where
       → Leaves h o ds′ fs ws (stepOn (core h ds fs ws) (Steal w v))
   unfolding stepOn stealOn
   steal-done o u ds′ p f eu e ep ef et q =
+      let acts : stepResult h ds′ fs ws (Accepted (Stolen (f .depth))) ≡ stealOn (core h ds fs ws) w v = rw (← et fs (h .numbers .«free_place»), ← ep, ← ef) in
       ap₂ (λ (g : Head) (a : Answer). stepResult g ds′ fs ws a) (q .0) (q .1)
-      ∙ rw (← et fs (h .numbers .«free_place»), ← ep, ← ef)
+      ∙ acts
       ∙ sym (passed tests [] (core h ds fs ws) (stealOn (core h ds fs ws) w v) (sym eu ∙ e))
       ∙ steal-judged (stealOn (core h ds fs ws) w v)
 

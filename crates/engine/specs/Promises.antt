@@ -91,3 +91,9 @@ abbrev pub checkNumber : Checked → ℕ
 checkNumber NoRoom = refusalNumber Work
 checkNumber Checked.Unsound = refusalNumber Refusal.Unsound
 checkNumber (Sound k) = 0
+
+-- the free nodes that it counted, if it found the state sound
+abbrev pub freeIn : Checked → ℕ
+freeIn NoRoom = 0
+freeIn Checked.Unsound = 0
+freeIn (Sound k) = k

@@ -2,7 +2,7 @@
 ghost use mathlib.Core.Path.{_≡_};
 ghost use Rattle.semantics.specs.Entries.{headOf, tapeWith, unfitTape};
 ghost use Rattle.semantics.specs.Promises.{parts, Fits, IsTape};
-ghost use Rattle.engine.specs.Promises.{checkNumber};
+ghost use Rattle.engine.specs.Promises.{checkNumber, freeIn};
 use crate::answers::refusal_number;
 use crate::checking::check;
 use crate::numbers::numbers_in;
@@ -44,6 +44,17 @@ fn check_number(checked: Checked) -> u32
     }
 }
 
+// The free nodes that the check counted, if it found the state sound.
+fn free_in(checked: Checked) -> u32
+    ensures { λ r. ⌜ r ≡ freeIn checked ⌝ }
+{
+    match checked {
+        Checked::NoRoom => 0,
+        Checked::Unsound => 0,
+        Checked::Sound(free) => free,
+    }
+}
+
 // "a tape checks once"
 pub fn tape_on(
     numbers: &mut [u32],
@@ -63,11 +74,12 @@ pub fn tape_on(
     }
     let first = numbers_in(numbers);
     let checked = check(first, deques, frames, pool, work);
-    let Checked::Sound(free_count) = checked else {
-        return check_number(checked);
-    };
+    let refused = check_number(checked);
+    if refused != 0 {
+        return refused;
+    }
     let last = run_tape(
-        head_of(first, free_count),
+        head_of(first, free_in(checked)),
         deques,
         frames,
         pool,

@@ -12,14 +12,14 @@ use Rattle.words.specs.Basics.{none, all, howMany, follow, below}
 use Rattle.words.specs.Counting.{all-at}
 use Rattle.words.specs.Tallies.{same-tests, follow-step}
 use Rattle.words.specs.Tests.{both}
-use Rattle.frames.specs.Widths.{maxWorkers, dequePlaces}
+use Rattle.frames.specs.Widths.{maxWorkers, places, dequePlaces}
 use Rattle.frames.specs.declared.Frame.{Frame}
 use Rattle.frames.specs.Frames.{frameAt}
 use Rattle.frames.specs.Deques.{size, place}
 use Rattle.soundness.specs.Soundness.{framesSound}
 use Rattle.frame_check.specs.Algorithm.{bump, tally, tallyList, tallyChildren, tallyDeques, chain, dequeFits, dequeSound}
 use Rattle.frame_check.specs.Algorithm.{mains, liveSound, freeSound, placeSound, placeTallied, placeChecked, zeros, checkFrames}
-use Rattle.frame_check.specs.Theorem.{check-frames}
+use Rattle.frame_check.specs.Theory.Theorem.{check-frames}
 
 -- a loop that counts up to n ends at n
 pub at-end : {A : Type 0} (F : ℕ → A) {n k : ℕ} {x : A} → k ≤ n → n ≤ k → x ≡ F k → x ≡ F n
@@ -41,15 +41,15 @@ tallyDeques-turn w ds ts e = rw (add-one, e)
 
 -- ---- along the chain: what is left of it from p on, in tallies ts that are sound so far, gives the tallies X and the answer b
 abbrev pub Walk : (ℕ → ℕ) → List ℕ → Bool → ℕ → ℕ → List ℕ → Bool → Type 0
-Walk next X b left p ts s = (tallyList (follow left next p) ts ≡ X) × (s && below 64 (follow left next p) ≡ b)
+Walk next X b left p ts s = (tallyList (follow left next p) ts ≡ X) × (s && below places (follow left next p) ≡ b)
 
 pub walk-turn : (next : ℕ → ℕ) (X : List ℕ) (b : Bool) (left p : ℕ) (ts : List ℕ) (s : Bool) → 0 < left → p ≢ none
-    → Walk next X b left p ts s → Walk next X b (left - 1) (next p) (bump ts p) (s && ltb p 64)
+    → Walk next X b left p ts s → Walk next X b (left - 1) (next p) (bump ts p) (s && ltb p places)
 unfolding tallyList
 walk-turn next X b left p ts s h n w =
     let e : left ≡ suc (left - 1) = omega arith in
     let d : follow left next p ≡ p ∷ follow (left - 1) next (next p) = ap (λ (l : ℕ). follow l next p) e ∙ follow-step (left - 1) next p n in
-    ((rw d at (w .0)), and-assoc s (ltb p 64) (below 64 (follow (left - 1) next (next p))) ∙ (rw d at (w .1)))
+    ((rw d at (w .0)), and-assoc s (ltb p places) (below places (follow (left - 1) next (next p))) ∙ (rw d at (w .1)))
 
 pub walk-end : (next : ℕ → ℕ) (X : List ℕ) (b : Bool) (left p : ℕ) (ts : List ℕ) (s : Bool) → follow left next p ≡ []
     → Walk next X b left p ts s → (ts ≡ X) × (s ≡ b)
@@ -79,22 +79,22 @@ place-free fs p c n e f d h = rw (← d, ne-eqb (f .live) 1 h)
 -- ---- the whole check
 
 module _ (workers first : ℕ) (ds fs : List ℕ) where
-  pub unfit : all 8 (dequeFits workers ds) ≡ false → false ≡ framesSound workers first ds fs
+  pub unfit : all maxWorkers (dequeFits workers ds) ≡ false → false ≡ framesSound workers first ds fs
   unfolding checkFrames
   unfit e = whole ∙ check-frames workers first ds fs
     where
       whole : false ≡ checkFrames workers first ds fs
       whole = rw e
 
-  pub fit : all 8 (dequeFits workers ds) ≡ true → {placed chained places : Bool} {n : ℕ} {children seen free : List ℕ}
-      → placed ≡ all 8 (dequeSound ds fs) → chained ≡ below 64 (chain fs first) → n ≡ mains fs → children ≡ tallyChildren fs zeros → seen ≡ tallyDeques 8 ds zeros
-      → free ≡ tallyList (chain fs first) zeros → places ≡ all 64 (placeTallied fs children seen free)
-      → (placed && chained) && (leb n 1 && places) ≡ framesSound workers first ds fs
+  pub fit : all maxWorkers (dequeFits workers ds) ≡ true → {placed chained sound : Bool} {n : ℕ} {children seen free : List ℕ}
+      → placed ≡ all maxWorkers (dequeSound ds fs) → chained ≡ below places (chain fs first) → n ≡ mains fs → children ≡ tallyChildren fs zeros → seen ≡ tallyDeques maxWorkers ds zeros
+      → free ≡ tallyList (chain fs first) zeros → sound ≡ all places (placeTallied fs children seen free)
+      → (placed && chained) && (leb n 1 && sound) ≡ framesSound workers first ds fs
   unfolding checkFrames
   fit e a b c d f g h = rw (h, a, b, c, d, f, g) (sym (ap (λ (t : Bool). t && rest) e) ∙ check-frames workers first ds fs)
     where
       rest : Bool
-      rest = (all 8 (dequeSound ds fs) && below 64 (chain fs first)) && (leb (mains fs) 1 && all 64 (placeChecked first ds fs))
+      rest = (all maxWorkers (dequeSound ds fs) && below places (chain fs first)) && (leb (mains fs) 1 && all places (placeChecked first ds fs))
 
 -- deques that fit are as long as they may be
 pub fit-sizes : (workers : ℕ) (ds : List ℕ) → all maxWorkers (dequeFits workers ds) ≡ true → (w : ℕ) → w < maxWorkers → size ds w ≤ dequePlaces

@@ -7,6 +7,7 @@ use Prim.Native.Nat.{ℕ, zero, suc, _-_}
 use lib.ListN.{getD, set, replicate}
 use lib.Dec.{eqb, leb, ltb}
 use Rattle.words.specs.Basics.{none, plus, all, howMany, below, follow}
+use Rattle.frames.specs.Widths.{maxWorkers, places, dequePlaces}
 use Rattle.frames.specs.declared.Frame.{Frame}
 use Rattle.frames.specs.Frames.{frameAt}
 use Rattle.frames.specs.Deques.{size, place}
@@ -36,7 +37,7 @@ childIn fs c = childAt (frameAt fs c)
 
 -- at each place the number of its live children
 abbrev pub tallyChildren : List ℕ → List ℕ → List ℕ
-tallyChildren fs = tally 64 (childIn fs)
+tallyChildren fs = tally places (childIn fs)
 
 -- at each place how often it stands in deque w
 abbrev pub tallyDeque : List ℕ → ℕ → List ℕ → List ℕ
@@ -50,9 +51,9 @@ tallyDeques (suc w) ds ts = tallyDeque ds w (tallyDeques w ds ts)
 abbrev pub next : List ℕ → ℕ → ℕ
 next fs p = frameAt fs p .parent
 
--- the chain of free places; 65 steps along it pass its end
+-- the chain of free places; one step more than places passes its end
 unfoldable pub chain : List ℕ → ℕ → List ℕ
-chain fs first = follow 65 (next fs) first
+chain fs first = follow (suc places) (next fs) first
 
 -- ---- deques
 
@@ -60,9 +61,9 @@ chain fs first = follow 65 (next fs) first
 abbrev pub zeroPast : List ℕ → ℕ → ℕ → ℕ → Bool
 zeroPast ds w n k = ltb k n || eqb (place ds w k) 0
 
--- deque w has at most 64 frames, none if the worker does not exist, and zeros past them
+-- deque w has no more frames than places, none if the worker does not exist, and zeros past them
 abbrev pub dequeFits : ℕ → List ℕ → ℕ → Bool
-dequeFits workers ds w = leb (size ds w) 64 && ((ltb w workers || eqb (size ds w) 0) && all 64 (zeroPast ds w (size ds w)))
+dequeFits workers ds w = leb (size ds w) dequePlaces && ((ltb w workers || eqb (size ds w) 0) && all dequePlaces (zeroPast ds w (size ds w)))
 
 -- a frame's outstanding count is 1 if there is a frame below it, else 0
 abbrev pub childBelow : Frame → Bool → Bool
@@ -70,7 +71,7 @@ childBelow f more = eqb (f .outstanding) (cond more 1 0)
 
 -- of the frame f at place p, k places below the top of a deque of n frames, and the place above it
 abbrev pub inDeque : Frame → ℕ → ℕ → ℕ → ℕ → Bool
-inDeque f p above k n = (ltb p 64 && eqb (f .live) 1) && (eqb k 0 || (eqb (f .parent) above && childBelow f (ltb (suc k) n)))
+inDeque f p above k n = (ltb p places && eqb (f .live) 1) && (eqb k 0 || (eqb (f .parent) above && childBelow f (ltb (suc k) n)))
 
 abbrev pub onDeque : List ℕ → List ℕ → ℕ → ℕ → Bool
 onDeque ds fs w k = inDeque (frameAt fs (place ds w k)) (place ds w k) (place ds w (k - 1)) k (size ds w)
@@ -87,12 +88,12 @@ abbrev pub mainAt : List ℕ → ℕ → Bool
 mainAt fs p = isMain (frameAt fs p)
 
 abbrev pub mains : List ℕ → ℕ
-mains fs = howMany 64 (mainAt fs)
+mains fs = howMany places (mainAt fs)
 
 -- of a live frame and the record that its parent's word names: Main has none, any other frame a live one, one shallower
 abbrev pub parentSound : Frame → Frame → Bool
 parentSound f g =
-    cond (eqb (f .depth) 0) (eqb (f .parent) none) (ltb (f .parent) 64 && (eqb (g .live) 1 && eqb (f .depth) (suc (g .depth))))
+    cond (eqb (f .depth) 0) (eqb (f .parent) none) (ltb (f .parent) places && (eqb (g .live) 1 && eqb (f .depth) (suc (g .depth))))
 
 -- of a live frame with c live children that stands on n places of deques: it waits if it stands on none
 abbrev pub placedSound : Frame → ℕ → ℕ → Bool
@@ -118,15 +119,15 @@ placeTallied fs children seen free p = placeSound fs p (getD children p 0) (getD
 -- ---- the whole
 
 abbrev pub zeros : List ℕ
-zeros = replicate 64 0
+zeros = replicate places 0
 
 -- a place, with the tallies of the whole check
 abbrev pub placeChecked : ℕ → List ℕ → List ℕ → ℕ → Bool
-placeChecked first ds fs = placeTallied fs (tallyChildren fs zeros) (tallyDeques 8 ds zeros) (tallyList (chain fs first) zeros)
+placeChecked first ds fs = placeTallied fs (tallyChildren fs zeros) (tallyDeques maxWorkers ds zeros) (tallyList (chain fs first) zeros)
 
 -- where a frame lives its ancestors lead to a Main, so one at most is enough
 unfoldable pub checkFrames : ℕ → ℕ → List ℕ → List ℕ → Bool
 checkFrames workers first ds fs =
-    all 8 (dequeFits workers ds) &&
-    ((all 8 (dequeSound ds fs) && below 64 (chain fs first)) &&
-    (leb (mains fs) 1 && all 64 (placeChecked first ds fs)))
+    all maxWorkers (dequeFits workers ds) &&
+    ((all maxWorkers (dequeSound ds fs) && below places (chain fs first)) &&
+    (leb (mains fs) 1 && all places (placeChecked first ds fs)))

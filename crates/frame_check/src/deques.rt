@@ -7,19 +7,22 @@ ghost use Rattle.frames.specs.Deques.{size};
 ghost use Rattle.words.specs.Basics.{all};
 ghost use Rattle.frame_check.specs.Algorithm.{tallyDeque, tallyDeques, zeroPast, dequeFits, childBelow, inDeque, dequeSound};
 use super::tallies::bump;
+use frames::DEQUE_PLACES;
 use frames::Frame;
+use frames::MAX_WORKERS;
+use frames::PLACES;
+use frames::frame_or_zero;
 use frames::place_at;
 use frames::size_at;
-use frames::frame_or_zero;
 
 // The places past the first n are zero.
 fn rest_zero(deques: &[u32], w: u32, n: u32) -> bool
     requires { ⌜ (length (now deques) ≡ dequeWords) × (w < maxWorkers) ⌝ }
-    ensures { λ r. ⌜ r ≡ all 64 (zeroPast (now (deques .entry)) w n) ⌝ }
+    ensures { λ r. ⌜ r ≡ all dequePlaces (zeroPast (now (deques .entry)) w n) ⌝ }
 {
     let mut sound = true;
     let mut k: u32 = 0;
-    while k < 64 {
+    while k < DEQUE_PLACES {
         sound = sound & ((k < n) | (place_at(deques, w, k) == 0));
         k += 1;
     }
@@ -32,16 +35,16 @@ fn deque_fits(workers: u32, deques: &[u32], w: u32) -> bool
     ensures { λ r. ⌜ r ≡ dequeFits workers (now (deques .entry)) w ⌝ }
 {
     let n = size_at(deques, w);
-    (n <= 64) & (((w < workers) | (n == 0)) & rest_zero(deques, w, n))
+    (n <= DEQUE_PLACES) & (((w < workers) | (n == 0)) & rest_zero(deques, w, n))
 }
 
 pub fn deques_fit(workers: u32, deques: &[u32]) -> bool
     requires { ⌜ length (now deques) ≡ dequeWords ⌝ }
-    ensures { λ r. ⌜ r ≡ all 8 (dequeFits workers (now (deques .entry))) ⌝ }
+    ensures { λ r. ⌜ r ≡ all maxWorkers (dequeFits workers (now (deques .entry))) ⌝ }
 {
     let mut sound = true;
     let mut w: u32 = 0;
-    while w < 8 {
+    while w < MAX_WORKERS {
         sound = sound & deque_fits(workers, deques, w);
         w += 1;
     }
@@ -64,7 +67,7 @@ fn in_deque(f: Frame, p: u32, above: u32, k: u32, n: u32) -> bool
     ensures { λ r. ⌜ r ≡ inDeque f p above k n ⌝ }
 {
     let only = child_below(f, 1 < words::sub(n, k));
-    ((p < 64) & (f.live == 1)) & ((k == 0) | ((f.parent == above) & only))
+    ((p < PLACES) & (f.live == 1)) & ((k == 0) | ((f.parent == above) & only))
 }
 
 // Counts the frames of deque w; whether they are sound.
@@ -88,11 +91,11 @@ fn tally_deque(tallies: &mut [u32], deques: &[u32], frames: &[u32], w: u32) -> b
 // The same of all deques.
 pub fn tally_deques(tallies: &mut [u32], deques: &[u32], frames: &[u32]) -> bool
     requires { ⌜ (length (now deques) ≡ dequeWords) × (length (now frames) ≡ frameWords) × ((w : ℕ) → w < maxWorkers → size (now deques) w ≤ dequePlaces) ⌝ }
-    ensures { λ r. ⌜ (now (tallies .exit) ≡ tallyDeques 8 (now (deques .entry)) (now (tallies .entry))) × (r ≡ all 8 (dequeSound (now (deques .entry)) (now (frames .entry)))) ⌝ }
+    ensures { λ r. ⌜ (now (tallies .exit) ≡ tallyDeques maxWorkers (now (deques .entry)) (now (tallies .entry))) × (r ≡ all maxWorkers (dequeSound (now (deques .entry)) (now (frames .entry)))) ⌝ }
 {
     let mut sound = true;
     let mut w: u32 = 0;
-    while w < 8 {
+    while w < MAX_WORKERS {
         sound = sound & tally_deque(tallies, deques, frames, w);
         w += 1;
     }

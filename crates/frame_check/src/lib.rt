@@ -3,6 +3,7 @@ mod deques;
 mod places;
 mod tallies;
 
+use frames::PLACES;
 ghost use mathlib.Core.Path.{_≡_};
 ghost use lib.ListN.{length};
 ghost use Rattle.frames.specs.Widths.{frameWords, dequeWords};
@@ -16,9 +17,9 @@ pub fn check_frames(workers: u32, first: u32, deques: &[u32], frames: &[u32]) ->
     if !deques::deques_fit(workers, deques) {
         return false;
     }
-    let mut children = [0u32; 64];
-    let mut seen = [0u32; 64];
-    let mut free = [0u32; 64];
+    let mut children = [0u32; PLACES as usize];
+    let mut seen = [0u32; PLACES as usize];
+    let mut free = [0u32; PLACES as usize];
     tallies::tally_children(&mut children, frames);
     let placed = deques::tally_deques(&mut seen, deques, frames);
     let chained = tallies::tally_chain(&mut free, frames, first);

@@ -1,12 +1,13 @@
 // The frame places: what each has to be, given its tallies.
 ghost use mathlib.Core.Path.{_≡_};
 ghost use lib.ListN.{length};
-ghost use Rattle.frames.specs.Widths.{frameWords};
+ghost use Rattle.frames.specs.Widths.{places, frameWords};
 ghost use mathlib.Core.Bool.{cond};
 ghost use Rattle.words.specs.Basics.{all};
 ghost use Rattle.frame_check.specs.Algorithm.{isMain, mains, parentSound, placedSound, liveSound, freeSound, placeSound, placeTallied};
 use frames::Frame;
 use frames::NONE;
+use frames::PLACES;
 use frames::frame_or_zero;
 
 // Main has no parent, any other live frame f a live one, one shallower, whose record is g.
@@ -16,7 +17,7 @@ fn parent_sound(f: Frame, g: Frame) -> bool
     if f.depth == 0 {
         return f.parent == NONE;
     }
-    (f.parent < 64) & ((g.live == 1) & (words::sub(f.depth, 1) == g.depth))
+    (f.parent < PLACES) & ((g.live == 1) & (words::sub(f.depth, 1) == g.depth))
 }
 
 // A live frame with so many children is on one place of the deques, or on none and waits.
@@ -56,11 +57,11 @@ fn place_sound(frames: &[u32], p: u32, children: u32, seen: u32, free: u32) -> b
 // Every place, with its tallies of children, of places of deques and of places of the free chain.
 pub fn places_sound(frames: &[u32], children: &[u32], seen: &[u32], free: &[u32]) -> bool
     requires { ⌜ length (now frames) ≡ frameWords ⌝ }
-    ensures { λ r. ⌜ r ≡ all 64 (placeTallied (now (frames .entry)) (now (children .entry)) (now (seen .entry)) (now (free .entry))) ⌝ }
+    ensures { λ r. ⌜ r ≡ all places (placeTallied (now (frames .entry)) (now (children .entry)) (now (seen .entry)) (now (free .entry))) ⌝ }
 {
     let mut sound = true;
     let mut p: u32 = 0;
-    while p < 64 {
+    while p < PLACES {
         let at = p as usize;
         let c = words::word(children, at);
         let n = words::word(seen, at);
@@ -85,7 +86,7 @@ pub fn count_mains(frames: &[u32]) -> u32
 {
     let mut n: u32 = 0;
     let mut p: u32 = 0;
-    while p < 64 {
+    while p < PLACES {
         n += main_in(frame_or_zero(frames, p));
         p += 1;
     }

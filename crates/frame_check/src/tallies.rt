@@ -1,12 +1,16 @@
 // How often each place stands somewhere, counted in a word for each place.
 ghost use mathlib.Core.Path.{_≡_};
 ghost use lib.ListN.{length};
-ghost use Rattle.frames.specs.Widths.{frameWords};
+ghost use Rattle.frames.specs.Widths.{places, frameWords};
 ghost use Rattle.words.specs.Basics.{below};
 ghost use Rattle.frame_check.specs.Algorithm.{bump, tallyList, childAt, tallyChildren, chain};
 use frames::Frame;
 use frames::NONE;
+use frames::PLACES;
 use frames::frame_or_zero;
+
+// One step more than the chain of free places can have.
+const STEPS: u32 = PLACES + 1;
 
 // One more at p; past the end, nothing.
 pub fn bump(tallies: &mut [u32], p: u32)
@@ -30,7 +34,7 @@ pub fn tally_children(tallies: &mut [u32], frames: &[u32])
     ensures { λ _. ⌜ now (tallies .exit) ≡ tallyChildren (now (frames .entry)) (now (tallies .entry)) ⌝ }
 {
     let mut c: u32 = 0;
-    while c < 64 {
+    while c < PLACES {
         bump(tallies, child_at(frame_or_zero(frames, c)));
         c += 1;
     }
@@ -39,9 +43,9 @@ pub fn tally_children(tallies: &mut [u32], frames: &[u32])
 // Counts the places of the free chain; whether all are places.
 pub fn tally_chain(tallies: &mut [u32], frames: &[u32], first: u32) -> bool
     requires { ⌜ length (now frames) ≡ frameWords ⌝ }
-    ensures { λ r. ⌜ (now (tallies .exit) ≡ tallyList (chain (now (frames .entry)) first) (now (tallies .entry))) × (r ≡ below 64 (chain (now (frames .entry)) first)) ⌝ }
+    ensures { λ r. ⌜ (now (tallies .exit) ≡ tallyList (chain (now (frames .entry)) first) (now (tallies .entry))) × (r ≡ below places (chain (now (frames .entry)) first)) ⌝ }
 {
-    let mut left: u32 = 65;
+    let mut left: u32 = STEPS;
     let mut p = first;
     let mut sound = true;
     while left > 0 {
@@ -49,7 +53,7 @@ pub fn tally_chain(tallies: &mut [u32], frames: &[u32], first: u32) -> bool
             return sound;
         }
         bump(tallies, p);
-        sound = sound & (p < 64);
+        sound = sound & (p < PLACES);
         p = frame_or_zero(frames, p).parent;
         left -= 1;
     }

@@ -24,11 +24,17 @@ pub const NONE: u32 = 4294967295;
 
 // The widths of specs/Widths.antt.
 pub const MAX_WORKERS: u32 = 8;
+
 pub const PLACES: u32 = 64;
+
 pub const RECORD_WORDS: usize = 6;
+
 pub const FRAME_WORDS: usize = PLACES as usize * RECORD_WORDS;
+
 pub const DEQUE_PLACES: u32 = 64;
+
 pub const DEQUE_STRIDE: usize = 1 + DEQUE_PLACES as usize;
+
 pub const DEQUE_WORDS: usize = MAX_WORKERS as usize * DEQUE_STRIDE;
 
 // A frame record. live and suspended are 0 or 1; parent is the parent's place, none for Main, and for a free place the

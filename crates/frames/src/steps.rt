@@ -5,6 +5,7 @@ ghost use mathlib.Core.List.{List};
 ghost use Prim.Native.Nat.{ℕ, _≤_, _<_};
 ghost use lib.ListN.{length};
 ghost use Rattle.frames.specs.Widths.{maxWorkers, places, frameWords, dequePlaces, dequeWords};
+ghost use Rattle.frames.specs.Frames.{frameAt};
 ghost use Rattle.frames.specs.Deques.{size};
 ghost use Rattle.frames.specs.Steps.{spawn, steal};
 ghost use Rattle.frames.specs.Promises.{table, IsReturn, IsParentAfter, IsSync};
@@ -46,18 +47,17 @@ pub fn spawn_frame(
     next.parent
 }
 
-// The parent at place q has a live child less; perhaps it resumes.
-fn return_to(deques: &mut [u32], frames: &mut [u32], w: u32, q: u32) -> Returned
-    requires { ⌜ (length (now deques) ≡ dequeWords) × (length (now frames) ≡ frameWords) × (w < maxWorkers) × (q < places) × (size (now deques) w < dequePlaces) ⌝ }
+// The parent, which is f at place q, has a live child less; perhaps it resumes.
+fn return_to(deques: &mut [u32], frames: &mut [u32], w: u32, q: u32, f: Frame) -> Returned
+    requires { ⌜ (length (now deques) ≡ dequeWords) × (length (now frames) ≡ frameWords) × (w < maxWorkers) × (q < places) × (size (now deques) w < dequePlaces) × (f ≡ frameAt (now frames) q) ⌝ }
     ensures { λ r. ⌜ IsParentAfter (now (deques .entry)) (now (frames .entry)) w q (now (deques .exit)) (now (frames .exit)) r ⌝ }
 {
-    let parent = frame_at(frames, q);
-    let left = words::sub(parent.outstanding, 1);
+    let left = words::sub(f.outstanding, 1);
     set_outstanding(frames, q, left);
     if size_at(deques, w) != 0 {
         return Returned::Continued;
     }
-    if parent.suspended != 1 {
+    if f.suspended != 1 {
         return Returned::Idle;
     }
     if left != 0 {
@@ -89,7 +89,8 @@ pub fn return_frame(
             outcome: Returned::Finished,
         };
     }
-    let outcome = return_to(deques, frames, w, q);
+    let parent = frame_at(frames, q);
+    let outcome = return_to(deques, frames, w, q, parent);
     Ended {
         free_place: p,
         outcome,

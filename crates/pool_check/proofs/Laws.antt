@@ -19,7 +19,7 @@ use Rattle.pool.specs.Pool.{refcount, left, right, value}
 use Rattle.soundness.specs.Soundness.{isFree}
 use Rattle.pool_check.specs.declared.PoolChecked.{PoolChecked}
 use Rattle.pool_check.specs.declared.PoolChecked.the-variants.{Bad, Good}
-use Rattle.pool_check.specs.Ways.{onLeft, visit-off, visit-again, visit-shapeless, visit-below, below-leaf, below-left, below-end, below-right, settle-off, settle-on, run-out, run-off, run-on}
+use Rattle.pool_check.specs.Theory.Ways.{onLeft, visit-off, visit-again, visit-shapeless, visit-below, below-leaf, below-left, below-end, below-right, settle-off, settle-on, run-out, run-off, run-on}
 use Rattle.pool_check.specs.Answer.{inBounds}
 use Rattle.pool_check.specs.Algorithm.{mark, links, counted, fresh, stamp, shaped, stamped, linked, visit, below, onward, Met, visitPlace, visitPlaces, nodeRight, unvisited, vacant, chainFrom, settle, runCheck}
 

@@ -22,11 +22,7 @@ pub mod Simulation
 -- ---- pools, soundness
 -- the two predicates on pools
 pub mod Pools
--- chains that the check follows
-pub mod FreeLists
--- the sentences of soundness as facts
-pub mod Facts
-pub mod Sentences
+-- the sentences on trees, of live pools
 pub mod PoolSentences
 -- from a sound state to a plain machine
 pub mod FromSoundNames
@@ -39,10 +35,12 @@ pub mod ToSoundDeques
 pub mod ToSoundFrames
 pub mod ToSound
 -- ---- runs
--- the lengths of a state's parts
+-- a state whose parts have their lengths; every entry leaves one
+pub mod Fitting
 pub mod Lengths
--- answer words
+-- answer words, of one record and of a tape
 pub mod Words
+pub mod TapeWords
 -- when a start is accepted
 pub mod Starts
 pub mod StartRelates

@@ -1,96 +1,291 @@
--- Two small sound states, and corruptions of a single word, computed.
+-- Document 01's "Soundness" on small states, computed: a few sound ones, and for each sentence changes of a sound one after which
+-- this sentence alone is false.
 use mathlib.Core.Path.{_≡_, refl}
-use mathlib.Core.Bool.{Bool, true, false, _||_}
-use mathlib.Core.List.{List, [], _∷_}
+use mathlib.Core.Bool.{cond}
+use mathlib.Core.List.{List, [], _∷_, map}
 use Prim.Native.Nat.{ℕ, _+_, _*_}
+use Prim.Native.String.{String}
 use lib.ListN.{getD, set, replicate}
-use Rattle.words.specs.Basics.{δ, count}
+use Rattle.words.specs.Basics.{none, δ, count}
 use Rattle.sizes.specs.Sizes.{height, width, treeNodes}
 use Rattle.pool.specs.Pool.{refcount, left, right, value, setNode, initLevel, initInner, initLeaves, initFree, initPool}
 use Rattle.frames.specs.Frames.{frameAt, setFrame, initPlaces, initFrames}
-use Rattle.frames.specs.Deques.{size, setSize, place, setPlace, bottom, top, push, shiftUp, dropTop, initDeques}
-use Rattle.frames.specs.Steps.{Table, spawn, steal}
-use Rattle.soundness.specs.declared.Numbers.{Numbers}
-use Rattle.soundness.specs.Soundness.{oneMain, parentsLive, countsRight, placedOnce, holdLive, absentEmpty, restZero, linked, onlyBelow, placesFree, framesSound}
-use Rattle.soundness.specs.Soundness.{treeAt, nodesAt, poolSound, numbersSound, rootsBelow, sound}
+use Rattle.frames.specs.Deques.{size, setSize, place, setPlace, bottom, top, push, pop, shiftUp, dropTop, initDeques}
+use Rattle.frames.specs.Steps.{Table, spawn, steal, sync}
+use Rattle.soundness.specs.Numbers.{numbersIn}
+use Rattle.soundness.specs.Soundness.{oneMain, parentsLive, countsRight, placedOnce, holdLive, absentEmpty, restZero, linked, onlyBelow, placesFree, treeAt, nodesAt, rootsBelow}
+use Rattle.soundness.specs.Soundness.{Sentence, words, holds, numberSentences, sentences}
 
--- the start with two splitters and five nodes
-numbers : Numbers
-numbers = record { workers = 2; splitters = 2; nodes = 5; «free_node» = 3; «free_place» = 1 }
+-- ---- sound states
 
-words : List ℕ
-words = initPool (replicate 20 7) 2 5 (10 ∷ 20 ∷ []) .0
+-- the five numbers (workers, splitters, nodes, first free node, first free place), the two tables and the lent pool
+record State : Type 0 where
+  numbers : List ℕ
+  deques : List ℕ
+  frames : List ℕ
+  pool : List ℕ
 
-deques : List ℕ
-deques = initDeques (replicate 520 0)
+-- two workers, two splitters, five nodes; the lent pool has a sixth
+with : ℕ → ℕ → Table → State
+with holders freeNode t =
+    record {
+      numbers = 2 ∷ 2 ∷ 5 ∷ freeNode ∷ t .«free_place» ∷ [];
+      deques = t .deques;
+      frames = t .frames;
+      pool = set (initPool (replicate 24 7) 2 5 (10 ∷ 20 ∷ []) .0) 0 holders;
+    }
 
-frames : List ℕ
-frames = initFrames (replicate 384 0)
+table : Table
+table = record { deques = initDeques (replicate 520 0); frames = initFrames (replicate 384 0); «free_place» = 1 }
 
--- ---- a larger one, and what another word in one place does to it
+-- Main alone, on worker 0's deque: the start. Node 0 is the root, 1 and 2 are its leaves, 3 and 4 are free
+start : State
+start = with 1 3 table
 
--- worker 0 has spawned twice, worker 1 has stolen: Main, in place 0, is on worker 1's deque, the frames 1 and 2 on worker 0's
-grown : Table
-grown = steal (spawn (spawn (record { deques = deques; frames = frames; «free_place» = 1 }) 0) 0) 1 0
+-- Main, on worker 1's deque, and its child 1, on worker 0's
+stolen : State
+stolen = with 2 3 (steal (spawn table 0) 1 0)
 
--- workers, splitters, nodes, first free node, first free place
-grownNumbers : List ℕ
-grownNumbers = 2 ∷ 2 ∷ 5 ∷ 3 ∷ 3 ∷ []
+-- Main, suspended, and its child 1, on worker 0's deque
+waiting : State
+waiting = with 2 3 (sync (steal (spawn table 0) 1 0) 1)
 
--- the three frames hold the root
-grownWords : List ℕ
-grownWords = set words 0 3
+-- Main, its child 1 and the child 2 of 1, on worker 0's deque
+stacked : State
+stacked = with 3 3 (spawn (spawn table 0) 0)
 
-soundWith : List ℕ → List ℕ → List ℕ → List ℕ → Bool
-soundWith ns ds fs ws =
-    sound (record { workers = getD ns 0 0; splitters = getD ns 1 0; nodes = getD ns 2 0; «free_node» = getD ns 3 0; «free_place» = getD ns 4 0 }) ds fs ws
+-- the same, with Main on worker 1's
+grown : State
+grown = with 3 3 (steal (spawn (spawn table 0) 0) 1 0)
 
--- one word of it is another: a number of the state, a deque's length, a place of a deque, a field of a frame record or of a node
-data Corruption : Type 0 where
-  number : ℕ → ℕ → Corruption
-  length : ℕ → ℕ → Corruption
-  inDeque : ℕ → ℕ → ℕ → Corruption
-  inFrame : ℕ → ℕ → ℕ → Corruption
-  inNode : ℕ → ℕ → ℕ → Corruption
+-- Main has returned: no frame, and n nodes free in a lent pool of n
+ended : ℕ → State
+ended n = record { numbers = 2 ∷ 2 ∷ n ∷ 0 ∷ 0 ∷ []; deques = replicate 520 0; frames = initPlaces 64 (replicate 384 0) 0; pool = initFree n (replicate (4 * n) 0) 0 }
 
-soundAfter : Corruption → Bool
-soundAfter (number i v) = soundWith (set grownNumbers i v) (grown .deques) (grown .frames) grownWords
-soundAfter (length w v) = soundWith grownNumbers (setSize (grown .deques) w v) (grown .frames) grownWords
-soundAfter (inDeque w k v) = soundWith grownNumbers (setPlace (grown .deques) w k v) (grown .frames) grownWords
-soundAfter (inFrame p f v) = soundWith grownNumbers (grown .deques) (set (grown .frames) (6 * p + f) v) grownWords
-soundAfter (inNode i f v) = soundWith grownNumbers (grown .deques) (grown .frames) (set grownWords (4 * i + f) v)
+-- three splitters: node 0, under it 1 and 2, the leaves 3, 4 under 1 and 5 under 2, which has no right half; 6 is free
+three : State
+three = record { numbers = 2 ∷ 3 ∷ 7 ∷ 6 ∷ 1 ∷ []; deques = table .deques; frames = table .frames; pool = initPool (replicate 28 7) 3 7 (10 ∷ 20 ∷ 30 ∷ []) .0 }
 
-someSound : List Corruption → Bool
-someSound [] = false
-someSound (c ∷ cs) = soundAfter c || someSound cs
+-- ---- changes
 
-corruptions : List Corruption
-corruptions =
-    number 0 0 ∷  -- "Workers are 1 to 8"
-    number 0 1 ∷  -- "a worker that does not exist has an empty one": Main is on worker 1's
-    number 1 0 ∷  -- "n is 1 to 256"
-    number 2 2 ∷  -- "The recorded node count is T(n) to 16,384": T(2) is 3
-    number 2 6 ∷  -- "at most what the lent pool holds": 5 nodes
-    inFrame 0 2 1 ∷  -- "just one live frame has depth 0": none
-    inFrame 0 1 3 ∷  -- "with parent none"
-    inFrame 2 2 3 ∷  -- "Every other live frame has a live parent one shallower"
-    inFrame 0 3 0 ∷  -- "Outstanding counts are right": Main's child is on another deque
-    inFrame 2 4 1 ∷  -- "in just one place of one deque and not suspended"
-    inDeque 1 0 1 ∷  -- the same: frame 1 in two places, Main in none
-    inDeque 0 1 3 ∷  -- "Deques hold live frames only"
-    inDeque 0 2 1 ∷  -- "deque places past a deque's frames are zero"
-    length 0 65 ∷  -- the same: a deque has 64 places
-    inFrame 2 1 0 ∷  -- "Each frame in a deque is a child of the one above it"
-    inFrame 5 5 1 ∷  -- "all but the link to the next being zero"
-    number 4 4 ∷  -- "Free frame places lie once on theirs": place 3 does not
-    inNode 0 3 5 ∷  -- "a tree of the shape above": "Inner nodes have value 0"
-    inNode 1 1 0 ∷  -- the same: "leaves have no links"
-    inNode 0 0 2 ∷  -- "nodes reached have right holders": three frames hold the root
-    inNode 4 3 1 ∷  -- "all others are free": "A free node holds 0, the next free node or none, 0, 0"
-    number 3 4 ∷  -- "and lie once on the free chain": node 3 does not
+-- another word in one place: one of the numbers; worker w's deque's length, or its place k; a word of the frame record at place p;
+-- a word of node i
+data Change : Type 0 where
+  workers : ℕ → Change
+  splitters : ℕ → Change
+  nodes : ℕ → Change
+  freeNode : ℕ → Change
+  freePlace : ℕ → Change
+  inDeque : ℕ → ℕ → Change
+  atPlace : ℕ → ℕ → ℕ → Change
+  live : ℕ → ℕ → Change
+  parent : ℕ → ℕ → Change
+  depth : ℕ → ℕ → Change
+  outstanding : ℕ → ℕ → Change
+  suspended : ℕ → ℕ → Change
+  root : ℕ → ℕ → Change
+  node : ℕ → List ℕ → Change
+  nodeHolders : ℕ → ℕ → Change
+  nodeLeft : ℕ → ℕ → Change
+  nodeRight : ℕ → ℕ → Change
+  nodeValue : ℕ → ℕ → Change
+
+setNumber : State → ℕ → ℕ → State
+setNumber s i v = record { numbers = set (s .numbers) i v; deques = s .deques; frames = s .frames; pool = s .pool }
+
+setDeques : State → List ℕ → State
+setDeques s ds = record { numbers = s .numbers; deques = ds; frames = s .frames; pool = s .pool }
+
+setField : State → ℕ → ℕ → ℕ → State
+setField s p f v = record { numbers = s .numbers; deques = s .deques; frames = set (s .frames) (6 * p + f) v; pool = s .pool }
+
+setPool : State → List ℕ → State
+setPool s ws = record { numbers = s .numbers; deques = s .deques; frames = s .frames; pool = ws }
+
+changed : State → Change → State
+changed s (workers v) = setNumber s 0 v
+changed s (splitters v) = setNumber s 1 v
+changed s (nodes v) = setNumber s 2 v
+changed s (freeNode v) = setNumber s 3 v
+changed s (freePlace v) = setNumber s 4 v
+changed s (inDeque w v) = setDeques s (setSize (s .deques) w v)
+changed s (atPlace w k v) = setDeques s (setPlace (s .deques) w k v)
+changed s (live p v) = setField s p 0 v
+changed s (parent p v) = setField s p 1 v
+changed s (depth p v) = setField s p 2 v
+changed s (outstanding p v) = setField s p 3 v
+changed s (suspended p v) = setField s p 4 v
+changed s (root p v) = setField s p 5 v
+changed s (node i vs) = setPool s (setNode (s .pool) i (getD vs 0 0) (getD vs 1 0) (getD vs 2 0) (getD vs 3 0))
+changed s (nodeHolders i v) = setPool s (set (s .pool) (4 * i) v)
+changed s (nodeLeft i v) = setPool s (set (s .pool) (4 * i + 1) v)
+changed s (nodeRight i v) = setPool s (set (s .pool) (4 * i + 2) v)
+changed s (nodeValue i v) = setPool s (set (s .pool) (4 * i + 3) v)
+
+infixl 90 _but_
+_but_ : State → List Change → State
+s but [] = s
+s but (c ∷ cs) = changed s c but cs
+
+-- ---- one sentence alone is false
+
+record Row : Type 0 where
+  sentence : String
+  states : List State
+
+infixl 80 _alone_
+_alone_ : String → List State → Row
+t alone ss = record { sentence = t; states = ss }
+
+numberRows : List Row
+numberRows =
+    ("Workers are 1 .." alone (ended 5 but (workers 0 ∷ []) ∷ [])) ∷
+    (".. to 8" alone (start but (workers 9 ∷ []) ∷ [])) ∷
+    ("n is 1 .." alone (ended 5 but (splitters 0 ∷ []) ∷ [])) ∷
+    -- T(2) is 3
+    ("The recorded node count is T(n) .." alone (ended 2 ∷ [])) ∷
+    -- the words past the pool read as zeros: node 5 as a free one before node 0
+    ("and at most what the lent pool holds." alone (ended 5 but (nodes 6 ∷ freeNode 5 ∷ []) ∷ [])) ∷
     []
 
--- the start is sound, the larger state is sound, and no corruption of it is
-computed : (sound numbers deques frames words ≡ true) × (soundWith grownNumbers (grown .deques) (grown .frames) grownWords ≡ true) × (someSound corruptions ≡ false)
-unfolding numbers grown grownNumbers grownWords soundWith soundAfter someSound corruptions bottom top shiftUp dropTop spawn steal words deques frames initPool initFree initLeaves initInner initLevel setNode height width treeNodes initDeques push setSize setPlace size place initFrames initPlaces setFrame frameAt sound numbersSound rootsBelow framesSound oneMain parentsLive countsRight placedOnce holdLive absentEmpty restZero linked onlyBelow placesFree poolSound treeAt nodesAt refcount left right value δ count
-computed = (refl, refl, refl)
+frameRows : List Row
+frameRows =
+    ("Either no frame lives and all deques are empty, or just one live frame has depth 0, with parent none." alone (
+    -- two Mains
+    start but (live 1 1 ∷ parent 1 none ∷ freePlace 2 ∷ inDeque 1 1 ∷ atPlace 1 0 1 ∷ nodeHolders 0 2 ∷ []) ∷
+    -- Main has a parent
+    start but (parent 0 5 ∷ []) ∷
+    [])) ∷
+    -- not alone: no frame lives and a deque has one (it holds a dead one); frames live and all deques are empty (the deepest has no
+    -- child to wait for); frames live and none has depth 0 (the shallowest has no parent)
+    ("Every other live frame has a live parent one shallower." alone (
+    -- the parent is dead
+    stolen but (parent 1 5 ∷ outstanding 0 0 ∷ []) ∷
+    -- the parent is past the table, which reads as a dead one: its range alone cannot be wrong
+    stolen but (parent 1 64 ∷ outstanding 0 0 ∷ []) ∷
+    -- not one shallower
+    stolen but (depth 1 2 ∷ []) ∷
+    [])) ∷
+    ("Outstanding counts are right." alone (stolen but (outstanding 0 0 ∷ []) ∷ stolen but (outstanding 0 2 ∷ []) ∷ stolen but (outstanding 1 1 ∷ []) ∷ [])) ∷
+    ("Each live frame is either in just one place of one deque and not suspended, or in none and suspended with a live child." alone (
+    -- in two places (place 0 of worker 1's deque is 0 already: Main)
+    start but (inDeque 1 1 ∷ []) ∷
+    -- in a deque and suspended
+    stolen but (suspended 0 1 ∷ []) ∷
+    -- in none and not suspended
+    waiting but (suspended 0 0 ∷ []) ∷
+    -- the word is not 0 or 1
+    waiting but (suspended 0 2 ∷ []) ∷
+    stolen but (suspended 0 2 ∷ []) ∷
+    -- suspended without a child
+    start but (inDeque 0 0 ∷ suspended 0 1 ∷ []) ∷
+    [])) ∷
+    ("Deques hold live frames only;" alone (
+    start but (inDeque 1 1 ∷ atPlace 1 0 5 ∷ []) ∷
+    -- past the table, which reads as a dead frame: the range alone cannot be wrong
+    start but (inDeque 1 1 ∷ atPlace 1 0 64 ∷ []) ∷
+    [])) ∷
+    ("a worker that does not exist has an empty one;" alone (stolen but (workers 1 ∷ []) ∷ [])) ∷
+    ("deque places past a deque's frames are zero." alone (start but (atPlace 0 1 7 ∷ []) ∷ start but (atPlace 7 63 1 ∷ []) ∷ [])) ∷
+    -- not alone: a length over 64, since 65 places of live frames hold one frame twice (placedOnce)
+    ("Each frame in a deque is a child of the one above it." alone (
+    -- 1 and 2 on one deque, both children of Main
+    grown but (parent 2 0 ∷ depth 2 1 ∷ outstanding 1 0 ∷ outstanding 0 2 ∷ []) ∷
+    [])) ∷
+    ("A frame that is not a top has only the child below it, if any." alone (
+    -- a middle frame has a second child, on another deque
+    stacked but (live 3 1 ∷ parent 3 1 ∷ depth 3 2 ∷ outstanding 1 2 ∷ freePlace 4 ∷ inDeque 1 1 ∷ atPlace 1 0 3 ∷ nodeHolders 0 4 ∷ []) ∷
+    -- a bottom frame has one; it is in place 0, the word past the deque's frames
+    grown but (parent 1 none ∷ depth 1 0 ∷ depth 2 1 ∷ outstanding 2 1 ∷ parent 0 2 ∷ depth 0 2 ∷ outstanding 0 0 ∷ []) ∷
+    [])) ∷
+    ("Free frame places lie once on theirs, all but the link to the next being zero." alone (
+    -- live is not 0 or 1
+    start but (live 5 2 ∷ []) ∷
+    start but (depth 5 1 ∷ []) ∷
+    start but (outstanding 5 1 ∷ []) ∷
+    start but (suspended 5 1 ∷ []) ∷
+    start but (root 5 1 ∷ []) ∷
+    -- not on the chain
+    start but (freePlace 2 ∷ []) ∷
+    -- twice
+    start but (parent 63 1 ∷ []) ∷
+    -- into a live place
+    start but (parent 63 0 ∷ []) ∷
+    -- out of the table and back, as the words past it read as zeros
+    ended 5 but (freePlace 1 ∷ parent 63 64 ∷ parent 0 none ∷ []) ∷
+    [])) ∷
+    []
+
+poolRows : List Row
+poolRows =
+    ("Walking from each live frame gives a tree of the shape above, in which a node may stand in several places;" alone (
+    -- a leaf, a root past the nodes; the lent pool has a sixth
+    start but (nodeLeft 0 5 ∷ node 5 (1 ∷ none ∷ none ∷ 10 ∷ []) ∷ node 1 (0 ∷ 3 ∷ 0 ∷ 0 ∷ []) ∷ freeNode 1 ∷ []) ∷
+    start but (root 0 5 ∷ node 5 (1 ∷ 1 ∷ 2 ∷ 0 ∷ []) ∷ node 0 (0 ∷ 3 ∷ 0 ∷ 0 ∷ []) ∷ freeNode 0 ∷ nodeHolders 1 0 ∷ nodeHolders 2 0 ∷ []) ∷
+    -- "Inner nodes have value 0"
+    start but (nodeValue 0 5 ∷ []) ∷
+    -- "leaves have no links"
+    start but (nodeLeft 1 5 ∷ []) ∷
+    start but (nodeRight 1 5 ∷ []) ∷
+    -- a right link where the group has no right half
+    three but (nodeRight 2 5 ∷ nodeHolders 5 2 ∷ []) ∷
+    -- none where it has one
+    start but (nodeRight 0 none ∷ node 2 (0 ∷ 3 ∷ 0 ∷ 0 ∷ []) ∷ freeNode 2 ∷ []) ∷
+    [])) ∷
+    ("(the free chain is one of nodes)" alone (start but (nodeLeft 4 5 ∷ nodeLeft 5 none ∷ []) ∷ [])) ∷
+    ("nodes reached have right holders; all others are free and lie once on the free chain." alone (
+    -- holders, one more and one less
+    start but (nodeHolders 0 2 ∷ []) ∷
+    start but (nodeHolders 0 0 ∷ []) ∷
+    -- "A free node holds 0, the next free node or none, 0, 0."
+    start but (nodeHolders 3 1 ∷ []) ∷
+    start but (nodeRight 3 1 ∷ []) ∷
+    start but (nodeValue 3 1 ∷ []) ∷
+    -- not on the chain
+    start but (freeNode 4 ∷ []) ∷
+    -- twice
+    start but (nodeLeft 4 3 ∷ []) ∷
+    -- into a node in use
+    start but (nodeLeft 4 1 ∷ []) ∷
+    [])) ∷
+    -- not alone: a node reached that holds 0 and lies on the chain (so does its left link then, down to a leaf, whose right is none)
+    []
+
+-- the sentences that are false
+failing : List Sentence → List String
+failing [] = []
+failing (s ∷ ss) = cond (holds s) (failing ss) (words s ∷ failing ss)
+
+failingIn : State → List String
+failingIn s = failing (sentences (numbersIn (s .numbers)) (s .deques) (s .frames) (s .pool))
+
+found : Row → List (List String)
+found r = map failingIn (r .states)
+
+said : Row → List (List String)
+said r = map (λ s. r .sentence ∷ []) (r .states)
+
+computed : map failingIn (start ∷ stolen ∷ waiting ∷ stacked ∷ grown ∷ ended 5 ∷ three ∷ []) ≡ map (λ s. []) (start ∷ stolen ∷ waiting ∷ stacked ∷ grown ∷ ended 5 ∷ three ∷ [])
+unfolding table start stolen waiting stacked grown ended three with setNumber setDeques setField setPool changed _but_ _alone_ failing failingIn found said bottom top pop shiftUp dropTop spawn steal sync initPool initFree initLeaves initInner initLevel setNode height width treeNodes initDeques push setSize setPlace size place initFrames initPlaces setFrame frameAt rootsBelow oneMain parentsLive countsRight placedOnce holdLive absentEmpty restZero linked onlyBelow placesFree treeAt nodesAt refcount left right value δ count
+computed = refl
+
+numbers-computed : map found numberRows ≡ map said numberRows
+unfolding table start stolen waiting stacked grown ended three with setNumber setDeques setField setPool changed _but_ _alone_ numberRows failing failingIn found said bottom top pop shiftUp dropTop spawn steal sync initPool initFree initLeaves initInner initLevel setNode height width treeNodes initDeques push setSize setPlace size place initFrames initPlaces setFrame frameAt rootsBelow oneMain parentsLive countsRight placedOnce holdLive absentEmpty restZero linked onlyBelow placesFree treeAt nodesAt refcount left right value δ count
+numbers-computed = refl
+
+frames-computed : map found frameRows ≡ map said frameRows
+unfolding table start stolen waiting stacked grown ended three with setNumber setDeques setField setPool changed _but_ _alone_ frameRows failing failingIn found said bottom top pop shiftUp dropTop spawn steal sync initPool initFree initLeaves initInner initLevel setNode height width treeNodes initDeques push setSize setPlace size place initFrames initPlaces setFrame frameAt rootsBelow oneMain parentsLive countsRight placedOnce holdLive absentEmpty restZero linked onlyBelow placesFree treeAt nodesAt refcount left right value δ count
+frames-computed = refl
+
+pools-computed : map found poolRows ≡ map said poolRows
+unfolding table start stolen waiting stacked grown ended three with setNumber setDeques setField setPool changed _but_ _alone_ poolRows failing failingIn found said bottom top pop shiftUp dropTop spawn steal sync initPool initFree initLeaves initInner initLevel setNode height width treeNodes initDeques push setSize setPlace size place initFrames initPlaces setFrame frameAt rootsBelow oneMain parentsLive countsRight placedOnce holdLive absentEmpty restZero linked onlyBelow placesFree treeAt nodesAt refcount left right value δ count
+pools-computed = refl
+
+-- the two that need many nodes, 521 (which is T(257)) and 16,385: of the numbers' sentences this one alone is false; the sentences
+-- on trees are not computed
+few : List ℕ → ℕ → List String
+few ks N = failing (numberSentences (numbersIn ks) (replicate (4 * N) 0))
+
+many-computed : (few (2 ∷ 257 ∷ 521 ∷ 0 ∷ 0 ∷ []) 521 ≡ ".. to 256." ∷ []) × (few (2 ∷ 2 ∷ 16385 ∷ 0 ∷ 0 ∷ []) 16385 ≡ ".. to 16,384" ∷ [])
+unfolding few failing height width treeNodes
+many-computed = (refl, refl)

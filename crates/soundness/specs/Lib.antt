@@ -1,4 +1,5 @@
--- Numbers and Soundness have the definitions; Example computes them on a small state.
+-- Numbers and Soundness have the definitions; Example computes them on small states; Theory takes soundness apart.
 pub mod Numbers
 pub mod Soundness
 pub mod Example
+pub mod Theory

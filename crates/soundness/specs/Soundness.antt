@@ -4,26 +4,52 @@
 use mathlib.Core.Bool.{Bool, true, false, cond, not, _||_, _&&_}
 use mathlib.Core.List.{List, [], _∷_, _++_}
 use Prim.Native.Nat.{ℕ, zero, suc, _+_, _-_, _*_, _^_}
+use Prim.Native.String.{String}
 use lib.ListN.{length, replicate, drop}
 use lib.Dec.{eqb, leb, ltb}
 use Rattle.words.specs.Basics.{none, sum, all, howMany, implies, δ, count, follow, below}
 use Rattle.sizes.specs.Sizes.{height, treeNodes}
 use Rattle.pool.specs.Pool.{refcount, left, right, value, nextFree}
+use Rattle.frames.specs.Widths.{maxWorkers, places, dequePlaces}
 use Rattle.frames.specs.Frames.{frameAt}
 use Rattle.frames.specs.Deques.{size, place}
 use Rattle.soundness.specs.declared.Numbers.{Numbers}
 use Rattle.soundness.specs.declared.Checked.{Checked}
 use Rattle.soundness.specs.declared.Checked.the-variants.{NoRoom, Unsound, Sound}
 
+-- ---- sentences
+
+-- what the document says, and the test of it
+pub data Sentence : Type 0 where
+  says : String → Bool → Sentence
+
+abbrev pub words : Sentence → String
+words (says t b) = t
+
+abbrev pub holds : Sentence → Bool
+holds (says t b) = b
+
+-- every one holds
+abbrev pub allOf : List Sentence → Bool
+allOf [] = true
+allOf (t ∷ []) = holds t
+allOf (t ∷ u ∷ us) = holds t && allOf (u ∷ us)
+
 -- ---- numbers
 
--- "Workers are 1 to 8, n is 1 to 256. The recorded node count is T(n) to 16,384 and at most what the lent pool holds."
+abbrev pub numberSentences : Numbers → List ℕ → List Sentence
+numberSentences s ws =
+    says "Workers are 1 .." (leb 1 (s .workers)) ∷
+    says ".. to 8" (leb (s .workers) maxWorkers) ∷
+    says "n is 1 .." (leb 1 (s .splitters)) ∷
+    says ".. to 256." (leb (s .splitters) 256) ∷
+    says "The recorded node count is T(n) .." (leb (treeNodes (s .splitters)) (s .nodes)) ∷
+    says ".. to 16,384" (leb (s .nodes) 16384) ∷
+    says "and at most what the lent pool holds." (leb (4 * s .nodes) (length ws)) ∷
+    []
+
 unfoldable pub numbersSound : Numbers → List ℕ → Bool
-numbersSound s ws =
-    leb 1 (s .workers) &&
-    (leb (s .workers) 8 &&
-    (leb 1 (s .splitters) &&
-    (leb (s .splitters) 256 && (leb (treeNodes (s .splitters)) (s .nodes) && (leb (s .nodes) 16384 && leb (4 * s .nodes) (length ws))))))
+numbersSound s ws = allOf (numberSentences s ws)
 
 -- ---- frames and deques: terms
 
@@ -35,62 +61,62 @@ abbrev pub isChild : List ℕ → ℕ → ℕ → Bool
 isChild fs p c = lives fs c && eqb (frameAt fs c .parent) p
 
 abbrev pub children : List ℕ → ℕ → ℕ
-children fs p = howMany 64 (isChild fs p)
+children fs p = howMany places (isChild fs p)
 
 -- in how many places of deques the frame at p stands
 abbrev pub inDeques : List ℕ → ℕ → ℕ
-inDeques ds p = sum 8 (λ w. howMany (size ds w) (λ k. eqb (place ds w k) p))
+inDeques ds p = sum maxWorkers (λ w. howMany (size ds w) (λ k. eqb (place ds w k) p))
 
 -- ---- frames and deques: the sentences
 
 -- "Either no frame lives and all deques are empty, or just one live frame has depth 0, with parent none."
 unfoldable pub oneMain : List ℕ → List ℕ → Bool
 oneMain ds fs =
-    (all 64 (λ p. not (lives fs p)) && all 8 (λ w. eqb (size ds w) 0)) ||
-    (eqb (howMany 64 (λ p. lives fs p && eqb (frameAt fs p .depth) 0)) 1 &&
-    all 64 (λ p. implies (lives fs p && eqb (frameAt fs p .depth) 0) (eqb (frameAt fs p .parent) none)))
+    (all places (λ p. not (lives fs p)) && all maxWorkers (λ w. eqb (size ds w) 0)) ||
+    (eqb (howMany places (λ p. lives fs p && eqb (frameAt fs p .depth) 0)) 1 &&
+    all places (λ p. implies (lives fs p && eqb (frameAt fs p .depth) 0) (eqb (frameAt fs p .parent) none)))
 
 -- "Every other live frame has a live parent one shallower."
 unfoldable pub parentsLive : List ℕ → Bool
 parentsLive fs =
-    all 64 (λ p. implies (lives fs p && not (eqb (frameAt fs p .depth) 0))
-    (ltb (frameAt fs p .parent) 64 && (lives fs (frameAt fs p .parent) && eqb (frameAt fs p .depth) (suc (frameAt fs (frameAt fs p .parent) .depth)))))
+    all places (λ p. implies (lives fs p && not (eqb (frameAt fs p .depth) 0))
+    (ltb (frameAt fs p .parent) places && (lives fs (frameAt fs p .parent) && eqb (frameAt fs p .depth) (suc (frameAt fs (frameAt fs p .parent) .depth)))))
 
 -- "Outstanding counts are right."
 unfoldable pub countsRight : List ℕ → Bool
-countsRight fs = all 64 (λ p. implies (lives fs p) (eqb (frameAt fs p .outstanding) (children fs p)))
+countsRight fs = all places (λ p. implies (lives fs p) (eqb (frameAt fs p .outstanding) (children fs p)))
 
 -- "Each live frame is either in just one place of one deque and not suspended, or in none and suspended with a live child."
 unfoldable pub placedOnce : List ℕ → List ℕ → Bool
 placedOnce ds fs =
-    all 64 (λ p. implies (lives fs p)
+    all places (λ p. implies (lives fs p)
     ((eqb (inDeques ds p) 1 && eqb (frameAt fs p .suspended) 0) ||
     (eqb (inDeques ds p) 0 && (eqb (frameAt fs p .suspended) 1 && ltb 0 (children fs p)))))
 
 -- "Deques hold live frames only"
 unfoldable pub holdLive : List ℕ → List ℕ → Bool
-holdLive ds fs = all 8 (λ w. all (size ds w) (λ k. ltb (place ds w k) 64 && lives fs (place ds w k)))
+holdLive ds fs = all maxWorkers (λ w. all (size ds w) (λ k. ltb (place ds w k) places && lives fs (place ds w k)))
 
 -- "a worker that does not exist has an empty one"
 unfoldable pub absentEmpty : ℕ → List ℕ → Bool
-absentEmpty workers ds = all 8 (λ w. ltb w workers || eqb (size ds w) 0)
+absentEmpty workers ds = all maxWorkers (λ w. ltb w workers || eqb (size ds w) 0)
 
 -- "deque places past a deque's frames are zero"; a deque has 64 places
 unfoldable pub restZero : List ℕ → Bool
-restZero ds = all 8 (λ w. leb (size ds w) 64 && all 64 (λ k. ltb k (size ds w) || eqb (place ds w k) 0))
+restZero ds = all maxWorkers (λ w. leb (size ds w) dequePlaces && all dequePlaces (λ k. ltb k (size ds w) || eqb (place ds w k) 0))
 
 -- "Each frame in a deque is a child of the one above it."
 unfoldable pub linked : List ℕ → List ℕ → Bool
-linked ds fs = all 8 (λ w. all (size ds w - 1) (λ k. eqb (frameAt fs (place ds w (suc k)) .parent) (place ds w k)))
+linked ds fs = all maxWorkers (λ w. all (size ds w - 1) (λ k. eqb (frameAt fs (place ds w (suc k)) .parent) (place ds w k)))
 
 -- "A frame that is not a top has only the child below it, if any."
 unfoldable pub onlyBelow : List ℕ → List ℕ → Bool
 onlyBelow ds fs =
-    all 8 (λ w. all (size ds w - 1) (λ k. all 64 (λ c. implies (isChild fs (place ds w (suc k)) c) (ltb (suc (suc k)) (size ds w) && eqb c (place ds w (suc (suc k)))))))
+    all maxWorkers (λ w. all (size ds w - 1) (λ k. all places (λ c. implies (isChild fs (place ds w (suc k)) c) (ltb (suc (suc k)) (size ds w) && eqb c (place ds w (suc (suc k)))))))
 
--- "Free frame places lie once on theirs, all but the link to the next being zero." 65 steps along the chain pass its end
+-- "Free frame places lie once on theirs, all but the link to the next being zero." one step more than places passes its end
 abbrev pub freePlaces : List ℕ → ℕ → List ℕ
-freePlaces fs first = follow 65 (λ p. frameAt fs p .parent) first
+freePlaces fs first = follow (suc places) (λ p. frameAt fs p .parent) first
 
 abbrev pub placeFree : List ℕ → ℕ → Bool
 placeFree fs p =
@@ -98,22 +124,26 @@ placeFree fs p =
 
 unfoldable pub placesFree : List ℕ → ℕ → Bool
 placesFree fs first =
-    below 64 (freePlaces fs first) &&
-    all 64 (λ p. (lives fs p && eqb (count p (freePlaces fs first)) 0) || (placeFree fs p && eqb (count p (freePlaces fs first)) 1))
+    below places (freePlaces fs first) &&
+    all places (λ p. (lives fs p && eqb (count p (freePlaces fs first)) 0) || (placeFree fs p && eqb (count p (freePlaces fs first)) 1))
 
 -- frames and deques, all of it; `first` is the first free place
+abbrev pub frameSentences : ℕ → ℕ → List ℕ → List ℕ → List Sentence
+frameSentences workers first ds fs =
+    says "Either no frame lives and all deques are empty, or just one live frame has depth 0, with parent none." (oneMain ds fs) ∷
+    says "Every other live frame has a live parent one shallower." (parentsLive fs) ∷
+    says "Outstanding counts are right." (countsRight fs) ∷
+    says "Each live frame is either in just one place of one deque and not suspended, or in none and suspended with a live child." (placedOnce ds fs) ∷
+    says "Deques hold live frames only;" (holdLive ds fs) ∷
+    says "a worker that does not exist has an empty one;" (absentEmpty workers ds) ∷
+    says "deque places past a deque's frames are zero." (restZero ds) ∷
+    says "Each frame in a deque is a child of the one above it." (linked ds fs) ∷
+    says "A frame that is not a top has only the child below it, if any." (onlyBelow ds fs) ∷
+    says "Free frame places lie once on theirs, all but the link to the next being zero." (placesFree fs first) ∷
+    []
+
 unfoldable pub framesSound : ℕ → ℕ → List ℕ → List ℕ → Bool
-framesSound workers first ds fs =
-    oneMain ds fs &&
-    (parentsLive fs &&
-    (countsRight fs &&
-    (placedOnce ds fs &&
-    (holdLive ds fs &&
-    (absentEmpty workers ds &&
-    (restZero ds &&
-    (linked ds fs &&
-    (onlyBelow ds fs &&
-    placesFree fs first))))))))
+framesSound workers first ds fs = allOf (frameSentences workers first ds fs)
 
 -- ---- trees: n splitters, N recorded nodes, the first free node `first`, and the roots rs of the live frames
 
@@ -161,12 +191,20 @@ isFree ws i = eqb (refcount ws i) 0 && (eqb (right ws i) 0 && eqb (value ws i) 0
 abbrev pub freeNodes : ℕ → List ℕ → ℕ → List ℕ
 freeNodes N ws first = follow (suc N) (nextFree ws) first
 
+abbrev pub nodeSound : ℕ → ℕ → List ℕ → ℕ → List ℕ → ℕ → Bool
+nodeSound n N ws first rs i =
+    (isReached n ws rs i && (eqb (refcount ws i) (holders n N ws rs i) && eqb (count i (freeNodes N ws first)) 0)) ||
+    (eqb (count i (reached n ws rs)) 0 && (isFree ws i && eqb (count i (freeNodes N ws first)) 1))
+
+abbrev pub poolSentences : ℕ → ℕ → List ℕ → ℕ → List ℕ → List Sentence
+poolSentences n N ws first rs =
+    says "Walking from each live frame gives a tree of the shape above, in which a node may stand in several places;" (treesAt n N ws rs) ∷
+    says "(the free chain is one of nodes)" (below N (freeNodes N ws first)) ∷
+    says "nodes reached have right holders; all others are free and lie once on the free chain." (all N (nodeSound n N ws first rs)) ∷
+    []
+
 unfoldable pub poolSound : ℕ → ℕ → List ℕ → ℕ → List ℕ → Bool
-poolSound n N ws first rs =
-    treesAt n N ws rs &&
-    (below N (freeNodes N ws first) &&
-    all N (λ i. (isReached n ws rs i && (eqb (refcount ws i) (holders n N ws rs i) && eqb (count i (freeNodes N ws first)) 0)) ||
-    (eqb (count i (reached n ws rs)) 0 && (isFree ws i && eqb (count i (freeNodes N ws first)) 1))))
+poolSound n N ws first rs = allOf (poolSentences n N ws first rs)
 
 -- ---- the whole
 
@@ -176,12 +214,24 @@ rootsBelow fs zero = []
 rootsBelow fs (suc c) = rootsBelow fs c ++ cond (lives fs c) (frameAt fs c .root ∷ []) []
 
 abbrev pub liveRoots : List ℕ → List ℕ
-liveRoots fs = rootsBelow fs 64
+liveRoots fs = rootsBelow fs places
 
--- "State and pool are sound if all of this is true."
+abbrev pub sentences : Numbers → List ℕ → List ℕ → List ℕ → List Sentence
+sentences s ds fs ws =
+    numberSentences s ws ++
+    (frameSentences (s .workers) (s .«free_place») ds fs ++
+    poolSentences (s .splitters) (s .nodes) ws (s .«free_node») (liveRoots fs))
+
+abbrev pub soundParts : Numbers → List ℕ → List ℕ → List ℕ → List Sentence
+soundParts s ds fs ws =
+    says "numbers" (numbersSound s ws) ∷
+    says "frames and deques" (framesSound (s .workers) (s .«free_place») ds fs) ∷
+    says "trees" (poolSound (s .splitters) (s .nodes) ws (s .«free_node») (liveRoots fs)) ∷
+    []
+
+-- "State and pool are sound if all of this is true.": the three parts, which are all the sentences (Theory.Sentences.sound-is-all)
 unfoldable pub sound : Numbers → List ℕ → List ℕ → List ℕ → Bool
-sound s ds fs ws =
-    numbersSound s ws && (framesSound (s .workers) (s .«free_place») ds fs && poolSound (s .splitters) (s .nodes) ws (s .«free_node») (liveRoots fs))
+sound s ds fs ws = allOf (soundParts s ds fs ws)
 
 -- the free nodes, counted on the chain
 abbrev pub freeCount : Numbers → List ℕ → ℕ

@@ -73,3 +73,8 @@ follow (suc c) next a = elim (eqb a none) [ true ↦ [] | false ↦ a ∷ follow
 abbrev pub below : ℕ → List ℕ → Bool
 below N [] = true
 below N (x ∷ xs) = ltb x N && below N xs
+
+-- the numbers a, a + 1, .., a + c - 1
+unfoldable pub range : ℕ → ℕ → List ℕ
+range zero a = []
+range (suc c) a = a ∷ range c (suc a)

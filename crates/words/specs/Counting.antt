@@ -11,7 +11,7 @@ use borrow.Author.Tests.{eq-eqb, ne-eqb}
 use mathlib.Core.Bool.{Bool, true, false, cond}
 use Rattle.words.specs.Tests.{decided, both}
 use Rattle.words.specs.Basics.{sum, howMany, all}
-unfoldable pub use Rattle.words.specs.Basics.{δ, count}
+unfoldable pub use Rattle.words.specs.Basics.{δ, count, range}
 
 pub δ-same : (i : ℕ) → δ i i ≡ 1
 unfolding δ
@@ -148,10 +148,6 @@ unfoldable pub Once : List ℕ → Type 0
 Once xs = (i : ℕ) → count i xs ≤ 1
 
 -- ---- the numbers a, a + 1, .., a + c - 1
-
-unfoldable pub range : ℕ → ℕ → List ℕ
-range zero a = []
-range (suc c) a = a ∷ range c (suc a)
 
 pub count-range-out : (c a i : ℕ) → (i < a) ⊎ (a + c ≤ i) → count i (range c a) ≡ 0
 unfolding range

@@ -73,8 +73,9 @@ pub enum Refusal {
     NoSplitter,
     /// A write while fewer than H + 1 nodes are free.
     PoolFull,
-    /// Fewer than 909 words in the state slice.
-    ShortState,
+    /// A part of the state has another length than it must have. No [`State`](crate::State) has such
+    /// a part.
+    BadState,
     /// An answer that this binding does not know, with its first word: the archive is of another version.
     Unknown(u32),
 }
@@ -100,7 +101,7 @@ const REFUSALS: [(Refusal, u32, &str); 17] = [
     (Refusal::ChildLives, 14, "the frame has a live child"),
     (Refusal::NoSplitter, 15, "no such splitter"),
     (Refusal::PoolFull, 16, "too few free nodes"),
-    (Refusal::ShortState, 99, "the state slice is too short"),
+    (Refusal::BadState, 99, "a part of the state has another length than it must have"),
 ];
 
 impl Refusal {

@@ -1,14 +1,14 @@
 //! Safe binding of libsplitter.a: splitters over stolen work. `host/include/splitter.h` describes
 //! the library.
 //!
-//! The host lends all memory: a state of [`STATE_WORDS`] words, a pool of [`NODE_WORDS`] words for
-//! each node, and a work slice of a word for each node. The library checks every call, so whatever
+//! The host lends all memory: a [`State`], a pool of [`NODE_WORDS`] words for each node, and a work
+//! slice of a word for each node. The library checks every call, so whatever
 //! the lent words hold, a call is safe; one that it cannot use is refused.
 //!
 //! ```
-//! use splitter::{Engine, Returned, Synced, NODE_WORDS, STATE_WORDS};
+//! use splitter::{Engine, Returned, State, Synced, NODE_WORDS};
 //!
-//! let (mut state, mut pool, mut work) = ([0; STATE_WORDS], [0; 20 * NODE_WORDS], [0; 20]);
+//! let (mut state, mut pool, mut work) = (State::ZERO, [0; 20 * NODE_WORDS], [0; 20]);
 //! let mut engine = Engine { state: &mut state, pool: &mut pool, work: &mut work };
 //! engine.start(2, &[10, 20, 30, 40, 50])?;
 //! engine.spawn(0)?;
@@ -24,14 +24,20 @@
 #![deny(unsafe_code)]
 
 mod answer;
-mod raw;
+pub mod raw;
+mod state;
 mod step;
 
 pub use answer::{answer, answers, Answer, Done, Refusal, Returned, Synced};
+pub use state::State;
 pub use step::Step;
 
-/// The words of a state.
-pub const STATE_WORDS: usize = 909;
+/// The words of the state's numbers.
+pub const NUMBERS_WORDS: usize = 5;
+/// The words of the state's deques.
+pub const DEQUES_WORDS: usize = 520;
+/// The words of the state's frame records.
+pub const FRAMES_WORDS: usize = 384;
 /// The words of a node.
 pub const NODE_WORDS: usize = 4;
 /// The most nodes of a pool.
@@ -52,8 +58,7 @@ pub fn tree_nodes(n: u32) -> u64 {
 /// another writes there is refused with [`Refusal::Unsound`], unless it is sound as well. The
 /// memory outlives the engine: another one over the same words goes on with the run.
 pub struct Engine<'a> {
-    /// [`STATE_WORDS`] words; further ones are never changed.
-    pub state: &'a mut [u32],
+    pub state: &'a mut State,
     /// [`NODE_WORDS`] words for each node.
     pub pool: &'a mut [u32],
     /// A word for each node; zero after each call.
@@ -63,15 +68,14 @@ pub struct Engine<'a> {
 impl Engine<'_> {
     /// Begins a run with a splitter for each value.
     pub fn start(&mut self, workers: u32, values: &[u32]) -> Result<(), Refusal> {
-        call(raw::start(self.state, workers, values, self.pool))
+        call(raw::start(self.state.parts(), workers, values, self.pool))
     }
 
     /// One step.
     pub fn step(&mut self, step: Step) -> Answer {
         let (kind, worker, field, value) = step.fields();
         let fields = [kind.into(), worker.into(), field.into(), value];
-        let both = raw::step(self.state, self.pool, self.work, fields);
-        answer([both as u32, (both >> 32) as u32])
+        answer(raw::step(self.state.parts(), self.pool, self.work, fields))
     }
 
     /// The worker's bottom frame spawns a child; gives its depth.
@@ -125,7 +129,7 @@ impl Engine<'_> {
     /// Runs a tape of records ([`Step::to_bytes`]), with two answer words for each ([`answers`]). A
     /// refused record does not stop the tape.
     pub fn tape(&mut self, tape: &[u8], answers: &mut [u32]) -> Result<(), Refusal> {
-        call(raw::tape(self.state, self.pool, self.work, tape, answers))
+        call(raw::tape(self.state.parts(), self.pool, self.work, tape, answers))
     }
 }
 

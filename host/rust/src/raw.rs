@@ -1,13 +1,20 @@
-//! The library's four functions, over slices. A borrowed slice has all that the library asks of a
-//! pointer and its length: it is not null, aligned, live for the call, and overlaps no other where
-//! one of them is written.
+//! The library's four functions, over slices of any length and with their numbers: for tests and
+//! measurements. A product needs only [`Engine`](crate::Engine). The C functions are declared here and
+//! nowhere else in Rust.
+//!
+//! A borrowed slice has all that the library asks of a pointer and its length: it is not null, aligned,
+//! live for the call, and overlaps no other where one of them is written.
 #![allow(unsafe_code)]
 
 mod c {
     extern "C" {
         pub fn splitter_start(
-            state: *mut u32,
-            state_len: usize,
+            numbers: *mut u32,
+            numbers_len: usize,
+            deques: *mut u32,
+            deques_len: usize,
+            frames: *mut u32,
+            frames_len: usize,
             workers: u32,
             values: *const u32,
             values_len: usize,
@@ -16,8 +23,12 @@ mod c {
         ) -> u32;
 
         pub fn splitter_step(
-            state: *mut u32,
-            state_len: usize,
+            numbers: *mut u32,
+            numbers_len: usize,
+            deques: *mut u32,
+            deques_len: usize,
+            frames: *mut u32,
+            frames_len: usize,
             pool: *mut u32,
             pool_len: usize,
             work: *mut u32,
@@ -29,8 +40,12 @@ mod c {
         ) -> u64;
 
         pub fn splitter_tape(
-            state: *mut u32,
-            state_len: usize,
+            numbers: *mut u32,
+            numbers_len: usize,
+            deques: *mut u32,
+            deques_len: usize,
+            frames: *mut u32,
+            frames_len: usize,
             pool: *mut u32,
             pool_len: usize,
             work: *mut u32,
@@ -45,12 +60,25 @@ mod c {
     }
 }
 
-pub fn start(state: &mut [u32], workers: u32, values: &[u32], pool: &mut [u32]) -> u32 {
+/// The state's three parts, as they are lent. One of another length than
+/// [`State`](crate::State) has is refused by 99.
+pub struct Parts<'a> {
+    pub numbers: &'a mut [u32],
+    pub deques: &'a mut [u32],
+    pub frames: &'a mut [u32],
+}
+
+/// 0, or a refusal.
+pub fn start(state: Parts, workers: u32, values: &[u32], pool: &mut [u32]) -> u32 {
     // SAFETY: each pointer and length is a borrowed slice's.
     unsafe {
         c::splitter_start(
-            state.as_mut_ptr(),
-            state.len(),
+            state.numbers.as_mut_ptr(),
+            state.numbers.len(),
+            state.deques.as_mut_ptr(),
+            state.deques.len(),
+            state.frames.as_mut_ptr(),
+            state.frames.len(),
             workers,
             values.as_ptr(),
             values.len(),
@@ -60,14 +88,18 @@ pub fn start(state: &mut [u32], workers: u32, values: &[u32], pool: &mut [u32]) 
     }
 }
 
-/// The fields are kind, worker, field and value.
-pub fn step(state: &mut [u32], pool: &mut [u32], work: &mut [u32], fields: [u32; 4]) -> u64 {
+/// The fields are kind, worker, field and value. Gives the two answer words, or a refusal and 0.
+pub fn step(state: Parts, pool: &mut [u32], work: &mut [u32], fields: [u32; 4]) -> [u32; 2] {
     let [kind, worker, field, value] = fields;
     // SAFETY: each pointer and length is a borrowed slice's.
-    unsafe {
+    let both = unsafe {
         c::splitter_step(
-            state.as_mut_ptr(),
-            state.len(),
+            state.numbers.as_mut_ptr(),
+            state.numbers.len(),
+            state.deques.as_mut_ptr(),
+            state.deques.len(),
+            state.frames.as_mut_ptr(),
+            state.frames.len(),
             pool.as_mut_ptr(),
             pool.len(),
             work.as_mut_ptr(),
@@ -77,15 +109,21 @@ pub fn step(state: &mut [u32], pool: &mut [u32], work: &mut [u32], fields: [u32;
             field,
             value,
         )
-    }
+    };
+    [both as u32, (both >> 32) as u32]
 }
 
-pub fn tape(state: &mut [u32], pool: &mut [u32], work: &mut [u32], tape: &[u8], answers: &mut [u32]) -> u32 {
+/// 0, with two answer words for each record, or a refusal.
+pub fn tape(state: Parts, pool: &mut [u32], work: &mut [u32], tape: &[u8], answers: &mut [u32]) -> u32 {
     // SAFETY: each pointer and length is a borrowed slice's.
     unsafe {
         c::splitter_tape(
-            state.as_mut_ptr(),
-            state.len(),
+            state.numbers.as_mut_ptr(),
+            state.numbers.len(),
+            state.deques.as_mut_ptr(),
+            state.deques.len(),
+            state.frames.as_mut_ptr(),
+            state.frames.len(),
             pool.as_mut_ptr(),
             pool.len(),
             work.as_mut_ptr(),
@@ -98,6 +136,7 @@ pub fn tape(state: &mut [u32], pool: &mut [u32], work: &mut [u32], tape: &[u8], 
     }
 }
 
+/// T(n), for any n.
 pub fn tree_nodes(n: u32) -> u64 {
     // SAFETY: the function takes and gives numbers only.
     unsafe { c::splitter_tree_nodes(n) }

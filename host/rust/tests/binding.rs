@@ -1,7 +1,9 @@
 //! The binding's numbers, and document 01's example through it.
 
-use splitter::{answer, answers, tree_nodes, Done, Engine, Refusal, Returned, Step, Synced};
-use splitter::{MAX_FRAMES, MAX_NODES, MAX_SPLITTERS, MAX_WORKERS, NODE_WORDS, STATE_WORDS};
+use splitter::{answer, answers, raw, tree_nodes, Done, Engine, Refusal, Returned, State, Step, Synced};
+use splitter::{DEQUES_WORDS, FRAMES_WORDS, NODE_WORDS, NUMBERS_WORDS};
+use splitter::{MAX_FRAMES, MAX_NODES, MAX_SPLITTERS, MAX_WORKERS};
+use std::mem::{offset_of, size_of};
 
 #[test]
 fn refusals_keep_their_numbers() {
@@ -54,7 +56,9 @@ fn the_header_has_the_same_refusals() {
 #[test]
 fn the_header_has_the_same_sizes() {
     for (name, size) in [
-        ("STATE_WORDS", STATE_WORDS),
+        ("NUMBERS_WORDS", NUMBERS_WORDS),
+        ("DEQUES_WORDS", DEQUES_WORDS),
+        ("FRAMES_WORDS", FRAMES_WORDS),
         ("NODE_WORDS", NODE_WORDS),
         ("MAX_NODES", MAX_NODES),
         ("MAX_SPLITTERS", MAX_SPLITTERS),
@@ -64,6 +68,15 @@ fn the_header_has_the_same_sizes() {
     ] {
         assert!(HEADER.contains(&format!("#define SPLITTER_{name} {size}u")), "{name}");
     }
+}
+
+/// As in the header, the parts lie one after the other.
+#[test]
+fn the_state_is_laid_out_as_in_c() {
+    assert_eq!(offset_of!(State, numbers), 0);
+    assert_eq!(offset_of!(State, deques), 4 * NUMBERS_WORDS);
+    assert_eq!(offset_of!(State, frames), 4 * (NUMBERS_WORDS + DEQUES_WORDS));
+    assert_eq!(size_of::<State>(), 4 * (NUMBERS_WORDS + DEQUES_WORDS + FRAMES_WORDS));
 }
 
 #[test]
@@ -92,7 +105,7 @@ const EXAMPLE: [(Step, Result<Done, Refusal>); 9] = [
 
 /// Runs a test on a run with document 01's workers, values and nodes.
 fn with_example(test: impl FnOnce(&mut Engine)) {
-    let (mut state, mut pool, mut work) = ([0; STATE_WORDS], [0; 20 * NODE_WORDS], [0; 20]);
+    let (mut state, mut pool, mut work) = (State::ZERO, [0; 20 * NODE_WORDS], [0; 20]);
     let mut engine = Engine { state: &mut state, pool: &mut pool, work: &mut work };
     engine.start(2, &[10, 20, 30, 40, 50]).expect("document 01's start");
     test(&mut engine);
@@ -119,10 +132,39 @@ fn the_example_step_by_step() {
 
 #[test]
 fn memory_without_a_start_is_refused() {
-    let (mut state, mut pool, mut work) = ([0; STATE_WORDS], [0; 20 * NODE_WORDS], [0; 20]);
+    let (mut state, mut pool, mut work) = (State::ZERO, [0; 20 * NODE_WORDS], [0; 20]);
     let mut engine = Engine { state: &mut state, pool: &mut pool, work: &mut work };
     assert_eq!(engine.spawn(0), Err(Refusal::Unsound));
     assert_eq!(engine.tape(&[], &mut []), Err(Refusal::Unsound));
-    engine.state = &mut [];
-    assert_eq!(engine.spawn(0), Err(Refusal::ShortState));
+}
+
+#[test]
+fn a_refused_start_leaves_zeros() {
+    with_example(|engine| {
+        let pool = engine.pool.to_vec();
+        assert_eq!(engine.start(0, &[10]), Err(Refusal::NoWorkers));
+        assert_eq!(*engine.state, State::ZERO);
+        assert_eq!(engine.pool, pool);
+    });
+}
+
+/// A part is cut short by a word; nothing changes.
+#[test]
+fn a_part_of_another_length_is_refused() {
+    let cut: [fn(&mut raw::Parts); 3] = [
+        |parts| parts.numbers = &mut std::mem::take(&mut parts.numbers)[1..],
+        |parts| parts.deques = &mut std::mem::take(&mut parts.deques)[1..],
+        |parts| parts.frames = &mut std::mem::take(&mut parts.frames)[1..],
+    ];
+    with_example(|engine| {
+        for cut in cut {
+            let old = engine.state.clone();
+            let mut parts = engine.state.parts();
+            cut(&mut parts);
+            let words = raw::step(parts, engine.pool, engine.work, [1, 0, 0, 0]);
+            assert_eq!(answer(words), Err(Refusal::BadState));
+            assert_eq!(*engine.state, old);
+        }
+        assert_eq!(engine.spawn(0), Ok(1));
+    });
 }

@@ -1,11 +1,13 @@
 //! One call with all that is lent to it, made through the library or through plain.rs, and all that it leaves.
 
 use crate::lent::Lent;
-use crate::{library, plain};
+use crate::parts::Parts;
+use crate::plain;
+use splitter::raw;
 use std::fmt;
 
-/// The interface's own refusal: the state slice has fewer words than a state.
-pub const SHORT_STATE: u32 = 99;
+/// The interface's own refusal: a part of the state has another length than it must have.
+pub const BAD_STATE: u32 = 99;
 
 #[derive(Clone)]
 pub enum Entry {
@@ -16,7 +18,7 @@ pub enum Entry {
 
 #[derive(Clone)]
 pub struct Call {
-    pub state: Vec<u32>,
+    pub state: Parts,
     pub pool: Vec<u32>,
     pub work: Vec<u32>,
     pub entry: Entry,
@@ -26,7 +28,7 @@ pub struct Call {
 #[derive(Clone, PartialEq)]
 pub struct Outcome {
     pub result: [u32; 2],
-    pub state: Vec<u32>,
+    pub state: Parts,
     pub pool: Vec<u32>,
     pub work: Vec<u32>,
     pub answers: Vec<u32>,
@@ -35,9 +37,9 @@ pub struct Outcome {
 
 impl Call {
     /// An outcome that has changed nothing.
-    fn untouched(&self) -> Outcome {
+    pub fn untouched(&self, result: [u32; 2]) -> Outcome {
         Outcome {
-            result: [0, 0],
+            result,
             state: self.state.clone(),
             pool: self.pool.clone(),
             work: self.work.clone(),
@@ -63,12 +65,11 @@ impl Call {
     }
 
     pub fn by_plain(&self) -> Outcome {
-        let mut after = self.untouched();
-        let Some(state_words) = after.state.first_chunk_mut() else {
-            after.result[0] = SHORT_STATE;
+        let mut after = self.untouched([0, 0]);
+        let Some(mut state) = self.state.state() else {
+            after.result[0] = BAD_STATE;
             return after;
         };
-        let mut state = plain::from_words(state_words);
         let (pool, work) = (&mut after.pool, &mut after.work);
         match &self.entry {
             Entry::Start { workers, values } => {
@@ -82,31 +83,36 @@ impl Call {
                 after.result[0] = plain::tape(&mut state, pool, work, bytes, &mut after.answers);
             }
         }
-        *state_words = plain::to_words(&state);
+        after.state = Parts::of(&state);
         after
     }
 
     /// The same through the library, each slice between `guard` guard words. None if a guard word has changed.
     pub fn by_library(&self, guard: usize) -> Option<Outcome> {
         let lend = |words: &[u32]| Lent::new(words, guard, 0x5AFE_C0DE);
-        let mut state = lend(&self.state);
+        let [mut numbers, mut deques, mut frames] = self.state.each().map(|part| lend(part));
+        let state = raw::Parts {
+            numbers: numbers.slice(),
+            deques: deques.slice(),
+            frames: frames.slice(),
+        };
         let mut pool = lend(&self.pool);
         let mut work = lend(&self.work);
         let mut answers = lend(self.answers());
         let (result, input) = match &self.entry {
             Entry::Start { workers, values } => {
                 let mut values = lend(values);
-                let result = library::start(state.slice(), *workers, values.slice(), pool.slice());
+                let result = raw::start(state, *workers, values.slice(), pool.slice());
                 ([result, 0], values.back()?)
             }
             Entry::Step(step) => {
-                let result = library::step(state.slice(), pool.slice(), work.slice(), *step);
-                (result.into(), Vec::new())
+                let result = raw::step(state, pool.slice(), work.slice(), *step);
+                (result, Vec::new())
             }
             Entry::Tape { bytes, .. } => {
                 let mut bytes = Lent::new(bytes, guard, 0xC5);
-                let result = library::tape(
-                    state.slice(),
+                let result = raw::tape(
+                    state,
                     pool.slice(),
                     work.slice(),
                     bytes.slice(),
@@ -117,7 +123,11 @@ impl Call {
         };
         Some(Outcome {
             result,
-            state: state.back()?,
+            state: Parts {
+                numbers: numbers.back()?,
+                deques: deques.back()?,
+                frames: frames.back()?,
+            },
             pool: pool.back()?,
             work: work.back()?,
             answers: answers.back()?,
@@ -133,9 +143,11 @@ fn words(bytes: &[u8]) -> Vec<u32> {
 impl Outcome {
     /// The first word in which this outcome, the library's, differs from the other.
     pub fn difference(&self, other: &Outcome) -> Option<String> {
-        let slices: [(&str, &[u32], &[u32]); 6] = [
+        let slices: [(&str, &[u32], &[u32]); 8] = [
             ("result", &self.result, &other.result),
-            ("state", &self.state, &other.state),
+            ("numbers", &self.state.numbers, &other.state.numbers),
+            ("deques", &self.state.deques, &other.state.deques),
+            ("frames", &self.state.frames, &other.state.frames),
             ("pool", &self.pool, &other.pool),
             ("work", &self.work, &other.work),
             ("answers", &self.answers, &other.answers),
@@ -168,10 +180,10 @@ impl fmt::Display for Call {
                 answers.len()
             )?,
         }
+        let [numbers, deques, frames] = self.state.each().map(Vec::len);
         write!(
             f,
-            "; {} state, {} pool, {} work words",
-            self.state.len(),
+            "; {numbers} number, {deques} deque, {frames} frame, {} pool, {} work words",
             self.pool.len(),
             self.work.len()
         )

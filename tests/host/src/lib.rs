@@ -3,7 +3,7 @@
 pub mod call;
 pub mod corrupt;
 pub mod lent;
-pub mod library;
+pub mod parts;
 pub mod plain;
 pub mod random;
 pub mod record;

@@ -1,5 +1,6 @@
 //! Document 01's engine in plain, fast, safe Rust: path copying, reference counts, free lists, recursive release. Written from the
-//! document alone. It is what the library is compared with, and the peer it is timed against.
+//! document alone. It is what the library is compared with, and the peer it is timed against: what a tape and a single step share is
+//! inlined in both, so that each is as fast as if the other were not there.
 
 use std::array;
 
@@ -9,11 +10,12 @@ pub const MAX_FRAMES: usize = 64;
 pub const MAX_SPLITTERS: usize = 256;
 pub const MAX_NODES: usize = 16_384;
 
-const NUMBERS: usize = 5;
 const DEQUE_WORDS: usize = 1 + MAX_FRAMES;
 const FRAME_WORDS: usize = 6;
-/// R-1's order: the five numbers, the deques, the frame records.
-pub const STATE_WORDS: usize = NUMBERS + MAX_WORKERS * DEQUE_WORDS + MAX_FRAMES * FRAME_WORDS;
+pub const NUMBERS_WORDS: usize = 5;
+pub const DEQUES_WORDS: usize = MAX_WORKERS * DEQUE_WORDS;
+pub const FRAMES_WORDS: usize = MAX_FRAMES * FRAME_WORDS;
+pub const STATE_WORDS: usize = NUMBERS_WORDS + DEQUES_WORDS + FRAMES_WORDS;
 
 /// Holders (the reference count), left, right, value. A free node is 0, the next free node, 0, 0.
 pub type Node = [u32; 4];
@@ -139,22 +141,33 @@ impl State {
     }
 }
 
-pub fn to_words(state: &State) -> [u32; STATE_WORDS] {
-    let mut words = [0; STATE_WORDS];
-    let (numbers, rest) = words.split_at_mut(NUMBERS);
-    let (deques, frames) = rest.split_at_mut(MAX_WORKERS * DEQUE_WORDS);
-    numbers.copy_from_slice(&[
-        state.workers,
-        state.splitters,
-        state.nodes,
-        state.free,
-        state.vacant,
-    ]);
-    for (words, deque) in deques.chunks_exact_mut(DEQUE_WORDS).zip(&state.deques) {
+/// The state's words in R-1's order: the five numbers, the deques, the frame records.
+#[derive(Clone, Debug, PartialEq, Eq)]
+pub struct Words {
+    pub numbers: [u32; NUMBERS_WORDS],
+    pub deques: [u32; DEQUES_WORDS],
+    pub frames: [u32; FRAMES_WORDS],
+}
+
+pub fn to_words(state: &State) -> Words {
+    let mut words = Words {
+        numbers: [
+            state.workers,
+            state.splitters,
+            state.nodes,
+            state.free,
+            state.vacant,
+        ],
+        deques: [0; DEQUES_WORDS],
+        frames: [0; FRAMES_WORDS],
+    };
+    let deques = words.deques.chunks_exact_mut(DEQUE_WORDS);
+    for (words, deque) in deques.zip(&state.deques) {
         words[0] = deque.length;
         words[1..].copy_from_slice(&deque.places);
     }
-    for (words, f) in frames.chunks_exact_mut(FRAME_WORDS).zip(&state.frames) {
+    let frames = words.frames.chunks_exact_mut(FRAME_WORDS);
+    for (words, f) in frames.zip(&state.frames) {
         words.copy_from_slice(&[
             f.live,
             f.parent,
@@ -167,24 +180,23 @@ pub fn to_words(state: &State) -> [u32; STATE_WORDS] {
     words
 }
 
-pub fn from_words(words: &[u32; STATE_WORDS]) -> State {
-    let (numbers, rest) = words.split_at(NUMBERS);
-    let (deques, frames) = rest.split_at(MAX_WORKERS * DEQUE_WORDS);
+pub fn from_words(words: &Words) -> State {
+    let [workers, splitters, nodes, free, vacant] = words.numbers;
     State {
-        workers: numbers[0],
-        splitters: numbers[1],
-        nodes: numbers[2],
-        free: numbers[3],
-        vacant: numbers[4],
+        workers,
+        splitters,
+        nodes,
+        free,
+        vacant,
         deques: array::from_fn(|worker| {
-            let words = &deques[worker * DEQUE_WORDS..][..DEQUE_WORDS];
+            let words = &words.deques[worker * DEQUE_WORDS..][..DEQUE_WORDS];
             Deque {
                 length: words[0],
                 places: array::from_fn(|place| words[1 + place]),
             }
         }),
         frames: array::from_fn(|place| {
-            let words = &frames[place * FRAME_WORDS..][..FRAME_WORDS];
+            let words = &words.frames[place * FRAME_WORDS..][..FRAME_WORDS];
             Frame {
                 live: words[0],
                 parent: words[1],
@@ -331,6 +343,7 @@ pub fn run_tape(
 }
 
 /// Refusals 5 and 6; else the number of free nodes.
+#[inline(always)]
 fn admit(state: &State, pool: &[u32], work: &mut [u32]) -> Result<u32, Refusal> {
     if work.len() < state.nodes as usize {
         return Err(Refusal::ShortWork);
@@ -384,6 +397,7 @@ impl<'a> Engine<'a> {
         }
     }
 
+    #[inline(always)]
     fn answer(&mut self, step: Option<Step>) -> (u32, u32) {
         let taken = step
             .ok_or(Refusal::BadRecord)
@@ -391,6 +405,7 @@ impl<'a> Engine<'a> {
         taken.unwrap_or_else(|refusal| (refusal as u32, 0))
     }
 
+    #[inline(always)]
     fn take(&mut self, step: Step) -> Result<(u32, u32), Refusal> {
         Ok(match step {
             Step::Spawn(worker) => (101, self.spawn(worker)?),
@@ -415,6 +430,7 @@ impl<'a> Engine<'a> {
     }
 
     /// The child's depth.
+    #[inline(always)]
     fn spawn(&mut self, worker: u32) -> Result<u32, Refusal> {
         let bottom = self.bottom(worker)?;
         let place = self.state.vacant;
@@ -439,6 +455,7 @@ impl<'a> Engine<'a> {
     }
 
     /// A return's outcome.
+    #[inline(always)]
     fn end(&mut self, worker: u32) -> Result<u32, Refusal> {
         let bottom = self.bottom(worker)?;
         let frame = self.state.frames[bottom];
@@ -468,6 +485,7 @@ impl<'a> Engine<'a> {
     }
 
     /// The stolen frame's depth.
+    #[inline(always)]
     fn steal(&mut self, thief: u32, victim: u32) -> Result<u32, Refusal> {
         match self.bottom(thief) {
             Ok(_) => return Err(Refusal::ThiefBusy),
@@ -483,6 +501,7 @@ impl<'a> Engine<'a> {
     }
 
     /// A sync's outcome. A bottom frame with a live child is alone in its deque.
+    #[inline(always)]
     fn sync(&mut self, worker: u32) -> Result<u32, Refusal> {
         let bottom = self.bottom(worker)?;
         let frame = &mut self.state.frames[bottom];
@@ -494,6 +513,7 @@ impl<'a> Engine<'a> {
         Ok(1)
     }
 
+    #[inline(always)]
     fn read(&mut self, worker: u32, splitter: u32) -> Result<u32, Refusal> {
         let bottom = self.bottom(worker)?;
         if splitter >= self.state.splitters {
@@ -508,6 +528,7 @@ impl<'a> Engine<'a> {
     }
 
     /// The free nodes left.
+    #[inline(always)]
     fn write(&mut self, worker: u32, splitter: u32, value: u32) -> Result<u32, Refusal> {
         let bottom = self.bottom(worker)?;
         if splitter >= self.state.splitters {
@@ -523,6 +544,7 @@ impl<'a> Engine<'a> {
     }
 
     /// A new path from the root to the splitter, beside the old siblings; its root.
+    #[inline(always)]
     fn copy_path(&mut self, root: u32, splitter: u32, value: u32) -> u32 {
         let new_root = self.allocate();
         let (mut old, mut new) = (root, new_root);
@@ -579,6 +601,7 @@ impl<'a> Engine<'a> {
 
 /// Soundness, in time linear in the nodes: the number of free nodes if state and pool are sound. `work` has at least a word for each
 /// recorded node; these words are zero afterwards.
+#[inline(always)]
 pub fn sound(state: &State, pool: &[u32], work: &mut [u32]) -> Option<u32> {
     let marks = &mut work[..state.nodes as usize];
     marks.fill(0);
@@ -587,6 +610,7 @@ pub fn sound(state: &State, pool: &[u32], work: &mut [u32]) -> Option<u32> {
     free_nodes
 }
 
+#[inline(always)]
 fn judge(state: &State, pool: &[u32], marks: &mut [u32]) -> Option<u32> {
     let (nodes, _) = pool.as_chunks::<4>();
     if !numbers_sound(state, nodes.len()) || !frames_sound(state) {

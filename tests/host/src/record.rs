@@ -1,7 +1,7 @@
 //! Calls and their outcomes written to a file, for sanitized.c to make them again. All is little-endian words: the entry (1 start,
 //! 2 step, 3 tape), four words (a start's workers or a step's entry), the two words of the result, what was lent for reading only, then
-//! state, pool, work and answers. Each of these has its length first; the last four are followed by what the call left there. Calls with
-//! large pools are left out, for the file's size.
+//! numbers, deques, frames, pool, work and answers. Each of these has its length first; the last six are followed by what the call left
+//! there. Calls with large pools are left out, for the file's size.
 
 use crate::call::{Call, Entry, Outcome};
 use std::fs::File;
@@ -30,7 +30,9 @@ impl Recorder {
         self.words(&after.result)?;
         self.slice(&call.input())?;
         let slices = [
-            (call.state.as_slice(), &after.state),
+            (call.state.numbers.as_slice(), &after.state.numbers),
+            (&call.state.deques, &after.state.deques),
+            (&call.state.frames, &after.state.frames),
             (&call.pool, &after.pool),
             (&call.work, &after.work),
             (call.answers(), &after.answers),

@@ -1,7 +1,8 @@
 //! Seeded random runs: a start, then steps and tapes, each call made on both sides with what the call before left.
 
 use crate::call::{Call, Entry, Outcome};
-use crate::plain::{self, State, RECORD_BYTES, STATE_WORDS};
+use crate::parts::Parts;
+use crate::plain::{self, State, RECORD_BYTES};
 use crate::random::Random;
 use crate::sentences;
 use crate::session::{Failure, Session};
@@ -25,7 +26,7 @@ pub fn run(seed: u64, session: &mut Session) -> Result<(), Failure> {
         random,
     };
     for _ in 0..calls {
-        run.vary_slices();
+        run.vary_pool();
         let call = run.next_call();
         let after = session.both(&call)?;
         run.adopt(after)?;
@@ -54,12 +55,12 @@ fn starting(random: &Random) -> Call {
     };
     let nodes = nodes_for(splitters, random);
     let pool_words = 4 * nodes + random.below(4);
-    let state_words = match random.below(30) {
-        0 => random.below(STATE_WORDS),
-        _ => STATE_WORDS + random.below(4),
-    };
+    let mut state = Parts::garbage(random);
+    if random.one_in(20) {
+        state.spoil_length(random);
+    }
     Call {
-        state: random.words(state_words),
+        state,
         pool: random.words(pool_words),
         work: Vec::new(),
         entry: Entry::Start {
@@ -83,8 +84,7 @@ fn nodes_for(splitters: usize, random: &Random) -> usize {
 }
 
 struct Run {
-    /// The state's words, with up to a few more.
-    state: Vec<u32>,
+    state: Parts,
     pool: Vec<u32>,
     driver: Driver,
     random: Random,
@@ -92,27 +92,24 @@ struct Run {
 
 impl Run {
     fn typed(&self) -> State {
-        self.state
-            .first_chunk()
-            .map_or_else(State::zero, plain::from_words)
+        self.state.state().unwrap_or_else(State::zero)
     }
 
-    /// Now and then the host lends a longer pool, or a state slice of another length.
-    fn vary_slices(&mut self) {
+    /// The recorded nodes.
+    fn nodes(&self) -> usize {
+        self.typed().nodes as usize
+    }
+
+    /// Now and then the host lends a longer pool.
+    fn vary_pool(&mut self) {
         if self.random.one_in(12) {
             let more = self.random.below(10);
-            let nodes = self.typed().nodes as usize;
-            self.pool.truncate(4 * nodes);
+            self.pool.truncate(4 * self.nodes());
             self.pool.extend(self.random.words(more));
-        }
-        if self.random.one_in(12) {
-            let more = self.random.below(5);
-            self.state.truncate(STATE_WORDS);
-            self.state.extend(self.random.words(more));
         }
     }
 
-    /// A step or a tape; one in some has a slice that is too short, or several.
+    /// A step or a tape; one in some has a slice of a wrong length, or several.
     fn next_call(&mut self) -> Call {
         let entry = if self.random.one_in(3) {
             Entry::Step(self.driver.next(&self.typed(), &self.random))
@@ -124,16 +121,16 @@ impl Run {
         };
         let mut call = self.call(entry);
         if self.random.one_in(16) {
-            self.cut_short(&mut call);
+            self.spoil_length(&mut call);
             while self.random.one_in(3) {
-                self.cut_short(&mut call);
+                self.spoil_length(&mut call);
             }
         }
         call
     }
 
     fn call(&mut self, entry: Entry) -> Call {
-        let work = self.typed().nodes as usize + self.random.below(6);
+        let work = self.nodes() + self.random.below(6);
         Call {
             state: self.state.clone(),
             pool: self.pool.clone(),
@@ -170,12 +167,13 @@ impl Run {
         bytes
     }
 
-    fn cut_short(&mut self, call: &mut Call) {
+    fn spoil_length(&mut self, call: &mut Call) {
         let random = &self.random;
+        let nodes = self.nodes();
         match random.below(5) {
-            0 => call.state.truncate(random.below(STATE_WORDS)),
-            1 => call.work.truncate(random.below(self.state[2] as usize)),
-            2 => call.pool.truncate(random.below(4 * self.state[2] as usize)),
+            0 => call.state.spoil_length(random),
+            1 => call.work.truncate(random.below(nodes)),
+            2 => call.pool.truncate(random.below(4 * nodes)),
             _ => {
                 if let Entry::Tape { bytes, answers } = &mut call.entry {
                     if random.one_in(2) {
@@ -194,8 +192,7 @@ impl Run {
             self.state = after.state;
             self.pool = after.pool;
         }
-        let nodes = self.state[2] as usize;
-        if self.random.one_in(8 + nodes / 50) {
+        if self.random.one_in(8 + self.nodes() / 50) {
             let broken = sentences::broken(&self.state, &self.pool);
             if let Some(&first) = broken.first() {
                 return Err(format!(

@@ -1,16 +1,14 @@
 //! Document 01's "Soundness", sentence by sentence, over the words of a state and a pool: for clarity, not for speed. It shares nothing
 //! with plain.rs. Every sentence can be asked of every state, so that one can tell which ones are broken.
 
+use crate::parts::Parts;
 use std::collections::{HashMap, HashSet};
 
 const NONE: u32 = 4_294_967_295;
-const WORKERS: usize = 8;
 const FRAMES: usize = 64;
 
 /// R-1's layout: 5 numbers, 8 deques of 65 words, 64 frame records of 6 words.
-const DEQUES_AT: usize = 5;
 const DEQUE_WORDS: usize = 65;
-const FRAMES_AT: usize = DEQUES_AT + WORKERS * DEQUE_WORDS;
 const FRAME_WORDS: usize = 6;
 
 /// A sentence and what it asks.
@@ -95,7 +93,7 @@ pub const SENTENCES: [Sentence; 18] = [
 ];
 
 /// The numbers of the sentences that are broken, as indexes of SENTENCES. Sound means none.
-pub fn broken(state: &[u32], pool: &[u32]) -> Vec<usize> {
+pub fn broken(state: &Parts, pool: &[u32]) -> Vec<usize> {
     let pair = Pair::new(state, pool);
     (0..SENTENCES.len())
         .filter(|&sentence| !(SENTENCES[sentence].holds)(&pair))
@@ -139,19 +137,20 @@ struct Pair {
 }
 
 impl Pair {
-    fn new(state: &[u32], pool: &[u32]) -> Pair {
-        let deques: Vec<&[u32]> = state[DEQUES_AT..FRAMES_AT].chunks(DEQUE_WORDS).collect();
+    fn new(state: &Parts, pool: &[u32]) -> Pair {
+        let numbers = &state.numbers;
+        let deques: Vec<&[u32]> = state.deques.chunks(DEQUE_WORDS).collect();
         let end = |deque: &&[u32]| (deque[0] as usize).min(FRAMES) + 1;
         let mut pair = Pair {
-            workers: state[0],
-            splitters: state[1],
-            recorded_nodes: state[2],
-            first_free_node: state[3],
-            first_free_place: state[4],
+            workers: numbers[0],
+            splitters: numbers[1],
+            recorded_nodes: numbers[2],
+            first_free_node: numbers[3],
+            first_free_place: numbers[4],
             lengths: deques.iter().map(|deque| deque[0]).collect(),
             queued: deques.iter().map(|d| d[1..end(d)].to_vec()).collect(),
             past: deques.iter().map(|d| d[end(d)..].to_vec()).collect(),
-            frames: read_frames(&state[FRAMES_AT..]),
+            frames: read_frames(&state.frames),
             nodes: read_nodes(pool),
             shaped: true,
             reached: HashSet::new(),

@@ -2,6 +2,7 @@
 
 use crate::call::{Call, Entry, Outcome};
 use crate::corrupt::{self, Expected, Pair, KINDS};
+use crate::parts::Parts;
 use crate::plain::{self, Refusal, State, SPAWN, STATE_WORDS};
 use crate::random::Random;
 use crate::sentences::{self, SENTENCES};
@@ -136,9 +137,6 @@ fn judge(
 
 /// An empty tape asks for nothing but the check.
 fn asking(pair: &Pair, random: &Random) -> Call {
-    let mut state = plain::to_words(&pair.state).to_vec();
-    let more = random.below(3);
-    state.extend(random.words(more));
     let held = pair.pool.len() / 4;
     let recorded = pair.state.nodes as usize;
     let work = if recorded > 20_000 {
@@ -148,7 +146,7 @@ fn asking(pair: &Pair, random: &Random) -> Call {
     };
     let (work, answers) = (work + random.below(4), random.below(3));
     Call {
-        state,
+        state: Parts::of(&pair.state),
         pool: pair.pool.clone(),
         work: random.words(work),
         entry: Entry::Tape {
@@ -168,7 +166,7 @@ fn expect_unchanged(call: &Call, after: &Outcome) -> Result<(), Failure> {
     expect(after.pool == call.pool, "the pool has changed")?;
     expect(after.answers == call.answers(), "the answers have changed")?;
     let mut work = call.work.clone();
-    if let Some(first) = work.get_mut(..call.state[2] as usize) {
+    if let Some(first) = work.get_mut(..call.state.numbers[2] as usize) {
         first.fill(0);
     }
     expect(after.work == work, "the work slice is not as it should be")

@@ -1,21 +1,15 @@
 //! Document 01's example and edges through plain.rs and the library, and the sentences on states corrupted by hand.
 
-use crate::call::{Call, Entry, Outcome};
-use crate::plain::{self, NONE, READ, RETURN, SPAWN, STEAL, SYNC, WRITE};
+use crate::call::{Call, Entry, Outcome, BAD_STATE};
+use crate::parts::{Parts, LENGTHS};
+use crate::plain::{self, State, NONE, READ, RETURN, SPAWN, STEAL, SYNC, WRITE};
+use crate::random::Random;
 use crate::sentences::{self, SENTENCES};
 use crate::steps;
 
 /// A start and one tape, by both, with the same outcome: the tape's call and what it left.
 fn run(workers: u32, values: &[u32], nodes: usize, entries: &[[u32; 4]]) -> (Call, Outcome) {
-    let start = Call {
-        state: vec![7; plain::STATE_WORDS],
-        pool: vec![7; 4 * nodes],
-        work: Vec::new(),
-        entry: Entry::Start {
-            workers,
-            values: values.to_vec(),
-        },
-    };
+    let start = starting(workers, values, nodes);
     let begun = both(&start);
     if begun.result[0] != 0 {
         return (start, begun);
@@ -33,6 +27,18 @@ fn run(workers: u32, values: &[u32], nodes: usize, entries: &[[u32; 4]]) -> (Cal
     (tape, ended)
 }
 
+fn starting(workers: u32, values: &[u32], nodes: usize) -> Call {
+    Call {
+        state: Parts::garbage(&Random::new(7)),
+        pool: vec![7; 4 * nodes],
+        work: Vec::new(),
+        entry: Entry::Start {
+            workers,
+            values: values.to_vec(),
+        },
+    }
+}
+
 fn both(call: &Call) -> Outcome {
     let outcome = call.by_plain();
     assert!(call.by_library(3).as_ref() == Some(&outcome));
@@ -46,9 +52,14 @@ fn answers(workers: u32, values: &[u32], nodes: usize, entries: &[[u32; 4]]) -> 
     after.answers.as_chunks().0.to_vec()
 }
 
+/// A refused start leaves zeros in all three parts, and the pool as it was.
 fn start_refusal(workers: u32, splitters: usize, nodes: usize) -> u32 {
-    let (_, after) = run(workers, &vec![0; splitters], nodes, &[]);
-    assert!(after.result[0] == 0 || after.state.iter().all(|&word| word == 0));
+    let call = starting(workers, &vec![0; splitters], nodes);
+    let after = both(&call);
+    if after.result[0] != 0 {
+        assert_eq!(after.state, Parts::of(&State::zero()));
+        assert_eq!(after.pool, call.pool);
+    }
     after.result[0]
 }
 
@@ -101,6 +112,78 @@ fn refused_starts() {
     assert_eq!(start_refusal(8, 256, 16_385), 3);
 }
 
+/// The call with each part in turn shorter and longer than it must be: refused by 99, and nothing changes.
+fn assert_bad_state(call: &Call) {
+    for (part, length) in LENGTHS.into_iter().enumerate() {
+        for wrong in [0, 1, length - 1, length + 1, 2 * length] {
+            let mut call = call.clone();
+            call.state.each_mut()[part].resize(wrong, 7);
+            let after = both(&call);
+            assert_eq!(after.result, [BAD_STATE, 0], "{call}");
+            assert!(after == call.untouched(after.result), "{call}");
+        }
+    }
+}
+
+/// 99 comes before 1, 2 and 3.
+#[test]
+fn parts_of_another_length_at_a_start() {
+    for (workers, splitters, nodes) in [(2, 5, 20), (2, 0, 20), (9, 5, 20), (2, 5, 10), (0, 0, 0)] {
+        assert_bad_state(&starting(workers, &vec![0; splitters], nodes));
+    }
+}
+
+/// The call, then the same with a short work slice (5), with an unsound pool (6), and with both.
+fn spoilt(call: Call) -> [Call; 4] {
+    let short = Call {
+        work: vec![7; 19],
+        ..call.clone()
+    };
+    let unsound = |call: &Call| Call {
+        pool: vec![7; call.pool.len()],
+        ..call.clone()
+    };
+    [unsound(&short), unsound(&call), short, call]
+}
+
+/// 99 comes before 5, 6 and the refusals of one record.
+#[test]
+fn parts_of_another_length_at_a_step() {
+    for step in [[SPAWN, 0, 0, 0], [READ, 0, 5, 0], [9, 9, 9, 9]] {
+        let (mut call, _) = run(2, &FIVE, 20, &[]);
+        call.entry = Entry::Step(step);
+        spoilt(call).iter().for_each(assert_bad_state);
+    }
+}
+
+/// 99 comes before 4, 5 and 6.
+#[test]
+fn parts_of_another_length_at_a_tape() {
+    for (bytes, answers) in [(0, 0), (8, 2), (8, 1), (7, 2)] {
+        let (mut call, _) = run(2, &FIVE, 20, &[]);
+        call.entry = Entry::Tape {
+            bytes: vec![1; bytes],
+            answers: vec![7; answers],
+        };
+        spoilt(call).iter().for_each(assert_bad_state);
+    }
+}
+
+/// The same calls with parts of the right lengths are refused by what else is wrong with them.
+#[test]
+fn spoilt_calls() {
+    let (mut call, _) = run(2, &FIVE, 20, &[]);
+    call.entry = Entry::Step([READ, 0, 5, 0]);
+    let refusals = spoilt(call.clone()).map(|call| both(&call).result[0]);
+    assert_eq!(refusals, [5, 6, 5, 15]);
+    call.entry = Entry::Tape {
+        bytes: vec![1; 7],
+        answers: Vec::new(),
+    };
+    let refusals = spoilt(call).map(|call| both(&call).result[0]);
+    assert_eq!(refusals, [4; 4]);
+}
+
 #[test]
 fn empty_tape() {
     let (call, after) = run(2, &FIVE, 20, &[]);
@@ -150,62 +233,67 @@ fn tree_sizes() {
 #[test]
 fn words_and_records() {
     let (call, _) = run(2, &FIVE, 20, &[]);
-    let words = call.state.first_chunk().expect("a whole state");
-    assert_eq!(plain::to_words(&plain::from_words(words)), *words);
+    let state = call.state.state().expect("a whole state");
+    assert_eq!(Parts::of(&state), call.state);
+    let garbage = Parts::garbage(&Random::new(1));
+    assert_eq!(garbage.state().as_ref().map(Parts::of), Some(garbage));
 }
 
 /// The sentences broken after a change of a fresh start: 2 workers, 5 splitters, 20 nodes. Level by level its tree is 0; 1, 2; 3, 4, 5;
 /// 6 to 10, and 11 to 19 are free. plain.rs must agree.
-fn broken(change: fn(&mut [u32], &mut [u32])) -> Vec<&'static str> {
+fn broken(change: fn(&mut Parts, &mut [u32])) -> Vec<&'static str> {
     let (mut call, _) = run(2, &FIVE, 20, &[]);
     change(&mut call.state, &mut call.pool);
     let broken = sentences::broken(&call.state, &call.pool);
-    let words = call.state.first_chunk().expect("a whole state");
-    let sound = plain::sound(&plain::from_words(words), &call.pool, &mut [7; 40]).is_some();
+    let state = call.state.state().expect("a whole state");
+    let sound = plain::sound(&state, &call.pool, &mut [7; 40]).is_some();
     assert_eq!(sound, broken.is_empty());
     let text = |&sentence: &usize| SENTENCES[sentence].text;
     broken.iter().map(text).collect()
 }
 
 /// Word 0 of a worker's deque, of a frame record, of a node.
-const DEQUE_1: usize = 5 + 65;
-const FRAME_0: usize = 525;
-const FRAME_1: usize = 531;
+const DEQUE_1: usize = 65;
+const FRAME_0: usize = 0;
+const FRAME_1: usize = 6;
 const NODE_3: usize = 12;
 const NODE_7: usize = 28;
 
 #[test]
 fn corrupted_numbers() {
     assert!(broken(|_, _| {}).is_empty());
-    assert_eq!(broken(|state, _| state[0] = 9), ["workers are 1 to 8"]);
-    assert_eq!(broken(|state, _| state[1] = 257), ["n is 1 to 256"]);
+    assert_eq!(
+        broken(|state, _| state.numbers[0] = 9),
+        ["workers are 1 to 8"]
+    );
+    assert_eq!(broken(|state, _| state.numbers[1] = 257), ["n is 1 to 256"]);
     let nodes = "node count is T(n) to 16,384 and at most what the pool holds";
-    assert_eq!(broken(|state, _| state[2] = 21), [nodes]);
-    assert_eq!(broken(|state, _| state[2] = 10), [nodes]);
+    assert_eq!(broken(|state, _| state.numbers[2] = 21), [nodes]);
+    assert_eq!(broken(|state, _| state.numbers[2] = 10), [nodes]);
 }
 
 #[test]
 fn corrupted_frames() {
     let alone = |text, change| assert_eq!(broken(change), [text]);
     alone("live and suspended are 0 or 1", |state, _| {
-        state[FRAME_0] = 2
+        state.frames[FRAME_0] = 2
     });
     alone("outstanding counts are right", |state, _| {
-        state[FRAME_0 + 3] = 1
+        state.frames[FRAME_0 + 3] = 1
     });
     let placed = "a live frame is in one place, or suspended with a child";
-    alone(placed, |state, _| state[FRAME_0 + 4] = 1);
+    alone(placed, |state, _| state.frames[FRAME_0 + 4] = 1);
     alone("deques hold live frames only", |state, _| {
-        state[DEQUE_1..DEQUE_1 + 2].copy_from_slice(&[1, 5]);
+        state.deques[DEQUE_1..DEQUE_1 + 2].copy_from_slice(&[1, 5]);
     });
     alone("places past a deque's frames are zero", |state, _| {
-        state[DEQUE_1 + 64] = 1;
+        state.deques[DEQUE_1 + 64] = 1;
     });
     let places = "free frame places are zero and once on their chain";
-    alone(places, |state, _| state[FRAME_1 + 2] = 1);
-    alone(places, |state, _| state[FRAME_1 + 1] = 1);
+    alone(places, |state, _| state.frames[FRAME_1 + 2] = 1);
+    alone(places, |state, _| state.frames[FRAME_1 + 1] = 1);
     let main = "no frame and empty deques, or one of depth 0, parent none";
-    alone(main, |state, _| state[FRAME_0 + 1] = 5);
+    alone(main, |state, _| state.frames[FRAME_0 + 1] = 5);
 }
 
 #[test]
@@ -217,18 +305,18 @@ fn corrupted_trees() {
     let free = "all other nodes are free and once on the free chain";
     alone(free, |_, pool| pool[4 * 19 + 3] = 1);
     alone(free, |_, pool| pool[4 * 19 + 1] = 11);
-    alone(free, |state, _| state[3] = 12);
+    alone(free, |state, _| state.numbers[3] = 12);
     assert!(broken(|_, pool| pool[NODE_3 + 2] = 0).contains(&shape));
 }
 
 /// Nodes 6 and 7 are the leaves under node 3. One of them may stand in both places, and the other is free then.
 #[test]
 fn leaf_in_two_places() {
-    let share = |state: &mut [u32], pool: &mut [u32]| {
+    let share = |state: &mut Parts, pool: &mut [u32]| {
         pool[NODE_3 + 2] = 6;
         pool[4 * 6] = 2;
         pool[NODE_7..NODE_7 + 4].copy_from_slice(&[0, 11, 0, 0]);
-        state[3] = 7;
+        state.numbers[3] = 7;
     };
     assert!(broken(share).is_empty());
 }
@@ -236,14 +324,14 @@ fn leaf_in_two_places() {
 /// Node 5 has one leaf, node 4 has two: it may not stand in the place of node 4, though both are of level 1.
 #[test]
 fn node_of_another_size() {
-    let share = |state: &mut [u32], pool: &mut [u32]| {
+    let share = |state: &mut Parts, pool: &mut [u32]| {
         pool[4 + 2] = 5;
         pool[4 * 5] = 2;
         let freed = [(4, 8), (8, 9), (9, 11)];
         for (node, next) in freed {
             pool[4 * node..4 * node + 4].copy_from_slice(&[0, next, 0, 0]);
         }
-        state[3] = 4;
+        state.numbers[3] = 4;
     };
     let shape = "walking from each live frame gives a tree of the shape";
     assert_eq!(broken(share), [shape]);
@@ -255,12 +343,14 @@ fn links_to_nowhere() {
     assert!(!broken(|_, pool| pool[1] = 0).is_empty());
     assert!(!broken(|_, pool| pool[1] = 20).is_empty());
     assert!(!broken(|_, pool| pool[1] = NONE).is_empty());
-    assert!(!broken(|state, _| state[FRAME_0 + 5] = NONE).is_empty());
-    assert!(!broken(|state, _| state[6] = NONE).is_empty());
-    assert!(!broken(|state, _| state[5] = NONE).is_empty());
+    assert!(!broken(|state, _| state.frames[FRAME_0 + 5] = NONE).is_empty());
+    assert!(!broken(|state, _| state.deques[1] = NONE).is_empty());
+    assert!(!broken(|state, _| state.deques[0] = NONE).is_empty());
     assert!(!broken(|state, pool| {
-        state.fill(NONE);
-        state[0..3].copy_from_slice(&[2, 5, 20]);
+        for part in state.each_mut() {
+            part.fill(NONE);
+        }
+        state.numbers[..3].copy_from_slice(&[2, 5, 20]);
         pool.fill(NONE);
     })
     .is_empty());

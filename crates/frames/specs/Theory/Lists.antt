@@ -160,10 +160,6 @@ module _ (ds : List ℕ) (w : ℕ) (s : Shaped ds) (h : w < maxWorkers) where
   unfolding pop
   pop-elsewhere = shrunk-elsewhere ds ds w s h (elsewhere-refl ds w) (s .zeros w h)
 
-  pub pop-size : size (pop ds w) w ≡ size ds w - 1
-  unfolding pop
-  pop-size = shrunk-size ds ds w s h (elsewhere-refl ds w) (s .zeros w h)
-
   pub pop-shaped : Shaped (pop ds w)
   unfolding pop
   pop-shaped = shrunk-shaped ds ds w s h (elsewhere-refl ds w) (s .zeros w h)
@@ -186,10 +182,6 @@ module _ (ds : List ℕ) (w : ℕ) (s : Shaped ds) (h : w < maxWorkers) where
   pub dropTop-elsewhere : Elsewhere w ds (dropTop ds w)
   unfolding dropTop shifted
   dropTop-elsewhere = shrunk-elsewhere ds shifted w s h shifted-elsewhere shifted-zeros
-
-  pub dropTop-size : size (dropTop ds w) w ≡ size ds w - 1
-  unfolding dropTop shifted
-  dropTop-size = shrunk-size ds shifted w s h shifted-elsewhere shifted-zeros
 
   pub dropTop-shaped : Shaped (dropTop ds w)
   unfolding dropTop shifted

@@ -1,5 +1,4 @@
--- A record after a store: at its own place, elsewhere, stored again, and where what is stored stood there before; one word of a record
--- stored; the places past the table.
+-- A record after a store: at its own place, elsewhere, stored again; one word of a record stored; the places past the table.
 use mathlib.Core.Path.{_≡_, refl, sym, ap, _∙_}
 use mathlib.Core.Logic.{_≢_}
 use mathlib.Core.List.{List, [], _∷_}
@@ -63,10 +62,6 @@ frame-words fs p f =
 pub length-setFrame : (fs : List ℕ) (p : ℕ) (f : Frame) → length (setFrame fs p f) ≡ length fs
 unfolding setFrame
 length-setFrame fs p f = simp length-set
-
-pub set-frame-at : (fs : List ℕ) (p : ℕ) → setFrame fs p (frameAt fs p) ≡ fs
-unfolding setFrame frameAt
-set-frame-at fs p = simp set-getD
 
 -- two tables whose words agree at the records
 frame-by : (fs gs : List ℕ) (p q : ℕ) → ((i : ℕ) → i < recordWords → getD fs (recordWords * p + i) 0 ≡ getD gs (recordWords * q + i) 0) → frameAt fs p ≡ frameAt gs q

@@ -1,5 +1,5 @@
 use borrow.Author.Needs.{needs}
-use Rattle.pool_check.specs.Correct.{check-answer, check-work}
+use Rattle.pool_check.specs.Theory.Correct.{check-answer, check-work}
 use Rattle.pool_check.proofs.check_pool.Statement.{statement}
 use Rattle.pool_check.proofs.check_pool.Tie as tie
 

@@ -11,7 +11,8 @@ use Rattle.words.specs.Tests.{decided}
 use Rattle.soundness.specs.declared.Checked.{Checked}
 use Rattle.soundness.specs.declared.Checked.the-variants.{NoRoom, Sound}
 use Rattle.semantics.specs.Entries.{State, fits, checkedState, recordsFrom, runOn, unfitTape, TapeResult, tapeChecked, tapeWith, tapeOn}
-use Rattle.semantics.specs.Theory.Lengths.{Fits, true-fits, state-back}
+use Rattle.semantics.specs.Promises.{Fits}
+use Rattle.semantics.specs.Theory.Fitting.{true-fits, state-back}
 
 -- of a tape's result
 pub record Untouched (s : State) (ws answers : List ℕ) (o : TapeResult) : Type 0 where

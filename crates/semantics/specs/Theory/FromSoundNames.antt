@@ -15,7 +15,7 @@ use Rattle.soundness.specs.Soundness.{isChild as isChildAt}
 use Rattle.model.specs.Machine.{Name, isChild}
 use Rattle.model.specs.Theory.Names.{below, owns}
 use Rattle.semantics.specs.Theory.Relation.{parentPlace}
-use Rattle.semantics.specs.Theory.Sentences.{Lives, NoFrame, HasParent, OnlyMain, FramesFacts, child-at, at-child}
+use Rattle.soundness.specs.Theory.Sentences.{Lives, NoFrame, HasParent, OnlyMain, FramesFacts, child-at, at-child}
 use Rattle.semantics.specs.SoundMachine.{nameFrom, nameOf, placeOf}
 
 -- ---- families of names

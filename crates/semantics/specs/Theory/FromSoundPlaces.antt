@@ -13,12 +13,13 @@ use borrow.Author.Tests.{eqb-true, eq-eqb, ne-eqb}
 use Rattle.words.specs.Basics.{sum, joined, below, δ, count}
 use Rattle.words.specs.Tests.{decided, both, lt-of, ltb-of}
 use Rattle.words.specs.Counting.{δ-same, δ-other, count-nil, count-cons, count-append, sum-cong, sum-upd, sum-zero, sum-pos, sum-first, hit, miss, range, when, when-zero, when-pos}
+use Rattle.words.specs.Tallies.{and-of}
 use Rattle.frames.specs.Frames.{frameAt}
 use Rattle.frames.specs.Deques.{size, place, dequeList, placesTo}
 use Rattle.frames.specs.Theory.Lists.{list-empty}
 use Rattle.soundness.specs.Soundness.{lives, isChild, children, inDeques, rootsBelow, liveRoots}
-use Rattle.semantics.specs.Theory.FreeLists.{and-of, once-short}
-use Rattle.semantics.specs.Theory.Sentences.{Lives, stands, stands-is, FramesFacts}
+use Rattle.soundness.specs.Theory.FreeLists.{once-short}
+use Rattle.soundness.specs.Theory.Sentences.{Lives, stands, stands-is, FramesFacts}
 use Rattle.semantics.specs.SoundMachine.{waitingBelow, waitingPlaces, runningPlaces, livePlaces}
 
 -- ---- membership counted
@@ -36,7 +37,7 @@ count-In p (x ∷ L) h = elim (ℕ-discrete p x) [ yes e ↦ here e | no e ↦ t
 
 pub below-of : (N : ℕ) (L : List ℕ) → ((p : ℕ) → In p L → p < N) → below N L ≡ true
 below-of N [] h = refl
-below-of N (x ∷ L) h = and-of (ltb x N) (below N L) (ltb-of (h x (here refl))) (below-of N L (λ p m. h p (there m)))
+below-of N (x ∷ L) h = and-of (ltb-of (h x (here refl))) (below-of N L (λ p m. h p (there m)))
 
 -- ---- a sum over a list of places, each there once
 
@@ -140,7 +141,7 @@ module _ (ds fs : List ℕ) where
 
   pub of-waiting : (p : ℕ) → p < 64 → Lives fs p → stands ds p ≡ 0 → count p (waitingPlaces ds fs) ≡ 1
   of-waiting p b l z =
-      waiting-is 64 p b ∙ hit (and-of (lives fs p) (eqb (inDeques ds p) 0) (eq-eqb (frameAt fs p .live) 1 l) (eq-eqb (inDeques ds p) 0 (stands-is ds p ∙ z)))
+      waiting-is 64 p b ∙ hit (and-of (eq-eqb (frameAt fs p .live) 1 l) (eq-eqb (inDeques ds p) 0 (stands-is ds p ∙ z)))
 
 -- ---- all live frames
 

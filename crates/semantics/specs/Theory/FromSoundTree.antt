@@ -19,7 +19,7 @@ use Rattle.model.specs.Theory.FrameTree.{Rooted as RootedFrames}
 use Rattle.model.specs.Theory.DequeShape.{Linked, OnlyChild, nothing, DequeShape}
 use Rattle.model.specs.Theory.Children.{In-hasChild}
 use Rattle.semantics.specs.Theory.Relation.{childCount, placesOf, rootsOf}
-use Rattle.semantics.specs.Theory.Sentences.{Lives, FramesFacts, child-at}
+use Rattle.soundness.specs.Theory.Sentences.{Lives, FramesFacts, child-at}
 use Rattle.semantics.specs.SoundMachine.{nameOf, placeOf, frameOf, framesOf}
 use Rattle.semantics.specs.Theory.FromSoundNames.{Rooted, owns-same, name-main, name-child, place-name, name-injective, small-name, child-name, name-of-child, child-test}
 use Rattle.semantics.specs.Theory.FromSoundPlaces.{In-count, total}

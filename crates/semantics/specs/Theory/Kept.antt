@@ -19,8 +19,9 @@ use Rattle.semantics.specs.Core.{Core, stepOn}
 use Rattle.semantics.specs.Entries.{headOf, recordOn}
 use Rattle.semantics.specs.Ranges.{Kept}
 use Rattle.semantics.specs.Theory.FromSoundRelates.{countedCore}
+use Rattle.semantics.specs.SoundMachine.{machineOf}
 use Rattle.semantics.specs.Theory.Simulation.{numbers-kept}
-use Rattle.semantics.specs.Theory.SoundSteps.{step-relates, step-sound}
+use Rattle.semantics.specs.Theory.SoundSteps.{is-sound, sound-carried, step-carried}
 
 -- ---- the check finds it so
 
@@ -53,16 +54,16 @@ core-counted c K = ap₂ at (sym (K .height-is)) (sym (K .counted))
 pub kept-step : (c : Core) → Kept c → (st : Step) → Kept (stepOn c st .core)
 kept-step c K st =
     let s = c .head .numbers in
-    let r = step-relates s (c .deques) (c .frames) (c .pool) st (K .long-deques) (K .long-frames) (K .is-sound) in
-    let t = step-sound s (c .deques) (c .frames) (c .pool) st (K .long-deques) (K .long-frames) (K .is-sound) in
-    let n = numbers-kept (countedCore s (c .deques) (c .frames) (c .pool)) st in
+    let c₀ = countedCore s (c .deques) (c .frames) (c .pool) in
+    let C = step-carried (machineOf s (c .deques) (c .frames) (c .pool)) c₀ st (sound-carried s (c .deques) (c .frames) (c .pool) (K .long-deques) (K .long-frames) (K .is-sound)) in
+    let n = numbers-kept c₀ st in
     subst (λ (d : Core). Kept (stepOn d st .core)) (core-counted c K)
     (record {
-      is-sound = t .0;
-      counted = sym (t .1);
+      is-sound = is-sound C .0;
+      counted = sym (is-sound C .1);
       height-is = n .height ∙ ap height (sym (n .splitters));
-      long-deques = r .formed .shaped .long;
-      long-frames = r .formed .long;
+      long-deques = C .related .formed .shaped .long;
+      long-frames = C .related .formed .long;
     })
 
 pub kept-record : (c : Core) → Kept c → (d : Decoded) → Kept (recordOn c d .core)

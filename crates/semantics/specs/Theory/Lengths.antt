@@ -1,15 +1,13 @@
--- The lengths of a state's parts: the entries take only a state that fits, and every call leaves one.
-use mathlib.Core.Path.{_≡_, refl, ap, _∙_}
-use mathlib.Core.Bool.{Bool, true, cond, _||_, _&&_}
+-- Every entry leaves a state whose parts have their lengths, if it had one.
+use mathlib.Core.Path.{_≡_, refl, _∙_}
+use mathlib.Core.Bool.{Bool, cond, _||_}
 use mathlib.Core.Logic.{inl, inr}
 use mathlib.Core.List.{List, [], _∷_}
 use Prim.Native.Nat.{ℕ, zero, suc, _+_, _-_}
-use native.Mathlib.Omega.{arith}
 use lib.ListN.{length, replicate, length-replicate}
 use lib.Dec.{eqb, ltb}
-use borrow.Author.Tests.{eqb-true, eq-eqb}
 use Rattle.words.specs.Basics.{none}
-use Rattle.words.specs.Tests.{decided, both}
+use Rattle.words.specs.Tests.{decided}
 use Rattle.sizes.specs.Sizes.{treeNodes}
 use Rattle.frames.specs.declared.Frame.{Frame}
 use Rattle.frames.specs.Widths.{frameWords, dequeWords}
@@ -21,7 +19,6 @@ use Rattle.frames.specs.Theory.Cells.{length-setSize, length-setPlace}
 use Rattle.frames.specs.Theory.Start.{length-init}
 use Rattle.soundness.specs.declared.Checked.{Checked}
 use Rattle.soundness.specs.declared.Checked.the-variants.{NoRoom, Sound}
-use Rattle.soundness.specs.Numbers.{numbersIn, numberWords}
 use Rattle.model.specs.declared.Step.{Step}
 use Rattle.model.specs.declared.Step.the-variants.{Spawn, Return, Steal, Sync, Read, Write}
 use Rattle.model.specs.declared.Decoded.{Decoded}
@@ -29,36 +26,10 @@ use Rattle.model.specs.declared.Decoded.the-variants.{Valid, Invalid}
 use Rattle.model.specs.Record.{recordOf}
 use Rattle.semantics.specs.declared.Refusal.{Refusal}
 use Rattle.semantics.specs.Core.{Core, StepResult, tableOf, judged, testsOf, spawnOn, returnOn, stealOn, syncOn, readOn, writeOn, doneBy, stepOn}
-use Rattle.semantics.specs.Entries.{State, fits, coreOf, stateOf, checkedState, zeros, StartResult, wholeNodes, firstState, startWith, startOn, outsideChecked, outsideWith, outsideOn, recordOn, putAnswer, recordsResult, runOn, recordsOf, unfitTape, tapeChecked, tapeWith, tapeOn}
+use Rattle.semantics.specs.Entries.{State, coreOf, stateOf, checkedState, zeros, StartResult, wholeNodes, firstState, startWith, startOn, outsideChecked, outsideWith, outsideOn, recordOn, recordsResult, runOn, recordsOf, unfitTape, tapeChecked, tapeWith, tapeOn}
+use Rattle.semantics.specs.Promises.{Fits}
 use Rattle.semantics.specs.Calls.{HostCall, outside, tape, StateAndPool, afterCall, afterCalls}
-
-pub record Fits (s : State) : Type 0 where
-  pub numbers : length (s .numbers) ≡ 5
-  pub deques : length (s .deques) ≡ dequeWords
-  pub frames : length (s .frames) ≡ frameWords
-
-pub fits-true : (s : State) → Fits s → fits s ≡ true
-fits-true s F = rw (eq-eqb (length (s .numbers)) 5 (F .numbers), eq-eqb (length (s .deques)) dequeWords (F .deques), eq-eqb (length (s .frames)) frameWords (F .frames))
-
-pub true-fits : (s : State) → fits s ≡ true → Fits s
-true-fits s e =
-    let x = both (eqb (length (s .numbers)) 5) (eqb (length (s .deques)) dequeWords && eqb (length (s .frames)) frameWords) e in
-    let y = both (eqb (length (s .deques)) dequeWords) (eqb (length (s .frames)) frameWords) (x .1) in
-    record { numbers = eqb-true (length (s .numbers)) 5 (x .0); deques = eqb-true (length (s .deques)) dequeWords (y .0); frames = eqb-true (length (s .frames)) frameWords (y .1) }
-
--- ---- a list of five words is its five words
-
-five-back : (ns : List ℕ) → length ns ≡ 5 → numberWords (numbersIn ns) ≡ ns
-five-back [] e = absurd (omega arith)
-five-back (a ∷ []) e = absurd (omega arith)
-five-back (a ∷ b ∷ []) e = absurd (omega arith)
-five-back (a ∷ b ∷ c ∷ []) e = absurd (omega arith)
-five-back (a ∷ b ∷ c ∷ d ∷ []) e = absurd (omega arith)
-five-back (a ∷ b ∷ c ∷ d ∷ f ∷ []) e = refl
-five-back (a ∷ b ∷ c ∷ d ∷ f ∷ g ∷ ns) e = absurd (omega arith)
-
-pub state-back : (s : State) (ws : List ℕ) (k : ℕ) → Fits s → stateOf (coreOf s ws k) ≡ s
-state-back s ws k F = ap (λ (ns : List ℕ). record { numbers = ns; deques = s .deques; frames = s .frames }) (five-back (s .numbers) (F .numbers))
+pub use Rattle.semantics.specs.Theory.Fitting.{fits-true, true-fits, state-back}
 
 -- ---- the deques
 
@@ -162,7 +133,7 @@ record-fits c Invalid f = f
 run-fits : (ds : List Decoded) (c : Core) (as′ : List ℕ) (k : ℕ) → Fits (stateOf c) → Fits (stateOf (runOn (recordsResult c as′) k ds .core))
 unfolding runOn
 run-fits [] c as′ k f = f
-run-fits (d ∷ ds) c as′ k f = run-fits ds (recordOn c d .core) (putAnswer as′ k (recordOn c d .answer)) (k + 2) (record-fits c d f)
+run-fits (d ∷ ds) c as′ k f = run-fits ds (recordOn c d .core) _ (k + 2) (record-fits c d f)
 
 -- ---- the entries
 

@@ -11,6 +11,7 @@ use borrow.Author.Tests.{eq-eqb}
 use Rattle.words.specs.Basics.{none, Chain, below, δ, count}
 use Rattle.words.specs.Chains.{chain-start}
 use Rattle.words.specs.Counting.{δ-same, δ-other, δ-le, count-cons, sum-ge}
+use Rattle.words.specs.Tallies.{and-of}
 use Rattle.words.specs.Tests.{ltb-of}
 use Rattle.sizes.specs.Sizes.{height, width, treeNodes}
 use Rattle.sizes.specs.Heights.{height-covers, height-le}
@@ -27,10 +28,10 @@ use Rattle.frames.specs.Theory.Places.{nextFree}
 use Rattle.soundness.specs.Soundness.{lives, rootsBelow, liveRoots, freeNodes}
 use Rattle.semantics.specs.Core.{Core, actingIn}
 use Rattle.semantics.specs.Entries.{numbersOf, stateOf}
-use Rattle.semantics.specs.Theory.FreeLists.{and-of, once-short}
-use Rattle.semantics.specs.Theory.Facts.{Lives, FramesFacts, SoundFacts}
-use Rattle.semantics.specs.Theory.Sentences.{sound-facts}
-use Rattle.semantics.specs.Theory.PoolSentences.{pool-fact}
+use Rattle.soundness.specs.Theory.FreeLists.{once-short}
+use Rattle.soundness.specs.Theory.Facts.{Lives, FramesFacts, SoundFacts}
+use Rattle.soundness.specs.Theory.Sentences.{sound-facts}
+use Rattle.soundness.specs.Theory.PoolSentences.{pool-fact}
 use Rattle.semantics.specs.Theory.FromSoundPlaces.{count-In, below-of, roots-below, deque-live}
 use Rattle.semantics.specs.Ranges.{Kept, Ready}
 
@@ -67,7 +68,7 @@ module _ {workers first : ℕ} {ds fs : List ℕ} (F : FramesFacts workers first
   deque-room : first < 64 → (w : ℕ) → w < 8 → size ds w < 64
   deque-room h w b =
       let L = dequeList ds w in
-      let short = once-short (λ x. x) 64 (first ∷ L) (and-of _ (below 64 L) (ltb-of h) (below-of 64 L (λ p m. deque-live F few w p b m .0)))
+      let short = once-short (λ x. x) 64 (first ∷ L) (and-of (ltb-of h) (below-of 64 L (λ p m. deque-live F few w p b m .0)))
       (λ p i. elim (ℕ-discrete p first) [
         | yes e ↦ omega (arith, count-cons p first L, ap (λ q. count q L) e, first-out h w b, δ-le p first)
         | no e ↦ omega (arith, count-cons p first L, δ-other p first e, deque-once w b p i)

@@ -6,7 +6,7 @@ use mathlib.Core.List.{List, [], _∷_}
 use Prim.Native.Nat.{ℕ, zero, suc, _+_, _*_, _/_, _≤_, _<_}
 use native.Mathlib.Nat.{mul-div-le}
 use native.Mathlib.Omega.{arith}
-use lib.ListN.{length, drop, set, length-set}
+use lib.ListN.{length, drop, set}
 use lib.Seq.{drop-set-lt}
 use lib.Dec.{eqb, leb}
 use borrow.Author.Tests.{leb-false, ne-eqb}
@@ -20,11 +20,13 @@ use Rattle.model.specs.Record.{recordOf}
 use Rattle.semantics.specs.declared.Answer.{Answer}
 use Rattle.semantics.specs.Answers.{answerWords, wordsIn}
 use Rattle.semantics.specs.Core.{Core}
-use Rattle.semantics.specs.Entries.{State, fits, coreOf, stateOf, numbersOf, checkedState, StartResult, wholeNodes, recordOn, outsideChecked, outsideWith, outsideOn, recordsFrom, recordsOf, putAnswer, recordsResult, runOn, unfitTape, TapeResult, tapeChecked, tapeWith, tapeOn}
+use Rattle.semantics.specs.Entries.{State, fits, coreOf, stateOf, numbersOf, checkedState, StartResult, wholeNodes, recordOn, outsideChecked, outsideWith, outsideOn, recordsOf, putAnswer, recordsResult, runOn, unfitTape, TapeResult, tapeChecked, tapeWith, tapeOn}
 use Rattle.semantics.specs.Calls.{Start, startResult, HostCall, outside, tape, StateAndPool, refusedWhole}
 use Rattle.semantics.specs.Demands.{RefusedStart, AcceptedStart, IsRefused, RefusedCall, SamePast, beforeCheck, WorkAfter}
-use Rattle.semantics.specs.Theory.Lengths.{Fits, true-fits, state-back}
+use Rattle.semantics.specs.Promises.{Fits}
+use Rattle.semantics.specs.Theory.Fitting.{true-fits, state-back}
 use Rattle.semantics.specs.Theory.Words.{words-low, words-back, not-whole, refused-keeps}
+use Rattle.semantics.specs.Theory.TapeWords.{length-records, put-long}
 use Rattle.semantics.specs.Theory.Starts.{start-cases, started-fit}
 
 -- ---- a start
@@ -95,14 +97,6 @@ refused-call h (tape bytes work answers) r =
 
 -- ---- the answer words past the last record's
 
-pub length-records : (k : ℕ) (bytes : List ℕ) (at : ℕ) → length (recordsFrom k bytes at) ≡ k
-unfolding recordsFrom
-length-records zero bytes at = refl
-length-records (suc k) bytes at = ap suc (length-records k bytes (at + 8))
-
-pub put-long : (as′ : List ℕ) (k : ℕ) (a : Answer) → length (putAnswer as′ k a) ≡ length as′
-put-long as′ k a = simp length-set
-
 put-past : (as′ : List ℕ) (k m : ℕ) (a : Answer) → suc k < m → drop m (putAnswer as′ k a) ≡ drop m as′
 put-past as′ k m a h = drop-set-lt m (set as′ k (answerWords a .0)) (suc k) (answerWords a .1) h ∙ drop-set-lt m as′ k (answerWords a .0) (omega arith)
 
@@ -115,8 +109,8 @@ unfolding runOn
 run-past [] c as′ k m h = (refl, refl)
 run-past (d ∷ ds) c as′ k m h =
     let a = recordOn c d .answer in
-    let r = run-past ds (recordOn c d .core) (putAnswer as′ k a) (k + 2) m (omega arith) in
-    (r .0 ∙ put-long as′ k a, r .1 ∙ put-past as′ k m a (omega arith))
+    let r = run-past ds (recordOn c d .core) _ (k + 2) m (omega arith) in
+    (r .0 ∙ put-long as′ _ a, r .1 ∙ put-past as′ _ m a (omega arith))
 
 module _ (s : State) (ws work bytes rs : List ℕ) where
   tape-checked-past : (k : Checked) → Past (2 * (length bytes / 8)) rs (tapeChecked k s ws work bytes rs .answers)

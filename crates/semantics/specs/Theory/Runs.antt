@@ -6,8 +6,7 @@ use mathlib.Core.Logic.{inl, inr}
 use mathlib.Core.List.{List, [], _∷_, _++_}
 use Prim.Native.Nat.{ℕ, zero, suc, _+_, _*_, _/_, _%_, _≤_, _<_}
 use native.Mathlib.Omega.{arith}
-use lib.ListN.{length, getD, set, drop, length-set, length-append}
-use lib.Seq.{getD-set-same, getD-set-other}
+use lib.ListN.{length, getD, length-append}
 use lib.Dec.{leb, ltb, eqb}
 use borrow.Author.Tests.{ltb-false}
 use Rattle.words.specs.Tests.{decided, neither}
@@ -18,12 +17,7 @@ use Rattle.soundness.specs.Soundness.{checked, cleared}
 use Rattle.model.specs.declared.Decoded.{Decoded}
 use Rattle.model.specs.declared.Decoded.the-variants.{Valid, Invalid}
 use Rattle.model.specs.Record.{recordOf}
-use Rattle.model.specs.Machine.{Machine, live}
-use Rattle.model.specs.Machine.{freeNodes as plainFree}
-use Rattle.model.specs.Theory.FrameTree.{FrameTree}
-use Rattle.model.specs.Theory.DequeShape.{DequeInvariant}
-use Rattle.model.specs.Theory.FreshMarks.{MarkInvariant}
-use Rattle.model.specs.Theory.Bounds.{Bounded}
+use Rattle.model.specs.Machine.{Machine}
 use Rattle.semantics.specs.declared.Refusal.the-variants.{Tape, Work}
 use Rattle.semantics.specs.declared.Answer.{Answer}
 use Rattle.semantics.specs.Answers.{answerWords, wordsIn}
@@ -31,15 +25,14 @@ use Rattle.semantics.specs.Core.{Core}
 use Rattle.semantics.specs.Entries.{State, numbersOf, coreOf, stateOf, isSound, checkedState, chainFree, recordOn, OutsideResult, outsideDone, outsideRefused, outsideChecked, outsideWith, outsideOn, recordsOf, putAnswer, RecordsResult, recordsResult, runOn, TapeResult, tapeDone, tapeRefused, tapeChecked, unfitTape, tapeWith, tapeOn}
 use Rattle.semantics.specs.Calls.{HostCall, outside, tape, StateAndPool, afterCall, afterCalls, Exchange, refusedWhole, exchangesFrom, exchangesOf, exchanges, recordsIn, answersIn, freeAfter, coreIn, freeCounts}
 use Rattle.semantics.specs.Demands.{Specification, answersBy, machineBy, Answers}
-use Rattle.semantics.specs.Theory.Relation.{Relates}
-use Rattle.semantics.specs.Theory.Pools.{LiveTrees, Beyond}
+use Rattle.semantics.specs.Theory.Pools.{Beyond}
 use Rattle.semantics.specs.Theory.FromSoundRelates.{map-append}
 use Rattle.semantics.specs.Theory.Simulation.{numbers-kept}
-use Rattle.semantics.specs.Theory.ToSound.{to-sound}
-use Rattle.semantics.specs.Theory.SoundSteps.{step-beyond}
-use Rattle.semantics.specs.Theory.Lengths.{Fits, fits-true}
+use Rattle.semantics.specs.Theory.SoundSteps.{step-beyond, Carried, is-sound}
+use Rattle.semantics.specs.Promises.{Fits}
+use Rattle.semantics.specs.Theory.Fitting.{fits-true}
 use Rattle.semantics.specs.Theory.Words.{words-low, words-back, not-whole}
-use Rattle.semantics.specs.Theory.RefusedCalls.{length-records, put-long}
+use Rattle.semantics.specs.Theory.TapeWords.{length-records, records-from, put-long, put-before, put-first, put-second}
 
 -- ---- a core that the machine M follows
 
@@ -50,14 +43,6 @@ stateAndPool c = record { state = stateOf c; pool = c .pool }
 -- the nodes on the free chain after a record
 abbrev pub freeLeft : Core → Decoded → ℕ
 freeLeft c d = chainFree (stateOf (recordOn c d .core)) (recordOn c d .core .pool)
-
-pub record Carried (M : Machine) (c : Core) : Type 0 where
-  pub related : Relates (LiveTrees (c .head .numbers .nodes) (M .splitters)) M c
-  pub tree : FrameTree M
-  pub deques : DequeInvariant M
-  pub marks : MarkInvariant (live M)
-  pub bounds : Bounded (M .splitters) (live M)
-  pub same-free : c .head .«free_count» ≡ plainFree M
 
 -- what a relation has to do: each record keeps it, and is answered as S says
 pub record Laws (S : Specification) (Follows : Machine → Core → Type 0) : Type 0 where
@@ -72,9 +57,6 @@ pub record KeptBy (Follows : Machine → Core → Type 0) (h : StateAndPool) (M 
   pub follows : Follows M core
 
 module _ {M : Machine} {c : Core} (K : Carried M c) where
-  pub is-sound : (isSound (stateOf c) (c .pool) ≡ true) × (chainFree (stateOf c) (c .pool) ≡ c .head .«free_count»)
-  is-sound = to-sound M c (K .related) (K .tree) (K .deques)
-
   core-fits : Fits (stateOf c)
   core-fits = record { numbers = refl; deques = K .related .formed .shaped .long; frames = K .related .formed .long }
 
@@ -86,7 +68,7 @@ module _ {M : Machine} {c : Core} (K : Carried M c) where
       withHeight q = record { head = record { numbers = c .head .numbers; height = q; «free_count» = c .head .«free_count» }; deques = c .deques; frames = c .frames; pool = c .pool }
 
   core-counted : coreIn (stateAndPool c) ≡ c
-  core-counted = ap (coreOf (stateOf c) (c .pool)) (is-sound .1) ∙ core-back
+  core-counted = ap (coreOf (stateOf c) (c .pool)) (is-sound K .1) ∙ core-back
 
   record-beyond : (d : Decoded) → Beyond (c .head .numbers .nodes) (c .pool) (recordOn c d .core .pool)
   record-beyond (Valid st) = step-beyond M c (K .related) (K .tree) (K .deques) (K .same-free) st
@@ -96,7 +78,7 @@ module _ {M : Machine} {c : Core} (K : Carried M c) where
 
   check-long : (work : List ℕ) → leb (c .head .numbers .nodes) (length work) ≡ true → checkedState (stateOf c) (c .pool) work ≡ Sound (c .head .«free_count»)
   unfolding checked
-  check-long work e = rw (e, is-sound .0, is-sound .1)
+  check-long work e = rw (e, is-sound K .0, is-sound K .1)
 
   check-short : (work : List ℕ) → leb (c .head .numbers .nodes) (length work) ≡ false → checkedState (stateOf c) (c .pool) work ≡ NoRoom
   unfolding checked
@@ -164,21 +146,6 @@ module _ {M : Machine} {c : Core} (K : Carried M c) where
 
   tape-not : (bytes work as′ : List ℕ) → unfitTape bytes as′ ≡ true → called (stateAndPool c) (tape bytes work as′) ≡ (stateAndPool c, [])
   tape-not bytes work as′ t = ap (tapeTold bytes) (tape-unfit K bytes work as′ t)
-
--- ---- the answer words of a tape
-
-records-from : (as′ : List ℕ) (k : ℕ) (ds : List Decoded) → recordsIn (exchangesFrom as′ k ds) ≡ ds
-records-from as′ k [] = refl
-records-from as′ k (d ∷ ds) = ap (λ z. d ∷ z) (records-from as′ (k + 2) ds)
-
-put-before : (as′ : List ℕ) (k j : ℕ) (a : Answer) → j < k → getD (putAnswer as′ k a) j 0 ≡ getD as′ j 0
-put-before as′ k j a h = getD-set-other (set as′ k (answerWords a .0)) (suc k) j (answerWords a .1) 0 (omega arith) ∙ getD-set-other as′ k j (answerWords a .0) 0 (omega arith)
-
-put-first : (as′ : List ℕ) (k : ℕ) (a : Answer) → suc k < length as′ → getD (putAnswer as′ k a) k 0 ≡ answerWords a .0
-put-first as′ k a h = getD-set-other (set as′ k (answerWords a .0)) (suc k) k (answerWords a .1) 0 (omega arith) ∙ getD-set-same as′ k (answerWords a .0) 0 (omega arith)
-
-put-second : (as′ : List ℕ) (k : ℕ) (a : Answer) → suc k < length as′ → getD (putAnswer as′ k a) (suc k) 0 ≡ answerWords a .1
-put-second as′ k a h = getD-set-same (set as′ k (answerWords a .0)) (suc k) (answerWords a .1) 0 (omega (arith, length-set as′ k (answerWords a .0)))
 
 -- ---- lists joined
 

@@ -3,26 +3,29 @@ use mathlib.Core.Path.{_≡_, refl, sym, ap, _∙_, subst}
 use mathlib.Core.Bool.{true}
 use mathlib.Core.Logic.{inl, inr}
 use mathlib.Core.List.{List, _∷_, _++_}
-use Prim.Native.Nat.{ℕ, zero, suc, _<_}
+use Prim.Native.Nat.{ℕ, zero, suc, _+_, _<_}
 use native.Mathlib.Omega.{arith}
 use lib.ListN.{length, length-map}
-use Rattle.sizes.specs.Sizes.{height}
-use Rattle.soundness.specs.Soundness.{sound, freeCount}
 use Rattle.pool.specs.Pool.{retain, release}
 use Rattle.pool.specs.Pool.{write as writePath}
+use Rattle.frames.specs.Widths.{frameWords, dequeWords}
+use Rattle.soundness.specs.declared.Numbers.{Numbers}
+use Rattle.soundness.specs.Soundness.{sound}
 use Rattle.model.specs.declared.Step.{Step}
 use Rattle.model.specs.declared.Step.the-variants.{Spawn, Return, Steal, Sync, Read, Write}
-use Rattle.model.specs.Machine.{Machine, freeNodes}
-use Rattle.model.specs.Steps.{Action, spawn, return, write, turnOf, refusal, step}
+use Rattle.model.specs.Machine.{Machine, live, freeNodes}
+use Rattle.model.specs.Steps.{Action, spawn, return, write, Turn, turnOf, refusal, afterTurn, step}
 use Rattle.model.specs.Theory.Effects.{Passes, rest, Acts, acts}
-use Rattle.model.specs.Theory.RunSteps.{accepted-or-refused, step-kept, sizes-step}
+use Rattle.model.specs.Theory.RunSteps.{accepted-or-refused, step-kept, sizes-turn, sizes-step}
 use Rattle.model.specs.Theory.FrameTree.{FrameTree, tree-turn}
 use Rattle.model.specs.Theory.DequeShape.{DequeInvariant}
 use Rattle.model.specs.Theory.Deques.{deques-turn}
-use Rattle.soundness.specs.declared.Numbers.{Numbers}
-use Rattle.frames.specs.Widths.{frameWords, dequeWords}
+use Rattle.model.specs.Theory.FreshMarks.{MarkInvariant, marks-turn}
+use Rattle.model.specs.Theory.Bounds.{Bounded, bounded-turn}
 use Rattle.semantics.specs.Core.{Core, actingIn, spawnOn, returnOn, stealOn, syncOn, readOn, writeOn, stepOn, doneBy}
+use Rattle.semantics.specs.Entries.{stateOf, isSound, chainFree}
 use Rattle.semantics.specs.SoundMachine.{machineOf}
+use Rattle.semantics.specs.Demands.{withFree}
 use Rattle.semantics.specs.Theory.Relation.{Relates, rootOf, rootsOf}
 use Rattle.semantics.specs.Theory.Places.{length-perm, acting-frame, live-few, treeOf}
 use Rattle.semantics.specs.Theory.RelationFacts.{trees-perm}
@@ -70,7 +73,7 @@ module _ (M : Machine) (c : Core) (r : Relates (LiveTrees (c .head .numbers .nod
 
   -- ---- refused or accepted
 
-  pub unchanged : (st : Step) → 0 < refusal M st → stepOn c st .core ≡ c
+  unchanged : (st : Step) → 0 < refusal M st → stepOn c st .core ≡ c
   unchanged st = go (refusal M st) refl
     where
       go : (k : ℕ) → refusal M st ≡ k → 0 < k → stepOn c st .core ≡ c
@@ -83,32 +86,83 @@ module _ (M : Machine) (c : Core) (r : Relates (LiveTrees (c .head .numbers .nod
     | inr a ↦ subst (λ (d : Core). Beyond (c .head .numbers .nodes) (c .pool) (d .pool)) (sym (unchanged st (a .some-refusal))) (refl, refl)
   ]
 
--- ---- the theorem
+-- ---- a core that the machine M follows
 
--- the frames' and the deques' invariants after a step
-kept : (M : Machine) (st : Step) → FrameTree M → DequeInvariant M → FrameTree (step M st) × DequeInvariant (step M st)
-kept M st tree shape = step-kept (λ K. FrameTree K × DequeInvariant K) M (λ t h i. (tree-turn M t h (i .0), deques-turn M t h (i .0) (i .1))) st (tree, shape)
+pub record Carried (M : Machine) (c : Core) : Type 0 where
+  pub related : Relates (LiveTrees (c .head .numbers .nodes) (M .splitters)) M c
+  pub tree : FrameTree M
+  pub deques : DequeInvariant M
+  pub marks : MarkInvariant (live M)
+  pub bounds : Bounded (M .splitters) (live M)
+  pub same-free : c .head .«free_count» ≡ freeNodes M
 
-module _ (s : Numbers) (ds fs ws : List ℕ) (st : Step) (dlen : length ds ≡ dequeWords) (flen : length fs ≡ frameWords) (e : sound s ds fs ws ≡ true) where
-  simulated : Simulates (LiveTrees (s .nodes) (s .splitters)) (machineOf s ds fs ws) (countedCore s ds fs ws) st
+pub is-sound : {M : Machine} {c : Core} → Carried M c → (isSound (stateOf c) (c .pool) ≡ true) × (chainFree (stateOf c) (c .pool) ≡ c .head .«free_count»)
+is-sound {M} {c} K = to-sound M c (K .related) (K .tree) (K .deques)
+
+-- the plain machine of a sound state follows it
+pub sound-carried : (s : Numbers) (ds fs ws : List ℕ) → length ds ≡ dequeWords → length fs ≡ frameWords → sound s ds fs ws ≡ true → Carried (machineOf s ds fs ws) (countedCore s ds fs ws)
+sound-carried s ds fs ws dlen flen e =
+    let F = from-sound s ds fs ws e dlen flen in
+    record { related = F .0; tree = F .1; deques = F .2; marks = F .3; bounds = F .4; same-free = F .5 }
+
+-- ---- the machine with other free nodes
+
+-- nothing but the free nodes speaks of the machine's nodes
+pub rebased : (M : Machine) (c : Core) (k : ℕ) → Relates (LiveTrees (c .head .numbers .nodes) (M .splitters)) M c → FrameTree M → DequeInvariant M → MarkInvariant (live M) → Bounded (M .splitters) (live M)
+    → c .head .«free_count» ≡ k → Carried (withFree M k) c
+rebased M c k r t d m b e = record {
+  related = record {
+    at = r .at;
+    gs = r .gs;
+    numbers = record {
+      workers = r .numbers .workers;
+      workers-positive = r .numbers .workers-positive;
+      workers-le = r .numbers .workers-le;
+      splitters = r .numbers .splitters;
+      splitters-positive = r .numbers .splitters-positive;
+      splitters-le = r .numbers .splitters-le;
+      height-is = r .numbers .height-is;
+      enough = r .numbers .enough;
+      nodes-le = r .numbers .nodes-le;
+    };
+    formed = r .formed;
+    deques = r .deques;
+    running = r .running;
+    waiting = r .waiting;
+    once = r .once;
+    vacant = r .vacant;
+    trees = r .trees;
+    values = r .values;
+  };
+  tree = record { disjoint = t .disjoint; rooted = t .rooted };
+  deques = record { shape = d .shape; waits = d .waits };
+  marks = m;
+  bounds = b;
+  same-free = omega (arith, e);
+}
+
+-- ---- a step
+
+-- what is kept of the machine
+abbrev Invariants : Machine → Type 0
+Invariants M = FrameTree M × DequeInvariant M × MarkInvariant (live M) × Bounded (M .splitters) (live M)
+
+kept-turn : (M : Machine) (t : Turn) → Passes M t → Invariants M → Invariants (afterTurn M t)
+kept-turn M t h i =
+    (tree-turn M t h (i .0), deques-turn M t h (i .0) (i .1), marks-turn M t h (i .0) (i .2), subst (λ n. Bounded n (live (afterTurn M t))) (sym (sizes-turn M t .splitters)) (bounded-turn M t h (i .3)))
+
+module _ (M : Machine) (c : Core) (st : Step) (K : Carried M c) where
+  pub simulated : Simulates (LiveTrees (c .head .numbers .nodes) (M .splitters)) M c st
   simulated =
-      let F = from-sound s ds fs ws e dlen flen in
-      let r = F .0 in
-      simulates (LiveTrees (s .nodes) (s .splitters)) (machineOf s ds fs ws) (countedCore s ds fs ws) r (live-laws (s .nodes) (s .splitters) (r .numbers .nodes-le) (r .numbers .splitters-positive)) (F .1) (F .2) (F .3) (F .4) (F .5) st
+      let r = K .related in
+      simulates (LiveTrees (c .head .numbers .nodes) (M .splitters)) M c r (live-laws (c .head .numbers .nodes) (M .splitters) (r .numbers .nodes-le) (r .numbers .splitters-positive)) (K .tree) (K .deques) (K .marks) (K .bounds) (K .same-free) st
 
-  -- what the step leaves relates to the plain machine's next
-  pub step-relates : let c = stepOn (countedCore s ds fs ws) st .core in
-      let M = step (machineOf s ds fs ws) st in
-      Relates (LiveTrees (c .head .numbers .nodes) (M .splitters)) M c
-  step-relates =
-      let M = step (machineOf s ds fs ws) st in
-      let c = stepOn (countedCore s ds fs ws) st .core in
-      subst (λ N. Relates (LiveTrees N (M .splitters)) M c) (sym (numbers-kept (countedCore s ds fs ws) st .nodes))
-      (subst (λ n. Relates (LiveTrees (s .nodes) n) M c) (sym (sizes-step (machineOf s ds fs ws) st .splitters)) (simulated .related))
-
-  -- it is sound, and has the free nodes that it says
-  pub step-sound : let c = stepOn (countedCore s ds fs ws) st .core in (sound (c .head .numbers) (c .deques) (c .frames) (c .pool) ≡ true) × (freeCount (c .head .numbers) (c .pool) ≡ c .head .«free_count»)
-  step-sound =
-      let F = from-sound s ds fs ws e dlen flen in
-      let k = kept (machineOf s ds fs ws) st (F .1) (F .2) in
-      to-sound (step (machineOf s ds fs ws) st) (stepOn (countedCore s ds fs ws) st .core) step-relates (k .0) (k .1)
+  -- with the engine's own number of free nodes
+  pub step-carried : Carried (withFree (step M st) (stepOn c st .core .head .«free_count»)) (stepOn c st .core)
+  step-carried =
+      let c′ = stepOn c st .core in
+      let M′ = step M st in
+      let i = step-kept Invariants M (kept-turn M) st (K .tree, K .deques, K .marks, K .bounds) in
+      let r : Relates (LiveTrees (c′ .head .numbers .nodes) (M′ .splitters)) M′ c′ =
+      subst (λ N. Relates (LiveTrees N (M′ .splitters)) M′ c′) (sym (numbers-kept c st .nodes)) (subst (λ n. Relates (LiveTrees (c .head .numbers .nodes) n) M′ c′) (sym (sizes-step M st .splitters)) (simulated .related)) in
+      rebased M′ c′ (c′ .head .«free_count») r (i .0) (i .1) (i .2) (i .3) refl

@@ -37,10 +37,12 @@ use Rattle.semantics.specs.Theory.Pools.{LiveTrees, GoodTrees, good-laws
 use Rattle.semantics.specs.Theory.FromSoundRelates.{map-append}
 use Rattle.semantics.specs.Theory.Simulation.{simulates, numbers-kept}
 use Rattle.semantics.specs.Theory.ToSound.{good-relates, all-free}
-use Rattle.semantics.specs.Theory.Lengths.{Fits, true-fits}
+use Rattle.semantics.specs.Promises.{Fits}
+use Rattle.semantics.specs.Theory.Fitting.{true-fits}
+use Rattle.semantics.specs.Theory.SoundSteps.{Carried}
 use Rattle.semantics.specs.Theory.Starts.{Fit, fit-started, started-fit}
 use Rattle.semantics.specs.Theory.StartRelates.{firstCore, start-relates}
-use Rattle.semantics.specs.Theory.Runs.{stateAndPool, Carried, Laws, KeptBy, Ran, outside-long, call-follows, calls-follow, answers-by}
+use Rattle.semantics.specs.Theory.Runs.{Laws, KeptBy, Ran, outside-long, call-follows, calls-follow, answers-by}
 use Rattle.semantics.specs.Theory.ValidRecords.{valids, trace-told, machine-plain, returned-plain, valids-valid, answers-plain, all-accepted}
 
 -- the core is that of a run from a start which the plain machine M has followed

@@ -14,7 +14,8 @@ use Rattle.semantics.specs.declared.Refusal.{Refusal}
 use Rattle.semantics.specs.declared.Refusal.the-variants.{Values, Workers, Nodes}
 use Rattle.semantics.specs.Answers.{refusalNumber}
 use Rattle.semantics.specs.Entries.{State, fits, StartResult, startRefused, startAccepted, startWith, startOn, wholeNodes}
-use Rattle.semantics.specs.Theory.Lengths.{Fits, fits-true, true-fits}
+use Rattle.semantics.specs.Promises.{Fits}
+use Rattle.semantics.specs.Theory.Fitting.{fits-true, true-fits}
 
 -- the conditions that refusals 1, 2 and 3 test
 pub record Fit (workers : ℕ) (vs ws : List ℕ) : Type 0 where

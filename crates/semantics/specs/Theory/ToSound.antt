@@ -19,9 +19,10 @@ use Rattle.semantics.specs.Core.{Core}
 use Rattle.semantics.specs.Entries.{numbersOf, stateOf}
 use Rattle.semantics.specs.Theory.Relation.{Trees, Relates, rootsOf}
 use Rattle.semantics.specs.Theory.Pools.{LiveTrees, GoodTrees, good-live, live-room}
-use Rattle.semantics.specs.Theory.Facts.{NumbersFacts}
-use Rattle.semantics.specs.Theory.Sentences.{facts-sound}
-use Rattle.semantics.specs.Theory.PoolSentences.{fact-pool, live-pool}
+use Rattle.soundness.specs.Theory.Facts.{NumbersFacts}
+use Rattle.soundness.specs.Theory.Sentences.{facts-sound}
+use Rattle.soundness.specs.Theory.PoolSentences.{fact-pool}
+use Rattle.semantics.specs.Theory.PoolSentences.{live-pool}
 use Rattle.semantics.specs.Theory.ToSoundFrames.{roots-count}
 use Rattle.semantics.specs.Theory.ToSoundDeques.{frames-hold}
 

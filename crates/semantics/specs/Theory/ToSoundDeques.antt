@@ -14,7 +14,7 @@ use Rattle.model.specs.Theory.FrameTree.{FrameTree}
 use Rattle.model.specs.Theory.DequeShape.{Linked, OnlyChild, nothing, DequeInvariant}
 use Rattle.semantics.specs.Core.{Core}
 use Rattle.semantics.specs.Theory.Relation.{Trees, parentPlace, placesOf, Relates}
-use Rattle.semantics.specs.Theory.Facts.{Lives, FramesFacts}
+use Rattle.soundness.specs.Theory.Facts.{Lives, FramesFacts}
 use Rattle.semantics.specs.Theory.ToSoundFrames.{recorded, inside, alive, live-frame, parent-named, deque-size, in-live, one-main, parents, outstanding, placed, places}
 
 module _ {P : Trees} {M : Machine} {c : Core} (R : Relates P M c) (tree : FrameTree M) (inv : DequeInvariant M) where

@@ -24,7 +24,7 @@ use Rattle.model.specs.Theory.DequeShape.{DequeInvariant}
 use Rattle.soundness.specs.Soundness.{isChild as isChildAt, lives, children, liveRoots}
 use Rattle.semantics.specs.Core.{Core}
 use Rattle.semantics.specs.Theory.Relation.{Trees, parentPlace, childCount, placesOf, rootOf, rootsOf, Recorded, Relates}
-use Rattle.semantics.specs.Theory.Facts.{Lives, stands, child-at, at-child, NoFrame, OnlyMain, HasParent, Placed, PlacesFree}
+use Rattle.soundness.specs.Theory.Facts.{Lives, stands, child-at, at-child, NoFrame, OnlyMain, HasParent, Placed, PlacesFree}
 use Rattle.semantics.specs.Theory.FromSoundPlaces.{In-count, below-of, total, roots-below}
 use Rattle.semantics.specs.Theory.ToSoundPlaces.{sum-total, place-count, place-frame, place-apart, count-both, count-joined, in-joined}
 

@@ -1,6 +1,6 @@
 //! The search for a block layout, as in `host/c/search.c`: a branch for each choice of a spare.
 
-use splitter::{tree_nodes, Engine, Refusal, Returned, Synced, NODE_WORDS, STATE_WORDS};
+use splitter::{tree_nodes, Engine, Refusal, Returned, State, Synced, NODE_WORDS};
 
 pub const BLOCKS: u16 = 16;
 const FIRST_SPARE: u16 = 12;
@@ -17,14 +17,14 @@ pub const FACTORY_MARKS: [u32; BLOCKS as usize] = [0, 0, 0, BAD, 0, 0, 0, 0, 0, 
 
 /// Memory to lend, for some number of nodes.
 pub struct Memory {
-    pub state: [u32; STATE_WORDS],
+    pub state: State,
     pub pool: Vec<u32>,
     pub work: Vec<u32>,
 }
 
 impl Memory {
     pub fn new(nodes: usize) -> Memory {
-        Memory { state: [0; STATE_WORDS], pool: vec![0; nodes * NODE_WORDS], work: vec![0; nodes] }
+        Memory { state: State::ZERO, pool: vec![0; nodes * NODE_WORDS], work: vec![0; nodes] }
     }
 
     pub fn lend(&mut self) -> Engine<'_> {

@@ -1,7 +1,7 @@
 //! A tape, and each refusal once.
 
 use crate::layout::{Memory, BLOCKS, FACTORY_MARKS};
-use splitter::{answer, answers, tree_nodes, Engine, Refusal, Returned, Step};
+use splitter::{answer, answers, raw, tree_nodes, Engine, Refusal, Returned, Step};
 use std::error::Error;
 use std::fmt::Debug;
 
@@ -66,9 +66,10 @@ fn refused_calls(memory: &mut Memory) -> Outcome {
     let short = work.len() - 1;
     let mut engine = Engine { state, pool, work: &mut work[..short] };
     show(engine.read(0, 3), Refusal::ShortWork, "a work slice with a word too few")?;
-    let short = state.len() - 1;
-    let mut engine = Engine { state: &mut state[..short], pool, work };
-    show(engine.read(0, 3), Refusal::ShortState, "a state slice with a word too few")?;
+    let mut parts = state.parts();
+    parts.frames = &mut parts.frames[1..];
+    let words = raw::step(parts, pool, work, [5, 0, 3, 0]);
+    show(answer(words), Refusal::BadState, "frames with a word too few")?;
     let mut engine = memory.lend();
     engine.pool[0] ^= 1;
     show(engine.read(0, 3), Refusal::Unsound, "a bit of the pool has flipped")?;

@@ -2,10 +2,11 @@
 
 use host_tests::corrupt::KINDS;
 use host_tests::record::Recorder;
+use host_tests::runs;
 use host_tests::sentences::SENTENCES;
 use host_tests::session::{Failure, Session};
 use host_tests::soundness::{self, Counts, PER_SEED};
-use host_tests::{library, runs};
+use splitter::raw;
 use std::process::ExitCode;
 use std::time::Instant;
 
@@ -89,7 +90,7 @@ fn compare_sizes() -> Result<(), Failure> {
         levels.map(|level| u64::from(n).div_ceil(1 << level)).sum()
     };
     let mut sizes = (0..=1_000).chain([65_535, 65_536, 1 << 31, u32::MAX]);
-    let wrong = sizes.find(|&n| library::tree_nodes(n) != sum(n));
+    let wrong = sizes.find(|&n| raw::tree_nodes(n) != sum(n));
     wrong.map_or(Ok(()), |n| Err(format!("T({n}) differs")))
 }
 

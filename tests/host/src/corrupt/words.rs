@@ -1,8 +1,9 @@
 //! Words changed without regard to what they mean.
 
 use super::Pair;
-use crate::plain::{self, NONE, STATE_WORDS};
+use crate::plain::{self, Words, NONE, STATE_WORDS};
 use crate::random::Random;
+use std::array;
 
 /// A word that is not the old one, near it or far.
 fn another(old: u32, random: &Random) -> u32 {
@@ -33,7 +34,12 @@ pub fn state_word(pair: &mut Pair, random: &Random) -> Option<()> {
 
 fn change_state(pair: &mut Pair, position: usize, random: &Random) {
     let mut words = plain::to_words(&pair.state);
-    words[position] = another(words[position], random);
+    let mut all = (words.numbers.iter_mut())
+        .chain(&mut words.deques)
+        .chain(&mut words.frames);
+    if let Some(word) = all.nth(position) {
+        *word = another(*word, random);
+    }
     pair.state = plain::from_words(&words);
 }
 
@@ -71,7 +77,11 @@ pub fn small_garbage(pair: &mut Pair, random: &Random) -> Option<()> {
 
 fn fill(pair: &mut Pair, random: &Random, word: impl Fn(&Random) -> u32) {
     let old = pair.state.clone();
-    let words = [0; STATE_WORDS].map(|_| word(random));
+    let words = Words {
+        numbers: array::from_fn(|_| word(random)),
+        deques: array::from_fn(|_| word(random)),
+        frames: array::from_fn(|_| word(random)),
+    };
     pair.state = plain::from_words(&words);
     pair.pool.fill_with(|| word(random));
     if random.one_in(2) {

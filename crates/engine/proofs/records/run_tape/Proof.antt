@@ -5,8 +5,8 @@ use native.Mathlib.Omega.{arith}
 use lib.ListN.{length}
 use Rattle.semantics.specs.declared.Answer.{Answer}
 use Rattle.semantics.specs.Answers.{answerWords}
-use Rattle.semantics.specs.Entries.{ran, runOn, recordsFrom, recordsOf}
-use Rattle.semantics.specs.Theory.Kept.{Kept}
+use Rattle.semantics.specs.Entries.{recordsResult, runOn, recordsFrom, recordsOf}
+use Rattle.semantics.specs.Ranges.{Kept}
 use Rattle.engine.specs.Promises.{core, renewed}
 use Rattle.engine.proofs.Turns.{turn-kept, finish, begin, ready-head}
 use borrow.Author.Needs.{needs}
@@ -14,13 +14,13 @@ use Rattle.engine.proofs.records.run_tape.Statement.{statement}
 use Rattle.engine.proofs.records.run_tape.Tie as tie
 
 abbrev Inv-loop : tie.InvT-loop
-Inv-loop h deques₀ frames₀ pool₀ tape answers₀ free₀ vacant₀ spare₀ i₀ deques frames pool answers free vacant spare i =
+Inv-loop h deques₀ frames₀ pool₀ tape answers₀ node₀ place₀ count₀ i₀ deques frames pool answers node place count i =
     (i ≤ length tape / 8) × (length deques ≡ length deques₀) × (length frames ≡ length frames₀) × (length pool ≡ length pool₀) × (length answers ≡ length answers₀)
-    × Kept (core (renewed h free vacant spare) deques frames pool)
-    × (runOn (ran (core (renewed h free vacant spare) deques frames pool) answers) (i * 2) (recordsFrom (length tape / 8 - i) tape (i * 8)) ≡ runOn (ran (core h deques₀ frames₀ pool₀) answers₀) 0 (recordsOf tape))
+    × Kept (core (renewed h node place count) deques frames pool)
+    × (runOn (recordsResult (core (renewed h node place count) deques frames pool) answers) (i * 2) (recordsFrom (length tape / 8 - i) tape (i * 8)) ≡ runOn (recordsResult (core h deques₀ frames₀ pool₀) answers₀) 0 (recordsOf tape))
 
 abbrev μ-loop : tie.MeasureT-loop
-μ-loop h deques₀ frames₀ pool₀ tape answers₀ free₀ vacant₀ spare₀ i₀ deques frames pool answers free vacant spare i = length tape / 8 - i
+μ-loop h deques₀ frames₀ pool₀ tape answers₀ node₀ place₀ count₀ i₀ deques frames pool answers node place count i = length tape / 8 - i
 
 loop-holds : tie.Need-loop-holds Inv-loop μ-loop
 loop-holds c =

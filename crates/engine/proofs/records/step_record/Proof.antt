@@ -9,7 +9,7 @@ decode-requires c κs =
 
 returns : tie.Need-returns
 returns c =
-    record-refused _ _ _ _ _ _ _ _ (c .before .before .before .decode .ensures) (c .before .enum-told .given .1) (c .refused .ensures)
+    record-refused (c .before .before .before .before .before .before .before .before .args .h) _ _ _ _ _ _ (c .before .before .before .decode .ensures) (c .before .enum-told .given .1) (c .refused .ensures)
 
 take-step-requires : tie.Need-take-step-requires
 take-step-requires c κs =

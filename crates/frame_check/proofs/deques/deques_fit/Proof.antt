@@ -3,6 +3,7 @@ use mathlib.Core.Path.{_≡_, refl}
 use Prim.Native.Nat.{_≤_, _-_}
 use native.Mathlib.Omega.{arith}
 use Rattle.words.specs.Basics.{all}
+use Rattle.frames.specs.Widths.{maxWorkers}
 use Rattle.frame_check.specs.Algorithm.{dequeFits}
 use Rattle.frame_check.proofs.Laws.{at-end, all-turn}
 use borrow.Author.Needs.{needs}
@@ -10,10 +11,10 @@ use Rattle.frame_check.proofs.deques.deques_fit.Statement.{statement}
 use Rattle.frame_check.proofs.deques.deques_fit.Tie as tie
 
 abbrev Inv-loop : tie.InvT-loop
-Inv-loop workers deques sound₀ w₀ sound w = (sound ≡ all w (dequeFits workers deques)) × (w ≤ 8)
+Inv-loop workers deques sound₀ w₀ sound w = (sound ≡ all w (dequeFits workers deques)) × (w ≤ maxWorkers)
 
 abbrev μ-loop : tie.MeasureT-loop
-μ-loop workers deques sound₀ w₀ sound w = 8 - w
+μ-loop workers deques sound₀ w₀ sound w = maxWorkers - w
 
 loop-holds : tie.Need-loop-holds Inv-loop μ-loop
 loop-holds c = (refl, omega arith)

@@ -3,6 +3,7 @@ use mathlib.Core.Path.{_≡_, refl}
 use Prim.Native.Nat.{_≤_, _-_}
 use native.Mathlib.Omega.{arith}
 use Rattle.words.specs.Basics.{all}
+use Rattle.frames.specs.Widths.{dequePlaces}
 use Rattle.frame_check.specs.Algorithm.{zeroPast}
 use Rattle.frame_check.proofs.Laws.{at-end, all-turn}
 use borrow.Author.Needs.{needs}
@@ -10,10 +11,10 @@ use Rattle.frame_check.proofs.deques.rest_zero.Statement.{statement}
 use Rattle.frame_check.proofs.deques.rest_zero.Tie as tie
 
 abbrev Inv-loop : tie.InvT-loop
-Inv-loop deques w n sound₀ k₀ sound k = (sound ≡ all k (zeroPast deques w n)) × (k ≤ 64)
+Inv-loop deques w n sound₀ k₀ sound k = (sound ≡ all k (zeroPast deques w n)) × (k ≤ dequePlaces)
 
 abbrev μ-loop : tie.MeasureT-loop
-μ-loop deques w n sound₀ k₀ sound k = 64 - k
+μ-loop deques w n sound₀ k₀ sound k = dequePlaces - k
 
 loop-holds : tie.Need-loop-holds Inv-loop μ-loop
 loop-holds c = (refl, omega arith)

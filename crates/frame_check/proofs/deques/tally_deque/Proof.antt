@@ -6,7 +6,7 @@ use lib.ListN.{length}
 use Rattle.frames.specs.Deques.{place}
 use Rattle.words.specs.Basics.{all}
 use Rattle.frame_check.specs.Algorithm.{tally, onDeque}
-use Rattle.frame_check.specs.Tallied.{length-tally}
+use Rattle.frame_check.specs.Theory.Tallied.{length-tally}
 use Rattle.frame_check.proofs.Laws.{at-end, all-turn, tally-turn}
 use borrow.Author.Needs.{needs}
 use Rattle.frame_check.proofs.deques.tally_deque.Statement.{statement}

@@ -6,17 +6,17 @@ use native.Mathlib.Omega.{arith}
 use lib.ListN.{length}
 use Rattle.words.specs.Basics.{all}
 use Rattle.frame_check.specs.Algorithm.{tallyDeques, dequeSound}
-use Rattle.frame_check.specs.Tallied.{length-tallyDeques}
+use Rattle.frame_check.specs.Theory.Tallied.{length-tallyDeques}
 use Rattle.frame_check.proofs.Laws.{at-end, all-turn, tallyDeques-turn}
 use borrow.Author.Needs.{needs}
 use Rattle.frame_check.proofs.deques.tally_deques.Statement.{statement}
 use Rattle.frame_check.proofs.deques.tally_deques.Tie as tie
 
 abbrev Inv-loop : tie.InvT-loop
-Inv-loop tallies₀ deques frames sound₀ w₀ tallies sound w = (tallies ≡ tallyDeques w deques tallies₀) × (sound ≡ all w (dequeSound deques frames)) × (w ≤ 8)
+Inv-loop tallies₀ deques frames sound₀ w₀ tallies sound w = (tallies ≡ tallyDeques w deques tallies₀) × (sound ≡ all w (dequeSound deques frames)) × (w ≤ maxWorkers)
 
 abbrev μ-loop : tie.MeasureT-loop
-μ-loop tallies₀ deques frames sound₀ w₀ tallies sound w = 8 - w
+μ-loop tallies₀ deques frames sound₀ w₀ tallies sound w = maxWorkers - w
 
 loop-holds : tie.Need-loop-holds Inv-loop μ-loop
 unfolding tallyDeques

@@ -4,6 +4,7 @@ use Prim.Native.Nat.{_≤_, _-_}
 use native.Mathlib.Omega.{arith}
 use Rattle.words.specs.Basics.{howMany}
 use Rattle.words.specs.Counting.{hit-le}
+use Rattle.frames.specs.Widths.{places}
 use Rattle.frame_check.specs.Algorithm.{isMain, mainAt}
 use Rattle.frame_check.proofs.Laws.{at-end, howMany-turn}
 use borrow.Author.Needs.{needs}
@@ -11,10 +12,10 @@ use Rattle.frame_check.proofs.places.count_mains.Statement.{statement}
 use Rattle.frame_check.proofs.places.count_mains.Tie as tie
 
 abbrev Inv-loop : tie.InvT-loop
-Inv-loop frames n₀ p₀ n p = (n ≡ howMany p (mainAt frames)) × (n ≤ p) × (p ≤ 64)
+Inv-loop frames n₀ p₀ n p = (n ≡ howMany p (mainAt frames)) × (n ≤ p) × (p ≤ places)
 
 abbrev μ-loop : tie.MeasureT-loop
-μ-loop frames n₀ p₀ n p = 64 - p
+μ-loop frames n₀ p₀ n p = places - p
 
 loop-holds : tie.Need-loop-holds Inv-loop μ-loop
 loop-holds c = (refl, omega arith, omega arith)

@@ -3,6 +3,7 @@ use mathlib.Core.Path.{_≡_, refl}
 use Prim.Native.Nat.{_≤_, _-_}
 use native.Mathlib.Omega.{arith}
 use Rattle.words.specs.Basics.{all}
+use Rattle.frames.specs.Widths.{places}
 use Rattle.frame_check.specs.Algorithm.{placeTallied}
 use Rattle.frame_check.proofs.Laws.{at-end, all-turn}
 use borrow.Author.Needs.{needs}
@@ -10,10 +11,10 @@ use Rattle.frame_check.proofs.places.places_sound.Statement.{statement}
 use Rattle.frame_check.proofs.places.places_sound.Tie as tie
 
 abbrev Inv-loop : tie.InvT-loop
-Inv-loop frames children seen free sound₀ p₀ sound p = (sound ≡ all p (placeTallied frames children seen free)) × (p ≤ 64)
+Inv-loop frames children seen free sound₀ p₀ sound p = (sound ≡ all p (placeTallied frames children seen free)) × (p ≤ places)
 
 abbrev μ-loop : tie.MeasureT-loop
-μ-loop frames children seen free sound₀ p₀ sound p = 64 - p
+μ-loop frames children seen free sound₀ p₀ sound p = places - p
 
 loop-holds : tie.Need-loop-holds Inv-loop μ-loop
 loop-holds c = (refl, omega arith)

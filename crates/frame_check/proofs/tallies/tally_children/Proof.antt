@@ -3,18 +3,19 @@ use mathlib.Core.Path.{_≡_, refl, ap, _∙_}
 use Prim.Native.Nat.{_≤_, _-_}
 use native.Mathlib.Omega.{arith}
 use lib.ListN.{length}
+use Rattle.frames.specs.Widths.{places}
 use Rattle.frame_check.specs.Algorithm.{tally, childIn}
-use Rattle.frame_check.specs.Tallied.{length-tally}
+use Rattle.frame_check.specs.Theory.Tallied.{length-tally}
 use Rattle.frame_check.proofs.Laws.{at-end, tally-turn}
 use borrow.Author.Needs.{needs}
 use Rattle.frame_check.proofs.tallies.tally_children.Statement.{statement}
 use Rattle.frame_check.proofs.tallies.tally_children.Tie as tie
 
 abbrev Inv-loop : tie.InvT-loop
-Inv-loop tallies₀ frames c₀ tallies c = (tallies ≡ tally c (childIn frames) tallies₀) × (c ≤ 64)
+Inv-loop tallies₀ frames c₀ tallies c = (tallies ≡ tally c (childIn frames) tallies₀) × (c ≤ places)
 
 abbrev μ-loop : tie.MeasureT-loop
-μ-loop tallies₀ frames c₀ tallies c = 64 - c
+μ-loop tallies₀ frames c₀ tallies c = places - c
 
 loop-holds : tie.Need-loop-holds Inv-loop μ-loop
 unfolding tally

@@ -1,6 +1,7 @@
 -- The frame leaves its deque and its place, and the parent loses a child. The two ways out are in `proofs.Ends`.
 -- Below, the places that the answers speak of, each by its way from the next.
 use mathlib.Core.Path.{_∙_}
+use native.Mathlib.Omega.{arith}
 use borrow.Author.Needs.{needs}
 use Rattle.frames.specs.Theory.Sizes.{length-pop, size-pop}
 use Rattle.frames.specs.Theory.Records.{length-setFrame}
@@ -17,6 +18,9 @@ popped-of f = f .before .before .before .before .before
 abbrev freed-of : tie.Else1 → tie.After-put-frame
 freed-of e = e .before .before .before
 
+abbrev child-of : tie.After-frame-at → tie.Else1
+child-of q = q .before .before
+
 returns : tie.Need-returns
 returns c =
     let f = c .before .before .before in
@@ -24,9 +28,17 @@ returns c =
     let a = start-of d .pre .0 in
     finished _ _ _ _ _ _ (a .acting) (a .is) _ _ _ (f .before .free-place .ensures) (d .pop-off .ensures) (f .put-frame .ensures) (c .if1 .taken)
 
+frame-at-requires : tie.Need-frame-at-requires
+frame-at-requires c κs =
+    let e = c .before in
+    let f = freed-of e in
+    let r = start-of (popped-of f) .pre in
+    (rw (f .put-frame .ensures) (length-setFrame _ _ _ ∙ r .0 .long-frames), omega (arith, r .0 .within, one-of (r .1) (e .if1 .left) .0))
+
 return-to-requires : tie.Need-return-to-requires
 return-to-requires c κs =
-    let e = c .before .before in
+    let q = c .before .before in
+    let e = child-of q in
     let f = freed-of e in
     let d = popped-of f in
     let r = start-of d .pre in
@@ -36,12 +48,13 @@ return-to-requires c κs =
       a .worker,
       one-of (r .1) (e .if1 .left) .0,
       rw (d .pop-off .ensures) (size-pop _ _ (a .long-deques) (a .worker) (a .most) (a .some)),
+      q .frame-at .ensures,
     )
 
 returns-2 : tie.Need-returns-2
 returns-2 c =
     let t = c .before .before .before .before in
-    let e = t .before .before .before in
+    let e = child-of (t .before .before .before) in
     let f = freed-of e in
     let d = popped-of f in
     let r = start-of d .pre in
@@ -58,6 +71,7 @@ return-frame-spec =
     (λ c. search needs)
     (λ c. search needs)
     returns
+    frame-at-requires
     return-to-requires
     (λ c. search needs)
     (λ c. search needs)

@@ -5,8 +5,8 @@ use Rattle.frames.proofs.Ends.{continued, not-waiting, more-children, r
 use Rattle.frames.proofs.steps.return_to.Statement.{statement}
 use Rattle.frames.proofs.steps.return_to.Tie as tie
 
-abbrev start-of : tie.After-frame-at → tie.Start
-start-of f = f .before .before .before .before
+abbrev start-of : tie.After-sub → tie.Start
+start-of l = l .before .before .before
 
 abbrev left-of : tie.After-set-outstanding → tie.After-sub
 left-of o = o .before .before
@@ -22,7 +22,7 @@ returns c =
     let s = c .before in
     let o = stored-of s in
     let l = left-of o in
-    continued _ _ _ _ _ _ _ _ (l .before .frame-at .ensures) (l .sub .ensures) (o .set-outstanding .ensures) (s .size-at .ensures) (c .if1 .taken)
+    continued _ _ _ _ _ _ _ _ (start-of l .pre .5) (l .sub .ensures) (o .set-outstanding .ensures) (s .size-at .ensures) (c .if1 .taken)
 
 returns-2 : tie.Need-returns-2
 returns-2 c =
@@ -30,7 +30,7 @@ returns-2 c =
     let s = e .before in
     let o = stored-of s in
     let l = left-of o in
-    not-waiting _ _ _ _ _ _ _ _ (l .before .frame-at .ensures) (l .sub .ensures) (o .set-outstanding .ensures) (s .size-at .ensures) (e .if1 .left) (c .if2 .taken)
+    not-waiting _ _ _ _ _ _ _ _ (start-of l .pre .5) (l .sub .ensures) (o .set-outstanding .ensures) (s .size-at .ensures) (e .if1 .left) (c .if2 .taken)
 
 returns-3 : tie.Need-returns-3
 returns-3 c =
@@ -38,7 +38,7 @@ returns-3 c =
     let s = size-of e in
     let o = stored-of s in
     let l = left-of o in
-    more-children _ _ _ _ _ _ _ _ (l .before .frame-at .ensures) (l .sub .ensures) (o .set-outstanding .ensures) (s .size-at .ensures) (e .before .before .if1 .left) (e .if2 .left)
+    more-children _ _ _ _ _ _ _ _ (start-of l .pre .5) (l .sub .ensures) (o .set-outstanding .ensures) (s .size-at .ensures) (e .before .before .if1 .left) (e .if2 .left)
     (c .if3 .taken)
 
 returns-4 : tie.Need-returns-4
@@ -50,15 +50,14 @@ returns-4 c =
     let s = size-of e in
     let o = stored-of s in
     let l = left-of o in
-    let r = start-of (l .before) .pre in
-    resumed _ _ _ _ _ _ _ _ (l .before .frame-at .ensures) (l .sub .ensures) (o .set-outstanding .ensures) (s .size-at .ensures) (r .1) (r .3)
+    let r = start-of l .pre in
+    resumed _ _ _ _ _ _ _ _ (start-of l .pre .5) (l .sub .ensures) (o .set-outstanding .ensures) (s .size-at .ensures) (r .1) (r .3)
     _ _ (e .before .before .if1 .left) (e .if2 .left) (h .if3 .left) (d .set-suspended .ensures) (u .push-on .ensures)
 
 pub return-to-spec : {M : Type 1} → statement M
 return-to-spec =
     tie.close
     (tie.spec
-    (λ c κs. search needs)
     (λ c κs. search needs)
     (λ c κs. search needs)
     (λ c κs. search needs)

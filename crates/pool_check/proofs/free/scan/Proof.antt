@@ -5,7 +5,7 @@ use native.Mathlib.Omega.{arith}
 use Rattle.words.specs.Basics.{all}
 use Rattle.words.specs.Loops.{sum-next}
 use Rattle.pool_check.specs.Algorithm.{fresh, nodeRight, unvisited}
-use Rattle.pool_check.specs.FreeList.{unvisited-le}
+use Rattle.pool_check.specs.Theory.FreeList.{unvisited-le}
 use Rattle.pool_check.proofs.Laws.{all-step, scan-right, scan-wrong}
 use Rattle.pool_check.proofs.free.scan.Statement.{statement}
 use Rattle.pool_check.proofs.free.scan.Tie as tie

@@ -10,7 +10,7 @@ use borrow.Fn.PlainCycle.{Measures, is, falls, and}
 use lib.ListN.{length}
 use Rattle.pool.specs.Pool.{left, right}
 use Rattle.pool_check.specs.Algorithm.{visit}
-use Rattle.pool_check.specs.Ways.{visit-keeps}
+use Rattle.pool_check.specs.Theory.Ways.{visit-keeps}
 use Rattle.pool_check.proofs.Laws.{parts, met-yes, met-below, met-answer, walk-refused, walk-fails, left-walked, walk-ends, walk-right}
 use Rattle.pool_check.proofs.trees.walk.Reads as walk
 use Rattle.pool_check.proofs.trees.walk.Kinds as walk-kinds

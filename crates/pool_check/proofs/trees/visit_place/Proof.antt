@@ -3,7 +3,7 @@ use borrow.Author.Needs.{needs}
 use borrow.Author.Tests.{eq-eqb, ne-eqb}
 use lib.Dec.{eqb}
 use Rattle.frames.specs.declared.Frame.{Frame}
-use Rattle.pool_check.specs.Ways.{place-live, place-free}
+use Rattle.pool_check.specs.Theory.Ways.{place-live, place-free}
 use Rattle.pool_check.proofs.trees.visit_place.Statement.{statement}
 use Rattle.pool_check.proofs.trees.visit_place.Tie as tie
 

@@ -5,7 +5,7 @@ use native.Mathlib.Omega.{arith}
 use borrow.Author.Needs.{needs}
 use borrow.Author.Tests.{lt-leb}
 use lib.ListN.{length, replicate, drop, length-set}
-use Rattle.pool_check.specs.Cleared.{clear-no, clear-next, clear-done}
+use Rattle.pool_check.specs.Theory.Cleared.{clear-no, clear-next, clear-done}
 use Rattle.pool_check.proofs.work.clear.Statement.{statement}
 use Rattle.pool_check.proofs.work.clear.Tie as tie
 

@@ -1,0 +1,10 @@
+-- what the tallies count
+pub mod Tallied
+-- the check, taken apart
+pub mod Passes
+-- what it finds makes the sentences true
+pub mod Finds
+-- and they are what it looks for
+pub mod Looks
+-- the check is soundness
+pub mod Theorem

@@ -1,0 +1,288 @@
+-- Document 01's "Soundness": each test of Soundness on numbers, frames and deques holds if and only if its fact does.
+use mathlib.Core.Path.{_≡_, sym, ap, _∙_, subst}
+use mathlib.Core.Logic.{_≢_, _⊎_, inl, inr}
+use mathlib.Core.Bool.{Bool, true, not, _||_, _&&_}
+use mathlib.Core.List.{List, _++_}
+use Prim.Native.Nat.{ℕ, suc, _≤_, _<_}
+use native.Mathlib.Omega.{arith}
+use lib.Dec.{eqb, ltb, leb}
+use Rattle.words.specs.Basics.{none, all, howMany, implies, below, count}
+use Rattle.words.specs.Tallies.{howMany-one}
+use Rattle.frames.specs.declared.Frame.{Frame}
+use Rattle.frames.specs.Widths.{maxWorkers, places, dequePlaces}
+use Rattle.frames.specs.Frames.{frameAt, freePlace}
+use Rattle.frames.specs.Deques.{size, place}
+use Rattle.soundness.specs.declared.Numbers.{Numbers}
+use Rattle.soundness.specs.Soundness.{lives, children, inDeques, freePlaces, placeFree, liveRoots, allOf, numberSentences, frameSentences, poolSentences, sentences, soundParts}
+use Rattle.soundness.specs.Soundness.{oneMain, parentsLive, countsRight, placedOnce, holdLive, absentEmpty, restZero, linked, onlyBelow, placesFree, framesSound, numbersSound, poolSound, sound}
+use Rattle.soundness.specs.Theory.Is.{Is, is-as, true-is, eq-is, lt-is, le-is, and-is, and3-is, or-is, not-is, implies-is, both-imply, from-is, all-is, all-but-last}
+use Rattle.soundness.specs.Theory.Each.{row-of, of-each, allOf-append}
+use Rattle.soundness.specs.Theory.FreeLists.{chain-below, follow-sound, sound-follow, the-one}
+pub use Rattle.soundness.specs.Theory.Facts.{Lives, stands, stands-is, child-is, child-at, at-child, NoFrame, OnlyMain, HasParent, Placed, PlacesFree, FramesFacts, NumbersFacts, SoundFacts}
+
+-- ---- frames and deques
+
+module _ (ds fs : List ℕ) where
+  pub lives-is : (p : ℕ) → Is (lives fs p) (Lives fs p)
+  lives-is p = eq-is (frameAt fs p .live) 1
+
+  -- "just one live frame has depth 0, with parent none"
+  abbrev pub mainTest : ℕ → Bool
+  mainTest p = lives fs p && eqb (frameAt fs p .depth) 0
+
+  pub main-is : (p : ℕ) → Is (mainTest p) (Lives fs p × (frameAt fs p .depth ≡ 0))
+  main-is p = and-is (lives-is p) (eq-is (frameAt fs p .depth) 0)
+
+  orphan-is : (p : ℕ) → Is (implies (mainTest p) (eqb (frameAt fs p .parent) none)) (Lives fs p → frameAt fs p .depth ≡ 0 → frameAt fs p .parent ≡ none)
+  orphan-is p = both-imply (lives-is p) (eq-is (frameAt fs p .depth) 0) (eq-is (frameAt fs p .parent) none)
+
+  pub only-main : (howMany places mainTest ≡ 1) × ((p : ℕ) → p < places → Lives fs p → frameAt fs p .depth ≡ 0 → frameAt fs p .parent ≡ none) → OnlyMain fs
+  only-main h =
+      let m = the-one places mainTest (h .0) in
+      let f = main-is (m .0) .fact (m .2) in
+      record {
+        main = m .0;
+        inside = m .1;
+        alive = f .0;
+        flat = f .1;
+        orphan = h .1 (m .0) (m .1) (f .0) (f .1);
+        only = λ p b l d. m .3 p b (main-is p .test (l, d));
+      }
+
+  pub main-only : OnlyMain fs → (howMany places mainTest ≡ 1) × ((p : ℕ) → p < places → Lives fs p → frameAt fs p .depth ≡ 0 → frameAt fs p .parent ≡ none)
+  main-only m = (
+    howMany-one places (m .main) mainTest (m .inside) (main-is (m .main) .test (m .alive, m .flat)) (λ p b t. (let r = main-is p .fact t in m .only p b (r .0) (r .1))),
+    λ p b l d. ap (λ q. frameAt fs q .parent) (m .only p b l d) ∙ m .orphan,
+  )
+
+  oneMain-is : Is (oneMain ds fs) (NoFrame ds fs ⊎ OnlyMain fs)
+  unfolding oneMain
+  oneMain-is =
+      or-is (and-is (all-is places (λ p. not-is (lives-is p))) (all-is maxWorkers (λ w. eq-is (size ds w) 0)))
+      (is-as only-main main-only (and-is (eq-is (howMany places mainTest) 1) (all-is places orphan-is)))
+
+  -- the parent of the frame at p is live and one shallower
+  pub parent-is : (p : ℕ) → Is (ltb (frameAt fs p .parent) places && (lives fs (frameAt fs p .parent) && eqb (frameAt fs p .depth) (suc (frameAt fs (frameAt fs p .parent) .depth)))) (HasParent fs p)
+  parent-is p = and3-is (lt-is (frameAt fs p .parent) places) (lives-is (frameAt fs p .parent)) (eq-is (frameAt fs p .depth) (suc (frameAt fs (frameAt fs p .parent) .depth)))
+
+  parents-is : Is (parentsLive fs) ((p : ℕ) → p < places → Lives fs p → frameAt fs p .depth ≢ 0 → HasParent fs p)
+  unfolding parentsLive
+  parents-is = all-is places (λ p. both-imply (lives-is p) (not-is (eq-is (frameAt fs p .depth) 0)) (parent-is p))
+
+  counts-is : Is (countsRight fs) ((p : ℕ) → p < places → Lives fs p → frameAt fs p .outstanding ≡ children fs p)
+  unfolding countsRight
+  counts-is = all-is places (λ p. implies-is (lives-is p) (eq-is (frameAt fs p .outstanding) (children fs p)))
+
+  in-is : (p n : ℕ) → Is (eqb (inDeques ds p) n) (stands ds p ≡ n)
+  in-is p n = is-as (λ e. sym (stands-is ds p) ∙ e) (λ e. stands-is ds p ∙ e) (eq-is (inDeques ds p) n)
+
+  -- where the frame at p stands
+  pub placed-is : (p : ℕ) → Is ((eqb (inDeques ds p) 1 && eqb (frameAt fs p .suspended) 0) || (eqb (inDeques ds p) 0 && (eqb (frameAt fs p .suspended) 1 && ltb 0 (children fs p)))) (Placed ds fs p)
+  placed-is p = or-is (and-is (in-is p 1) (eq-is (frameAt fs p .suspended) 0)) (and3-is (in-is p 0) (eq-is (frameAt fs p .suspended) 1) (lt-is 0 (children fs p)))
+
+  placedOnce-is : Is (placedOnce ds fs) ((p : ℕ) → p < places → Lives fs p → Placed ds fs p)
+  unfolding placedOnce
+  placedOnce-is = all-is places (λ p. implies-is (lives-is p) (placed-is p))
+
+  -- the frame at place k of worker w's deque lives
+  pub hold-is : (w k : ℕ) → Is (ltb (place ds w k) places && lives fs (place ds w k)) ((place ds w k < places) × Lives fs (place ds w k))
+  hold-is w k = and-is (lt-is (place ds w k) places) (lives-is (place ds w k))
+
+  holdLive-is : Is (holdLive ds fs) ((w : ℕ) → w < maxWorkers → (k : ℕ) → k < size ds w → (place ds w k < places) × Lives fs (place ds w k))
+  unfolding holdLive
+  holdLive-is = all-is maxWorkers (λ w. all-is (size ds w) (hold-is w))
+
+  pub absent-is : (workers w : ℕ) → Is (ltb w workers || eqb (size ds w) 0) (workers ≤ w → size ds w ≡ 0)
+  absent-is workers w = from-is w workers (eq-is (size ds w) 0)
+
+  absentEmpty-is : (workers : ℕ) → Is (absentEmpty workers ds) ((w : ℕ) → w < maxWorkers → workers ≤ w → size ds w ≡ 0)
+  unfolding absentEmpty
+  absentEmpty-is workers = all-is maxWorkers (absent-is workers)
+
+  pub zeros-is : (w : ℕ) → Is (all dequePlaces (λ k. ltb k (size ds w) || eqb (place ds w k) 0)) ((k : ℕ) → k < dequePlaces → size ds w ≤ k → place ds w k ≡ 0)
+  zeros-is w = all-is dequePlaces (λ k. from-is k (size ds w) (eq-is (place ds w k) 0))
+
+  restZero-is : Is (restZero ds) ((w : ℕ) → w < maxWorkers → (size ds w ≤ dequePlaces) × ((k : ℕ) → k < dequePlaces → size ds w ≤ k → place ds w k ≡ 0))
+  unfolding restZero
+  restZero-is = all-is maxWorkers (λ w. and-is (le-is (size ds w) dequePlaces) (zeros-is w))
+
+  linked-is : Is (linked ds fs) ((w : ℕ) → w < maxWorkers → (k : ℕ) → suc k < size ds w → frameAt fs (place ds w (suc k)) .parent ≡ place ds w k)
+  unfolding linked
+  linked-is = all-is maxWorkers (λ w. all-but-last (size ds w) (λ k. eq-is (frameAt fs (place ds w (suc k)) .parent) (place ds w k)))
+
+  onlyBelow-is : Is (onlyBelow ds fs) ((w : ℕ) → w < maxWorkers → (k : ℕ) → suc k < size ds w → (c : ℕ) → c < places → Lives fs c → frameAt fs c .parent ≡ place ds w (suc k)
+      → (suc (suc k) < size ds w) × (c ≡ place ds w (suc (suc k))))
+  unfolding onlyBelow
+  onlyBelow-is =
+      all-is maxWorkers (λ w. all-but-last (size ds w) (λ k. all-is places (λ c. both-imply (lives-is c) (eq-is (frameAt fs c .parent) (place ds w (suc k)))
+      (and-is (lt-is (suc (suc k)) (size ds w)) (eq-is c (place ds w (suc (suc k))))))))
+
+-- ---- free places
+
+made : ℕ → ℕ → ℕ → ℕ → ℕ → ℕ → Frame
+made l p d o s r = record { live = l; parent = p; depth = d; outstanding = o; suspended = s; root = r }
+
+free-frame : (f : Frame) → (f .live ≡ 0) × ((f .depth ≡ 0) × ((f .outstanding ≡ 0) × ((f .suspended ≡ 0) × (f .root ≡ 0)))) → f ≡ freePlace (f .parent)
+unfolding made
+free-frame f h = (let g : made (f .live) (f .parent) (f .depth) (f .outstanding) (f .suspended) (f .root) ≡ made 0 (f .parent) 0 0 0 0 = rw (h .0, h .1 .0, h .1 .1 .0, h .1 .1 .1 .0, h .1 .1 .1 .1) in g)
+
+abbrev pub FreeAt : List ℕ → ℕ → Type 0
+FreeAt fs p = (q : ℕ) × (frameAt fs p ≡ freePlace q)
+
+pub free-is : (fs : List ℕ) (p : ℕ) → Is (placeFree fs p) (FreeAt fs p)
+free-is fs p =
+    let f = frameAt fs p in
+    is-as (λ h. (f .parent, free-frame f h))
+    (λ h. (let e = h .1 in (ap (λ (g : Frame). g .live) e, (ap (λ (g : Frame). g .depth) e, (ap (λ (g : Frame). g .outstanding) e, (ap (λ (g : Frame). g .suspended) e, ap (λ (g : Frame). g .root) e))))))
+    (and-is (eq-is (f .live) 0) (and-is (eq-is (f .depth) 0) (and-is (eq-is (f .outstanding) 0) (and-is (eq-is (f .suspended) 0) (eq-is (f .root) 0)))))
+
+module _ (fs : List ℕ) (first : ℕ) where
+  -- p lives and is not among gs, or it is free and there once
+  abbrev eachTest : List ℕ → ℕ → Bool
+  eachTest gs p = (lives fs p && eqb (count p gs) 0) || (placeFree fs p && eqb (count p gs) 1)
+
+  abbrev pub EachPlace : List ℕ → ℕ → Type 0
+  EachPlace gs p = (Lives fs p × (count p gs ≡ 0)) ⊎ (FreeAt fs p × (count p gs ≡ 1))
+
+  each-is : (gs : List ℕ) (p : ℕ) → Is (eachTest gs p) (EachPlace gs p)
+  each-is gs p = or-is (and-is (eq-is (frameAt fs p .live) 1) (eq-is (count p gs) 0)) (and-is (free-is fs p) (eq-is (count p gs) 1))
+
+  each-once : (gs : List ℕ) (p : ℕ) → EachPlace gs p → count p gs ≤ 1
+  each-once gs p (inl h) = omega (arith, h .1)
+  each-once gs p (inr h) = omega (arith, h .1)
+
+  -- the chain that the check follows is the list
+  pub places-are : (F : PlacesFree fs first) → freePlaces fs first ≡ F .gs
+  places-are F = sound-follow (λ p. frameAt fs p .parent) places (omega arith) first (F .gs) (F .chain) (λ p b. each-once (F .gs) p (F .each p b))
+
+  abbrev Chained : Type 0
+  Chained = (below places (freePlaces fs first) ≡ true) × ((p : ℕ) → p < places → EachPlace (freePlaces fs first) p)
+
+  pub places-of : Chained → PlacesFree fs first
+  places-of h =
+      record { gs = freePlaces fs first; chain = follow-sound (λ p. frameAt fs p .parent) places first (h .0) (λ p c. each-once (freePlaces fs first) p (h .1 p c)); each = h .1 }
+
+  pub of-places : PlacesFree fs first → Chained
+  of-places F =
+      subst (λ xs. (below places xs ≡ true) × ((p : ℕ) → p < places → EachPlace xs p)) (sym (places-are F))
+      (chain-below (λ p. frameAt fs p .parent) places first (F .gs) (F .chain), F .each)
+
+  places-is : Is (placesFree fs first) (PlacesFree fs first)
+  unfolding placesFree
+  places-is = is-as places-of of-places (and-is (true-is (below places (freePlaces fs first))) (all-is places (each-is (freePlaces fs first))))
+
+-- ---- all of it
+
+module _ (workers first : ℕ) (ds fs : List ℕ) where
+  pub frames-facts : framesSound workers first ds fs ≡ true → FramesFacts workers first ds fs
+  unfolding framesSound
+  frames-facts e =
+      let r = row-of (frameSentences workers first ds fs) e in
+      record {
+        one-main = oneMain-is ds fs .fact (r 0);
+        parents = parents-is ds fs .fact (r 1);
+        outstanding = counts-is ds fs .fact (r 2);
+        placed = placedOnce-is ds fs .fact (r 3);
+        hold-live = holdLive-is ds fs .fact (r 4);
+        absent = absentEmpty-is ds fs workers .fact (r 5);
+        within = λ w b. restZero-is ds fs .fact (r 6) w b .0;
+        zeros = λ w b k l c. restZero-is ds fs .fact (r 6) w b .1 k c l;
+        child-of-above = linked-is ds fs .fact (r 7);
+        only-below = onlyBelow-is ds fs .fact (r 8);
+        places = places-is fs first .fact (r 9);
+      }
+
+  pub facts-frames : FramesFacts workers first ds fs → framesSound workers first ds fs ≡ true
+  unfolding framesSound
+  facts-frames F = of-each (frameSentences workers first ds fs) (
+    oneMain-is ds fs .test (F .one-main),
+    (
+      parents-is ds fs .test (F .parents),
+      (
+        counts-is ds fs .test (F .outstanding),
+        (
+          placedOnce-is ds fs .test (F .placed),
+          (
+            holdLive-is ds fs .test (F .hold-live),
+            (
+              absentEmpty-is ds fs workers .test (F .absent),
+              (
+                restZero-is ds fs .test (λ w b. (F .within w b, λ k c l. F .zeros w b k l c)),
+                (
+                  linked-is ds fs .test (F .child-of-above),
+                  (
+                    onlyBelow-is ds fs .test (F .only-below),
+                    (
+                      places-is fs first .test (F .places),
+                      tt,
+                    ),
+                  ),
+                ),
+              ),
+            ),
+          ),
+        ),
+      ),
+    ),
+  )
+
+-- ---- numbers, and the whole
+
+module _ (s : Numbers) (ws : List ℕ) where
+  pub numbers-facts : numbersSound s ws ≡ true → NumbersFacts s ws
+  unfolding numbersSound
+  numbers-facts e =
+      let r = row-of (numberSentences s ws) e in
+      record {
+        workers-positive = le-is _ _ .fact (r 0);
+        workers-le = le-is _ _ .fact (r 1);
+        splitters-positive = le-is _ _ .fact (r 2);
+        splitters-le = le-is _ _ .fact (r 3);
+        enough = le-is _ _ .fact (r 4);
+        nodes-le = le-is _ _ .fact (r 5);
+        room = le-is _ _ .fact (r 6);
+      }
+
+  pub facts-numbers : NumbersFacts s ws → numbersSound s ws ≡ true
+  unfolding numbersSound
+  facts-numbers F = of-each (numberSentences s ws) (
+    le-is _ _ .test (F .workers-positive),
+    (
+      le-is _ _ .test (F .workers-le),
+      (
+        le-is _ _ .test (F .splitters-positive),
+        (
+          le-is _ _ .test (F .splitters-le),
+          (
+            le-is _ _ .test (F .enough),
+            (
+              le-is _ _ .test (F .nodes-le),
+              (
+                le-is _ _ .test (F .room),
+                tt,
+              ),
+            ),
+          ),
+        ),
+      ),
+    ),
+  )
+
+module _ (s : Numbers) (ds fs ws : List ℕ) where
+  pub sound-facts : sound s ds fs ws ≡ true → SoundFacts s ds fs ws
+  unfolding sound
+  sound-facts e =
+      let r = row-of (soundParts s ds fs ws) e in
+      record { numbers = numbers-facts s ws (r 0); frames = frames-facts (s .workers) (s .«free_place») ds fs (r 1); pool = r 2 }
+
+  pub facts-sound : SoundFacts s ds fs ws → sound s ds fs ws ≡ true
+  unfolding sound
+  facts-sound F = of-each (soundParts s ds fs ws) (facts-numbers s ws (F .numbers), (facts-frames (s .workers) (s .«free_place») ds fs (F .frames), (F .pool, tt)))
+
+  -- the three parts are all the sentences
+  pub sound-is-all : sound s ds fs ws ≡ allOf (sentences s ds fs ws)
+  unfolding sound numbersSound framesSound poolSound
+  sound-is-all =
+      let fr = frameSentences (s .workers) (s .«free_place») ds fs in
+      let po = poolSentences (s .splitters) (s .nodes) ws (s .«free_node») (liveRoots fs) in
+      sym (allOf-append (numberSentences s ws) (fr ++ po) ∙ ap (λ b. allOf (numberSentences s ws) && b) (allOf-append fr po))
