@@ -5,7 +5,7 @@ use mathlib.Core.List.{List, []}
 use Prim.Native.Nat.{ℕ, _*_, _/_, _%_, _≤_, _<_}
 use native.Mathlib.Omega.{arith}
 use lib.Dec.{eqb, leb, ltb}
-use lib.ListN.{length}
+use lib.ListN.{length, set}
 use borrow.Author.Tests.{le-leb, lt-leb}
 use Rattle.words.specs.Tests.{both, neither, ge-of, true≢false}
 use Rattle.sizes.specs.Sizes.{treeNodes}
@@ -17,7 +17,7 @@ use Rattle.pool_check.specs.declared.PoolChecked.{PoolChecked}
 use Rattle.pool_check.specs.declared.PoolChecked.the-variants.{Bad, Good}
 use Rattle.pool_check.specs.Answer.{poolChecked}
 use Rattle.frames.specs.Widths.{frameWords, dequeWords}
-use Rattle.soundness.specs.Numbers.{numbersIn, numberWords}
+use Rattle.soundness.specs.Numbers.{numbersIn, numberWords, setFreeNode, setFreePlace}
 use Rattle.semantics.specs.declared.Head.{Head}
 use Rattle.semantics.specs.declared.Refusal.the-variants.{Tape}
 use Rattle.semantics.specs.Answers.{refusalNumber}
@@ -26,7 +26,8 @@ use Rattle.semantics.specs.Promises.{parts, IsTape}
 use Rattle.semantics.specs.Ranges.{Kept}
 use Rattle.semantics.specs.Theory.WorkSlice.{checked-room, no-room-keeps}
 use Rattle.semantics.specs.Theory.Kept.{kept-start}
-use Rattle.engine.specs.Promises.{core, checkNumber, freeIn}
+use Rattle.engine.specs.Promises.{core, renewed, checkNumber, freeIn}
+use Rattle.engine.proofs.Laws.{two-words}
 
 -- ---- the check
 
@@ -156,11 +157,16 @@ module _ (ns ds fs ws ks bytes rs : List ℕ) (b : Bool) (eb : b ≡ unfitTape b
     tape-refused r er l = by-result _ ns ds fs ws ks′ rs r (by-check (result s ws ks′ rs r) (refused-by k refl r er l))
 
     pub tape-done : (r free : ℕ) (h h′ : Head) (ns′ ds′ fs′ ws′ rs′ : List ℕ) → r ≡ checkNumber k → r ≡ 0 → free ≡ freeIn k → h ≡ headOf n free
-        → recordsResult (core h′ ds′ fs′ ws′) rs′ ≡ runOn (recordsResult (core h ds fs ws) rs) 0 (recordsOf bytes)
-        → ns′ ≡ numberWords (h′ .numbers) → IsTape (tapeWith (parts ns ds fs) ws ks bytes rs) ns′ ds′ fs′ ws′ ks′ rs′ 0
-    tape-done r free h h′ ns′ ds′ fs′ ws′ rs′ ek′ z ef eh er en′ =
+        → (recordsResult (core h′ ds′ fs′ ws′) rs′ ≡ runOn (recordsResult (core h ds fs ws) rs) 0 (recordsOf bytes))
+        × (h′ ≡ renewed h (h′ .numbers .«free_node») (h′ .numbers .«free_place») (h′ .«free_count»))
+        → length ns ≡ 5 → ns′ ≡ set (set ns 3 (h′ .numbers .«free_node»)) 4 (h′ .numbers .«free_place») → IsTape (tapeWith (parts ns ds fs) ws ks bytes rs) ns′ ds′ fs′ ws′ ks′ rs′ 0
+    tape-done r free h h′ ns′ ds′ fs′ ws′ rs′ ek′ z ef eh er five en′ =
         let e : k ≡ Sound free = not-refused k (sym ek′ ∙ z) ∙ ap Sound (sym ef) in
         let o : recordsResult (core h′ ds′ fs′ ws′) rs′ ≡ runOn (recordsResult (coreOf s ws free) rs) 0 (recordsOf bytes) =
-            er ∙ ap (λ (g : Head). runOn (recordsResult (core g ds fs ws) rs) 0 (recordsOf bytes)) (eh ∙ ap (λ (m : Numbers). headOf m free) en) in
+            er .0 ∙ ap (λ (g : Head). runOn (recordsResult (core g ds fs ws) rs) 0 (recordsOf bytes)) (eh ∙ ap (λ (m : Numbers). headOf m free) en) in
         let d : tapeDone (recordsResult (core h′ ds′ fs′ ws′) rs′) (cleared (numbersIn ns .nodes) ks) ≡ tapeChecked k s ws ks bytes rs = rw e (ap (λ q. tapeDone q (cleared (numbersIn ns .nodes) ks)) o) in
-        by-result _ ns′ ds′ fs′ ws′ ks′ rs′ 0 (by-check _ (rw (en′, checks .0) d))
+        let first : h .numbers ≡ numbersIn ns = ap (λ (g : Head). g .numbers) eh ∙ en in
+        let last : h′ .numbers ≡ setFreePlace (setFreeNode (numbersIn ns) (h′ .numbers .«free_node»)) (h′ .numbers .«free_place») =
+            ap (λ (g : Head). g .numbers) (er .1) ∙ ap (λ (m : Numbers). setFreePlace (setFreeNode m (h′ .numbers .«free_node»)) (h′ .numbers .«free_place»)) first in
+        let words : ns′ ≡ numberWords (h′ .numbers) = en′ ∙ two-words ns (h′ .numbers .«free_node») (h′ .numbers .«free_place») five ∙ ap numberWords (sym last) in
+        by-result _ ns′ ds′ fs′ ws′ ks′ rs′ 0 (by-check _ (rw (words, checks .0) d))

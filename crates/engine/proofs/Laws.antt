@@ -12,6 +12,7 @@ use Rattle.words.specs.Basics.{all}
 use Rattle.words.specs.Tests.{decided, true≢false, neither, not-false, lt-of, ge-of}
 use Rattle.words.specs.Counting.{all-at}
 use Rattle.frames.specs.Deques.{size}
+use Rattle.soundness.specs.Numbers.{numbersIn, numberWords, setFreeNode, setFreePlace}
 use Rattle.semantics.specs.declared.Head.{Head}
 use Rattle.semantics.specs.declared.Refusal.the-variants.{NoWorker, MainReturned, WorkerIdle, ThiefBusy, NoVictim}
 use Rattle.semantics.specs.Core.{actingTests, stealTests}
@@ -93,3 +94,12 @@ five-words (q ∷ r ∷ s ∷ []) a b d e f h = absurd (omega arith)
 five-words (q ∷ r ∷ s ∷ t ∷ []) a b d e f h = absurd (omega arith)
 five-words (q ∷ r ∷ s ∷ t ∷ u ∷ []) a b d e f h = refl
 five-words (q ∷ r ∷ s ∷ t ∷ u ∷ v ∷ l) a b d e f h = absurd (omega arith)
+
+pub two-words : (l : List ℕ) (e f : ℕ) → length l ≡ 5 → set (set l 3 e) 4 f ≡ numberWords (setFreePlace (setFreeNode (numbersIn l) e) f)
+two-words [] e f h = absurd (omega arith)
+two-words (q ∷ []) e f h = absurd (omega arith)
+two-words (q ∷ r ∷ []) e f h = absurd (omega arith)
+two-words (q ∷ r ∷ s ∷ []) e f h = absurd (omega arith)
+two-words (q ∷ r ∷ s ∷ t ∷ []) e f h = absurd (omega arith)
+two-words (q ∷ r ∷ s ∷ t ∷ u ∷ []) e f h = refl
+two-words (q ∷ r ∷ s ∷ t ∷ u ∷ v ∷ l) e f h = absurd (omega arith)

@@ -1,6 +1,6 @@
 // The state's five numbers in their lent words.
 ghost use mathlib.Core.Path.{_≡_};
-ghost use lib.ListN.{length};
+ghost use lib.ListN.{length, set};
 ghost use Rattle.soundness.specs.Numbers.{numbersIn, numberWords};
 use soundness::Numbers;
 
@@ -26,4 +26,13 @@ pub fn put_numbers(numbers: &mut [u32], n: Numbers)
     numbers[2] = n.nodes;
     numbers[3] = n.free_node;
     numbers[4] = n.free_place;
+}
+
+// The first free node and the first free place, which alone change in a run.
+pub fn put_free(numbers: &mut [u32], node: u32, place: u32)
+    requires { ⌜ length (now numbers) ≡ 5 ⌝ }
+    ensures { λ _. ⌜ now (numbers .exit) ≡ set (set (now (numbers .entry)) 3 node) 4 place ⌝ }
+{
+    numbers[3] = node;
+    numbers[4] = place;
 }

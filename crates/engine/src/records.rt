@@ -99,8 +99,9 @@ pub fn run_tape(
     answers: &mut [u32],
 ) -> Head
     requires { ⌜ Kept (core h (now deques) (now frames) (now pool)) × (2 * (length (now tape) / 8) ≤ length (now answers)) ⌝ }
-    ensures { λ r. ⌜ recordsResult (core r (now (deques .exit)) (now (frames .exit)) (now (pool .exit))) (now (answers .exit))
-        ≡ runOn (recordsResult (core h (now (deques .entry)) (now (frames .entry)) (now (pool .entry))) (now (answers .entry))) 0 (recordsOf (now (tape .entry))) ⌝ }
+    ensures { λ r. ⌜ (recordsResult (core r (now (deques .exit)) (now (frames .exit)) (now (pool .exit))) (now (answers .exit))
+        ≡ runOn (recordsResult (core h (now (deques .entry)) (now (frames .entry)) (now (pool .entry))) (now (answers .entry))) 0 (recordsOf (now (tape .entry))))
+        × (r ≡ renewed h (r .numbers .«free_node») (r .numbers .«free_place») (r .«free_count»)) ⌝ }
 {
     let mut free_node = h.numbers.free_node;
     let mut free_place = h.numbers.free_place;

@@ -6,7 +6,7 @@ ghost use Rattle.engine.specs.Promises.{checkNumber, freeIn};
 use crate::answers::refusal_number;
 use crate::checking::check;
 use crate::numbers::numbers_in;
-use crate::numbers::put_numbers;
+use crate::numbers::put_free;
 use crate::records::run_tape;
 use semantics::Head;
 use semantics::Refusal;
@@ -86,6 +86,10 @@ pub fn tape_on(
         bytes,
         answers,
     );
-    put_numbers(numbers, last.numbers);
+    put_free(
+        numbers,
+        last.numbers.free_node,
+        last.numbers.free_place,
+    );
     0
 }

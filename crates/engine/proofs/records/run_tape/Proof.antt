@@ -75,7 +75,7 @@ loop-again-2 c =
 
 returns : tie.Need-returns Inv-loop μ-loop
 returns c =
-    rw (c .head-with2 .ensures) (sym (finish _ _ _ (c .before .before .loop .i) _ _ (c .before .loop-test .left)) ∙ c .before .before .loop .inv .6)
+    rw (c .head-with2 .ensures) (sym (finish _ _ _ (c .before .before .loop .i) _ _ (c .before .loop-test .left)) ∙ c .before .before .loop .inv .6, refl)
 
 pub run-tape-spec : {M : Type 1} → statement M
 run-tape-spec = tie.close (tie.spec Inv-loop μ-loop loop-holds (λ c. search needs) (λ c. search needs) (λ c. search needs) (λ c κs. search needs) step-record-requires (λ c. search needs) (λ c. search needs) (λ c κs. search needs) put-answer-requires (λ c. search needs) loop-again (λ c κs. search needs) (λ c κs. search needs) put-answer-requires-2 (λ c. search needs) loop-again-2 (λ c κs. search needs) (λ c. search needs) (λ c. search needs) (λ c. search needs) (λ c. search needs) returns)

@@ -87,8 +87,8 @@ run-tape-requires c κs =
     (found-sound _ _ _ _ _ _ _ _ _ _ (s .pre .deques) (s .pre .frames) (k .check .ensures) (r .check-number .ensures) (l .if2 .left) (h .before .free-in .ensures) (h .head-of .ensures),
     fit-answers (s .args .bytes .now) (s .args .answers .now) _ (e .before .unfit-tape .ensures) (e .if1 .left))
 
-put-numbers-requires : tie.Need-put-numbers-requires
-put-numbers-requires c κs =
+put-free-requires : tie.Need-put-free-requires
+put-free-requires c κs =
     c .before .before .before .before .before .before .before .before .before .before .before .before .before .before .before .before .before .before .before .before .before .before .before .before .before .before .before .before .before .before .before .before .before .before .before .before .before .pre .numbers
 
 same-length-8 : tie.Need-same-length-8
@@ -120,7 +120,7 @@ returns-3 c =
     let e = fit-of n in
     let s = start-of (e .before) in
     tape-done (s .args .numbers .now) _ _ _ _ _ _ _ (e .before .unfit-tape .ensures) (e .if1 .left) _ (n .numbers-in .ensures) _ _ (k .check .ensures) _ _ _ _ _ _ _ _ _ (r .check-number .ensures) (l .if2 .left) (h .before .free-in .ensures) (h .head-of .ensures)
-    (t .run-tape .ensures) (c .before .before .put-numbers .ensures)
+    (t .run-tape .ensures) (s .pre .numbers) (c .before .before .put-free .ensures)
 
 pub tape-on-spec : {M : Type 1} → statement M
 tape-on-spec =
@@ -143,7 +143,7 @@ tape-on-spec =
     free-in-requires
     head-of-requires
     run-tape-requires
-    put-numbers-requires
+    put-free-requires
     same-length-8
     same-length-9
     same-length-10
