@@ -4,3 +4,4 @@ pub mod Turns
 pub mod Starts
 pub mod Checks
 pub mod Passing
+pub mod Fitting

@@ -110,14 +110,7 @@ fn return_at(
     }
 }
 
-fn sync_at(
-    h: Head,
-    deques: &mut [u32],
-    frames: &mut [u32],
-    pool: &mut [u32],
-    w: u32,
-    p: u32,
-) -> Out
+fn sync_at(h: Head, deques: &mut [u32], frames: &mut [u32], pool: &mut [u32], w: u32, p: u32) -> Out
     requires { ⌜ Ready (core h (now deques) (now frames) (now pool)) × ActsAt (core h (now deques) (now frames) (now pool)) w p ⌝ }
     ensures { λ r. ⌜ Leaves h r (now (deques .exit)) (now (frames .exit)) (now (pool .exit))
         (kindOn (core h (now (deques .entry)) (now (frames .entry)) (now (pool .entry))) (Sync w)) ⌝ }
@@ -186,13 +179,7 @@ fn write_at(
     }
 }
 
-pub fn step_spawn(
-    h: Head,
-    deques: &mut [u32],
-    frames: &mut [u32],
-    pool: &mut [u32],
-    w: u32,
-) -> Out
+pub fn step_spawn(h: Head, deques: &mut [u32], frames: &mut [u32], pool: &mut [u32], w: u32) -> Out
     requires { ⌜ Ready (core h (now deques) (now frames) (now pool)) ⌝ }
     ensures { λ r. ⌜ Leaves h r (now (deques .exit)) (now (frames .exit)) (now (pool .exit))
         (stepOn (core h (now (deques .entry)) (now (frames .entry)) (now (pool .entry))) (Spawn w)) ⌝ }
@@ -204,13 +191,7 @@ pub fn step_spawn(
     }
 }
 
-pub fn step_return(
-    h: Head,
-    deques: &mut [u32],
-    frames: &mut [u32],
-    pool: &mut [u32],
-    w: u32,
-) -> Out
+pub fn step_return(h: Head, deques: &mut [u32], frames: &mut [u32], pool: &mut [u32], w: u32) -> Out
     requires { ⌜ Ready (core h (now deques) (now frames) (now pool)) ⌝ }
     ensures { λ r. ⌜ Leaves h r (now (deques .exit)) (now (frames .exit)) (now (pool .exit))
         (stepOn (core h (now (deques .entry)) (now (frames .entry)) (now (pool .entry))) (Return w)) ⌝ }
@@ -222,13 +203,7 @@ pub fn step_return(
     }
 }
 
-pub fn step_sync(
-    h: Head,
-    deques: &mut [u32],
-    frames: &mut [u32],
-    pool: &mut [u32],
-    w: u32,
-) -> Out
+pub fn step_sync(h: Head, deques: &mut [u32], frames: &mut [u32], pool: &mut [u32], w: u32) -> Out
     requires { ⌜ Ready (core h (now deques) (now frames) (now pool)) ⌝ }
     ensures { λ r. ⌜ Leaves h r (now (deques .exit)) (now (frames .exit)) (now (pool .exit))
         (stepOn (core h (now (deques .entry)) (now (frames .entry)) (now (pool .entry))) (Sync w)) ⌝ }

@@ -1,18 +1,18 @@
-// The engine below the entries: a start and a tape over parts of the state that have their lengths, and below them a step, a record and
-// the check over lent words. Each contract is an equation with a definition of the crate semantics. What is below the check requires
-// a sound core, which the check shows.
+// The engine: a start and a tape over the state's lent parts, which ask nothing of their callers, and below them the check, a step and a
+// record over lent words. Each contract is an equation with a definition of the crate semantics. What is below the test of the lengths
+// requires them, and what is below the check a sound core, which the check shows.
 mod answers;
+mod begin;
 mod checking;
+mod entries;
 mod kinds;
 mod numbers;
 mod records;
 mod refusals;
-mod start;
-mod tape;
+mod tapes;
 
-pub use answers::refusal_number;
-pub use start::start_on;
-pub use tape::tape_on;
+pub use entries::start;
+pub use entries::tape;
 use semantics::Answer;
 use semantics::Refusal;
 

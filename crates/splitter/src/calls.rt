@@ -4,22 +4,11 @@ ghost use mathlib.Core.Path.{_≡_};
 ghost use Prim.Native.Nat.{_%_, _^_, min};
 ghost use Rattle.sizes.specs.Sizes.{treeNodes};
 ghost use Rattle.model.specs.Record.{recordOf, decodeAt};
-ghost use Rattle.semantics.specs.Entries.{fits, startOn, outsideOn, tapeOn};
+ghost use Rattle.semantics.specs.Entries.{startOn, outsideOn, tapeOn};
 ghost use Rattle.semantics.specs.Promises.{parts, IsStart, IsOutside, IsTape};
 ghost use Rattle.splitter.specs.OneRecord.{bytesOf, resultWords};
-use engine::refusal_number;
-use engine::start_on;
-use engine::tape_on;
-use frames::DEQUE_WORDS;
-use frames::FRAME_WORDS;
-use semantics::Refusal;
-
-// Has each part its length?
-fn fit(numbers: &[u32], deques: &[u32], frames: &[u32]) -> bool
-    ensures { λ r. ⌜ r ≡ fits (parts (now (numbers .entry)) (now (deques .entry)) (now (frames .entry))) ⌝ }
-{
-    (numbers.len() == 5) & ((deques.len() == DEQUE_WORDS) & (frames.len() == FRAME_WORDS))
-}
+use engine::start;
+use engine::tape;
 
 #[no_mangle]
 pub extern "C" fn splitter_start(
@@ -33,10 +22,7 @@ pub extern "C" fn splitter_start(
     ensures { λ r. ⌜ IsStart (startOn (parts (now (numbers .entry)) (now (deques .entry)) (now (frames .entry))) workers (now (values .entry)) (now (pool .entry)))
         (now (numbers .exit)) (now (deques .exit)) (now (frames .exit)) (now (pool .exit)) r ⌝ }
 {
-    if !fit(numbers, deques, frames) {
-        return refusal_number(Refusal::Lengths);
-    }
-    start_on(numbers, deques, frames, workers, values, pool)
+    start(numbers, deques, frames, workers, values, pool)
 }
 
 // The lesser of the two.
@@ -107,20 +93,9 @@ pub extern "C" fn splitter_step(
     ensures { λ r. ⌜ IsOutside (outsideOn (parts (now (numbers .entry)) (now (deques .entry)) (now (frames .entry))) (now (pool .entry)) (now (work .entry)) (recordOf kind worker field value))
         (now (numbers .exit)) (now (deques .exit)) (now (frames .exit)) (now (pool .exit)) (now (work .exit)) r ⌝ }
 {
-    if !fit(numbers, deques, frames) {
-        return refusal_number(Refusal::Lengths) as u64;
-    }
     let bytes = record_of(kind, worker, field, value);
     let mut answers = [0u32; 2];
-    let refused = tape_on(
-        numbers,
-        deques,
-        frames,
-        pool,
-        work,
-        &bytes,
-        &mut answers,
-    );
+    let refused = tape(numbers, deques, frames, pool, work, &bytes, &mut answers);
     result_words(refused, answers[0], answers[1])
 }
 
@@ -137,10 +112,7 @@ pub extern "C" fn splitter_tape(
     ensures { λ r. ⌜ IsTape (tapeOn (parts (now (numbers .entry)) (now (deques .entry)) (now (frames .entry))) (now (pool .entry)) (now (work .entry)) (now (bytes .entry)) (now (answers .entry)))
         (now (numbers .exit)) (now (deques .exit)) (now (frames .exit)) (now (pool .exit)) (now (work .exit)) (now (answers .exit)) r ⌝ }
 {
-    if !fit(numbers, deques, frames) {
-        return refusal_number(Refusal::Lengths);
-    }
-    tape_on(numbers, deques, frames, pool, work, bytes, answers)
+    tape(numbers, deques, frames, pool, work, bytes, answers)
 }
 
 // T(n).

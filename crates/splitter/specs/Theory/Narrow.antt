@@ -2,7 +2,7 @@
 -- at most 8 workers and 256 splitters.
 use mathlib.Core.Path.{_≡_, refl, sym, ap, _∙_}
 use mathlib.Core.Logic.{inl, inr}
-use mathlib.Core.Bool.{Bool, true, false, not, _&&_}
+use mathlib.Core.Bool.{Bool, true, false, cond, not, _&&_}
 use mathlib.Core.List.{List, [], _∷_}
 use Prim.Native.Nat.{ℕ, _≤_, _<_, min}
 use native.Mathlib.Omega.{arith}
@@ -21,9 +21,9 @@ use Rattle.model.specs.declared.Decoded.{Decoded}
 use Rattle.model.specs.declared.Decoded.the-variants.{Valid, Invalid}
 use Rattle.model.specs.Steps.{firstTrue}
 use Rattle.model.specs.Record.{validIf, recordOf}
-use Rattle.semantics.specs.declared.Refusal.the-variants.{NoWorker, MainReturned, ThiefBusy, NoVictim, NoSplitter}
+use Rattle.semantics.specs.declared.Refusal.the-variants.{NoWorker, MainReturned, ThiefBusy, NoVictim, NoSplitter, Lengths}
 use Rattle.semantics.specs.Core.{Core, StepResult, noWorker, allIdle, idle, judged, actingTests, stepOn}
-use Rattle.semantics.specs.Entries.{State, numbersOf, coreOf, checkedState, recordOn, outsideDone, outsideChecked, outsideWith}
+use Rattle.semantics.specs.Entries.{State, numbersOf, coreOf, checkedState, fits, recordOn, OutsideResult, outsideDone, outsideRefused, outsideChecked, outsideWith, outsideOn}
 use Rattle.semantics.specs.Theory.Refusals.{refusedBy}
 use Rattle.soundness.specs.Theory.Sentences.{sound-facts}
 
@@ -154,6 +154,10 @@ module _ (s : State) (ws ks : List ℕ) (kind w x v : ℕ) where
       ap (λ d. outsideDone d (cleared (numbersOf s .nodes) ks)) (record-cut (coreOf s ws k) (F .workers-le) (F .splitters-le) w x v kind)
 
   -- the fields cut to 8, 8 and 16 bits
-  pub same-cut : outsideWith s ws ks (recordOf (min kind 255) (min w 255) (min x 65535) v) ≡ outsideWith s ws ks (recordOf kind w x v)
+  with-cut : outsideWith s ws ks (recordOf (min kind 255) (min w 255) (min x 65535) v) ≡ outsideWith s ws ks (recordOf kind w x v)
   unfolding outsideWith
-  same-cut = check-cut (checkedState s ws ks) refl
+  with-cut = check-cut (checkedState s ws ks) refl
+
+  pub same-cut : outsideOn s ws ks (recordOf (min kind 255) (min w 255) (min x 65535) v) ≡ outsideOn s ws ks (recordOf kind w x v)
+  unfolding outsideOn
+  same-cut = ap (λ (o : OutsideResult). cond (fits s) o (outsideRefused s ws ks Lengths)) with-cut

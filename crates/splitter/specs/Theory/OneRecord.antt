@@ -1,15 +1,17 @@
 -- A step as a tape of one record: the record's bytes, and what the tape leaves and answers.
 use mathlib.Core.Path.{_≡_, refl}
+use mathlib.Core.Logic.{inl, inr}
 use mathlib.Core.List.{List, [], _∷_}
 use Prim.Native.Nat.{ℕ, _+_, _*_, _/_, _%_, _^_, _<_, min}
 use native.Mathlib.Nat.{div-div-eq-div-mul}
 use native.Mathlib.Omega.{arith}
 use lib.ListN.{length, getD, set}
+use Rattle.words.specs.Tests.{decided}
 use Rattle.soundness.specs.declared.Checked.{Checked}
 use Rattle.soundness.specs.declared.Checked.the-variants.{NoRoom, Sound}
 use Rattle.model.specs.Record.{little, recordOf, decodeAt}
 use Rattle.semantics.specs.Answers.{answerWords, bothWords}
-use Rattle.semantics.specs.Entries.{State, OutsideResult, TapeResult, coreOf, checkedState, recordOn, recordsFrom, recordsOf, runOn, outsideChecked, outsideWith, tapeChecked, tapeWith}
+use Rattle.semantics.specs.Entries.{State, OutsideResult, TapeResult, coreOf, checkedState, recordOn, recordsFrom, recordsOf, runOn, outsideChecked, outsideWith, outsideOn, tapeChecked, tapeWith, tapeOn, fits}
 use Rattle.splitter.specs.OneRecord.{bytesOf, resultWords}
 
 -- ---- the bytes
@@ -64,6 +66,14 @@ module _ (s : State) (ws ks bytes rs : List ℕ) (long : length bytes ≡ 8) (tw
       let o = recordOn (coreOf s ws k) (decodeAt bytes 0) in
       rw one (record { state = refl; pool = refl; work = refl; words = put-two rs two (answerWords (o .answer) .0) (answerWords (o .answer) .1) })
 
-  pub one-record : Same (tapeWith s ws ks bytes rs) (outsideWith s ws ks (decodeAt bytes 0))
+  one-record : Same (tapeWith s ws ks bytes rs) (outsideWith s ws ks (decodeAt bytes 0))
   unfolding tapeWith outsideWith
   one-record = rw (long, two) (one-checked (checkedState s ws ks))
+
+  -- on all inputs: a part that has another length is refused alike
+  pub one-step : Same (tapeOn s ws ks bytes rs) (outsideOn s ws ks (decodeAt bytes 0))
+  unfolding tapeOn outsideOn
+  one-step = elim (decided (fits s)) [
+    | inl e ↦ rw e one-record
+    | inr e ↦ rw e (record { state = refl; pool = refl; work = refl; words = refl })
+  ]

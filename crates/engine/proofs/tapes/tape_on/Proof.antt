@@ -3,8 +3,8 @@ use mathlib.Core.Path.{_≡_}
 use native.Mathlib.Omega.{arith}
 use Rattle.engine.proofs.Checks.{found-sound, fit-answers, tape-unfit, tape-refused, tape-done}
 use borrow.Author.Needs.{needs}
-use Rattle.engine.proofs.tape.tape_on.Statement.{statement}
-use Rattle.engine.proofs.tape.tape_on.Tie as tie
+use Rattle.engine.proofs.tapes.tape_on.Statement.{statement}
+use Rattle.engine.proofs.tapes.tape_on.Tie as tie
 
 abbrev start-of : tie.After-unfit-tape → tie.Start
 start-of u = u .before .before .before .before .before .before .before .before .before
@@ -83,9 +83,10 @@ run-tape-requires c κs =
     let k = check-of r in
     let n = numbers-of k in
     let e = fit-of n in
-    let s = start-of (e .before) in
-    (found-sound _ _ _ _ _ _ _ _ _ _ (s .pre .deques) (s .pre .frames) (k .check .ensures) (r .check-number .ensures) (l .if2 .left) (h .before .free-in .ensures) (h .head-of .ensures),
-    fit-answers (s .args .bytes .now) (s .args .answers .now) _ (e .before .unfit-tape .ensures) (e .if1 .left))
+    let s = start-of (e .before) in (
+      found-sound _ _ _ _ _ _ _ _ _ _ (s .pre .deques) (s .pre .frames) (k .check .ensures) (r .check-number .ensures) (l .if2 .left) (h .before .free-in .ensures) (h .head-of .ensures),
+      fit-answers (s .args .bytes .now) (s .args .answers .now) _ (e .before .unfit-tape .ensures) (e .if1 .left),
+    )
 
 put-free-requires : tie.Need-put-free-requires
 put-free-requires c κs =

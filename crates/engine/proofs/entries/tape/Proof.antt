@@ -1,9 +1,9 @@
 -- A part has another length, or the engine's tape: the ways out are in `proofs.Ways`.
 use borrow.Author.Tests.{not-true, not-false}
-use Rattle.splitter.proofs.Ways.{fit, tape-unfit, tape-fit}
+use Rattle.engine.proofs.Fitting.{fit, tape-unfit, tape-fit}
 use borrow.Author.Needs.{needs}
-use Rattle.splitter.proofs.calls.splitter_tape.Statement.{statement}
-use Rattle.splitter.proofs.calls.splitter_tape.Tie as tie
+use Rattle.engine.proofs.entries.tape.Statement.{statement}
+use Rattle.engine.proofs.entries.tape.Tie as tie
 
 abbrev start-of : tie.After-fit → tie.Start
 start-of f = f .before .before .before .before .before .before .before .before .before .before .before
@@ -59,8 +59,8 @@ returns-2 c =
     let f = e .before in
     tape-fit (start-of f .args .numbers .now) _ _ _ (f .fit .ensures) (not-false _ (e .if1 .left)) _ _ _ _ _ _ _ _ _ _ _ (c .before .before .before .before .before .before .before .before .before .before .before .before .tape-on .ensures)
 
-pub splitter-tape-spec : {M : Type 1} → statement M
-splitter-tape-spec =
+pub tape-spec : {M : Type 1} → statement M
+tape-spec =
     tie.close
     (tie.spec
     fit-requires

@@ -1,8 +1,8 @@
 use borrow.Author.Needs.{needs}
 use Prim.Native.Nat.{_≤_}
 use Rattle.engine.proofs.Starts.{few, start-values, start-workers, start-nodes, start-passes}
-use Rattle.engine.proofs.start.start_verdict.Statement.{statement}
-use Rattle.engine.proofs.start.start_verdict.Tie as tie
+use Rattle.engine.proofs.begin.start_verdict.Statement.{statement}
+use Rattle.engine.proofs.begin.start_verdict.Tie as tie
 
 returns : tie.Need-returns
 returns c = start-values (c .before .args .workers) (c .before .args .n) (c .before .args .nodes) (c .if1 .taken)

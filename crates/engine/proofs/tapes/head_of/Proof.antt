@@ -1,7 +1,7 @@
 -- The height is that of the splitters.
 use borrow.Author.Needs.{needs}
-use Rattle.engine.proofs.tape.head_of.Statement.{statement}
-use Rattle.engine.proofs.tape.head_of.Tie as tie
+use Rattle.engine.proofs.tapes.head_of.Statement.{statement}
+use Rattle.engine.proofs.tapes.head_of.Tie as tie
 
 height-of-requires : tie.Need-height-of-requires
 height-of-requires c κs = search needs

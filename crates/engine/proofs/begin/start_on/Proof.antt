@@ -5,8 +5,8 @@ use native.Mathlib.Omega.{arith}
 use lib.ListN.{length}
 use Rattle.engine.proofs.Starts.{start-fits, start-refused, started}
 use borrow.Author.Needs.{needs}
-use Rattle.engine.proofs.start.start_on.Statement.{statement}
-use Rattle.engine.proofs.start.start_on.Tie as tie
+use Rattle.engine.proofs.begin.start_on.Statement.{statement}
+use Rattle.engine.proofs.begin.start_on.Tie as tie
 
 abbrev start-of : tie.After-start-verdict → tie.Start
 start-of v = v .before .before .before .before .before .before

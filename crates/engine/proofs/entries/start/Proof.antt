@@ -1,9 +1,9 @@
 -- A part has another length, or the engine's start: the ways out are in `proofs.Ways`.
 use borrow.Author.Tests.{not-true, not-false}
-use Rattle.splitter.proofs.Ways.{fit, start-unfit, start-fit}
+use Rattle.engine.proofs.Fitting.{fit, start-unfit, start-fit}
 use borrow.Author.Needs.{needs}
-use Rattle.splitter.proofs.calls.splitter_start.Statement.{statement}
-use Rattle.splitter.proofs.calls.splitter_start.Tie as tie
+use Rattle.engine.proofs.entries.start.Statement.{statement}
+use Rattle.engine.proofs.entries.start.Tie as tie
 
 abbrev start-of : tie.After-fit → tie.Start
 start-of f = f .before .before .before .before .before .before .before .before .before
@@ -53,8 +53,8 @@ returns-2 c =
     let f = e .before in
     start-fit (start-of f .args .numbers .now) _ _ _ (f .fit .ensures) (not-false _ (e .if1 .left)) _ _ _ _ _ _ _ _ (c .before .before .before .before .before .before .before .before .start-on .ensures)
 
-pub splitter-start-spec : {M : Type 1} → statement M
-splitter-start-spec =
+pub start-spec : {M : Type 1} → statement M
+start-spec =
     tie.close
     (tie.spec
     fit-requires

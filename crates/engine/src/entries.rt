@@ -1,0 +1,53 @@
+// The start and the tape, on all inputs: a part of the state that has another length than it must have is refused first, by 99, and
+// nothing changes.
+ghost use mathlib.Core.Path.{_≡_};
+ghost use Rattle.semantics.specs.Entries.{fits, startOn, tapeOn};
+ghost use Rattle.semantics.specs.Promises.{parts, IsStart, IsTape};
+use crate::answers::refusal_number;
+use crate::begin::start_on;
+use crate::tapes::tape_on;
+use frames::DEQUE_WORDS;
+use frames::FRAME_WORDS;
+use semantics::Refusal;
+
+// Has each part its length?
+fn fit(numbers: &[u32], deques: &[u32], frames: &[u32]) -> bool
+    ensures { λ r. ⌜ r ≡ fits (parts (now (numbers .entry)) (now (deques .entry)) (now (frames .entry))) ⌝ }
+{
+    (numbers.len() == 5) & ((deques.len() == DEQUE_WORDS) & (frames.len() == FRAME_WORDS))
+}
+
+pub fn start(
+    numbers: &mut [u32],
+    deques: &mut [u32],
+    frames: &mut [u32],
+    workers: u32,
+    values: &[u32],
+    pool: &mut [u32],
+) -> u32
+    ensures { λ r. ⌜ IsStart (startOn (parts (now (numbers .entry)) (now (deques .entry)) (now (frames .entry))) workers (now (values .entry)) (now (pool .entry)))
+        (now (numbers .exit)) (now (deques .exit)) (now (frames .exit)) (now (pool .exit)) r ⌝ }
+{
+    if !fit(numbers, deques, frames) {
+        return refusal_number(Refusal::Lengths);
+    }
+    start_on(numbers, deques, frames, workers, values, pool)
+}
+
+pub fn tape(
+    numbers: &mut [u32],
+    deques: &mut [u32],
+    frames: &mut [u32],
+    pool: &mut [u32],
+    work: &mut [u32],
+    bytes: &[u8],
+    answers: &mut [u32],
+) -> u32
+    ensures { λ r. ⌜ IsTape (tapeOn (parts (now (numbers .entry)) (now (deques .entry)) (now (frames .entry))) (now (pool .entry)) (now (work .entry)) (now (bytes .entry)) (now (answers .entry)))
+        (now (numbers .exit)) (now (deques .exit)) (now (frames .exit)) (now (pool .exit)) (now (work .exit)) (now (answers .exit)) r ⌝ }
+{
+    if !fit(numbers, deques, frames) {
+        return refusal_number(Refusal::Lengths);
+    }
+    tape_on(numbers, deques, frames, pool, work, bytes, answers)
+}
