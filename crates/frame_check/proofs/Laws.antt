@@ -17,7 +17,7 @@ use Rattle.frames.specs.declared.Frame.{Frame}
 use Rattle.frames.specs.Frames.{frameAt}
 use Rattle.frames.specs.Deques.{size, place}
 use Rattle.soundness.specs.Soundness.{framesSound}
-use Rattle.frame_check.specs.Algorithm.{bump, tally, tallyList, tallyChildren, tallyDeques, chain, dequeFits, dequeSound}
+use Rattle.frame_check.specs.Algorithm.{chainStep, bump, tally, tallyList, tallyChildren, tallyDeque, tallyDeques, chain, tallyChain, dequeFits, dequeSound}
 use Rattle.frame_check.specs.Algorithm.{mains, liveSound, freeSound, placeSound, placeTallied, placeChecked, zeros, checkFrames}
 use Rattle.frame_check.specs.Theory.Theorem.{check-frames}
 
@@ -31,20 +31,20 @@ all-turn k f e h = rw (add-one, e, h)
 pub howMany-turn : (k : ℕ) (f : ℕ → Bool) {n t : ℕ} → n ≡ howMany k f → t ≡ cond (f k) 1 0 → n + t ≡ howMany (k + 1) f
 howMany-turn k f e h = rw (add-one, e, h)
 
-pub tally-turn : (k : ℕ) (f : ℕ → ℕ) (ts : List ℕ) {us : List ℕ} {p : ℕ} → us ≡ tally k f ts → p ≡ f k → bump us p ≡ tally (k + 1) f ts
+pub tally-turn : (step k : ℕ) (f : ℕ → ℕ) (ts : List ℕ) {us : List ℕ} {p : ℕ} → us ≡ tally step k f ts → p ≡ f k → bump step us p ≡ tally step (k + 1) f ts
 unfolding tally
-tally-turn k f ts e h = rw (add-one, e, h)
+tally-turn step k f ts e h = rw (add-one, e, h)
 
-pub tallyDeques-turn : (w : ℕ) (ds ts : List ℕ) {us : List ℕ} → us ≡ tallyDeques w ds ts → tally (size ds w) (place ds w) us ≡ tallyDeques (w + 1) ds ts
+pub tallyDeques-turn : (w : ℕ) (ds ts : List ℕ) {us : List ℕ} → us ≡ tallyDeques w ds ts → tallyDeque ds w us ≡ tallyDeques (w + 1) ds ts
 unfolding tallyDeques
 tallyDeques-turn w ds ts e = rw (add-one, e)
 
 -- ---- along the chain: what is left of it from p on, in tallies ts that are sound so far, gives the tallies X and the answer b
 abbrev pub Walk : (ℕ → ℕ) → List ℕ → Bool → ℕ → ℕ → List ℕ → Bool → Type 0
-Walk next X b left p ts s = (tallyList (follow left next p) ts ≡ X) × (s && below places (follow left next p) ≡ b)
+Walk next X b left p ts s = (tallyList chainStep (follow left next p) ts ≡ X) × (s && below places (follow left next p) ≡ b)
 
 pub walk-turn : (next : ℕ → ℕ) (X : List ℕ) (b : Bool) (left p : ℕ) (ts : List ℕ) (s : Bool) → 0 < left → p ≢ none
-    → Walk next X b left p ts s → Walk next X b (left - 1) (next p) (bump ts p) (s && ltb p places)
+    → Walk next X b left p ts s → Walk next X b (left - 1) (next p) (bump chainStep ts p) (s && ltb p places)
 unfolding tallyList
 walk-turn next X b left p ts s h n w =
     let e : left ≡ suc (left - 1) = omega arith in
@@ -86,12 +86,12 @@ module _ (workers first : ℕ) (ds fs : List ℕ) where
       whole : false ≡ checkFrames workers first ds fs
       whole = rw e
 
-  pub fit : all maxWorkers (dequeFits workers ds) ≡ true → {placed chained sound : Bool} {n : ℕ} {children seen free : List ℕ}
-      → placed ≡ all maxWorkers (dequeSound ds fs) → chained ≡ below places (chain fs first) → n ≡ mains fs → children ≡ tallyChildren fs zeros → seen ≡ tallyDeques maxWorkers ds zeros
-      → free ≡ tallyList (chain fs first) zeros → sound ≡ all places (placeTallied fs children seen free)
+  pub fit : all maxWorkers (dequeFits workers ds) ≡ true → {placed chained sound : Bool} {n : ℕ} {us vs ts : List ℕ}
+      → placed ≡ all maxWorkers (dequeSound ds fs) → chained ≡ below places (chain fs first) → n ≡ mains fs → us ≡ tallyChildren fs zeros → vs ≡ tallyDeques maxWorkers ds us
+      → ts ≡ tallyChain fs first vs → sound ≡ all places (placeTallied fs ts)
       → (placed && chained) && (leb n 1 && sound) ≡ framesSound workers first ds fs
   unfolding checkFrames
-  fit e a b c d f g h = rw (h, a, b, c, d, f, g) (sym (ap (λ (t : Bool). t && rest) e) ∙ check-frames workers first ds fs)
+  fit e a b c d f g h = rw (h, a, b, c, g, f, d) (sym (ap (λ (t : Bool). t && rest) e) ∙ check-frames workers first ds fs)
     where
       rest : Bool
       rest = (all maxWorkers (dequeSound ds fs) && below places (chain fs first)) && (leb (mains fs) 1 && all places (placeChecked first ds fs))

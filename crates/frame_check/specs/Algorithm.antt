@@ -1,9 +1,9 @@
 -- The check of frames and deques over lists of words: what the functions of src/ compute. Definitions only; that it is document
 -- 01's soundness is the theorem of Theorem. It is linear in the places: how often a place stands somewhere is counted in an
--- array of tallies, one word for each place, instead of searched for.
+-- array of tallies, one word for each place, instead of searched for. The word holds three counts, each below 1,024.
 use mathlib.Core.Bool.{Bool, cond, _||_, _&&_}
 use mathlib.Core.List.{List, [], _∷_}
-use Prim.Native.Nat.{ℕ, zero, suc, _-_}
+use Prim.Native.Nat.{ℕ, zero, suc, _-_, _/_, _%_}
 use lib.ListN.{getD, set, replicate}
 use lib.Dec.{eqb, leb, ltb}
 use Rattle.words.specs.Basics.{none, plus, all, howMany, below, follow}
@@ -14,19 +14,39 @@ use Rattle.frames.specs.Deques.{size, place}
 
 -- ---- tallies
 
--- one more at p; past the end, nothing
-unfoldable pub bump : List ℕ → ℕ → List ℕ
-bump ts p = set ts p (plus (getD ts p 0) 1)
+-- the steps in which a place's word counts its children, its places in deques and its places on the free chain
+abbrev pub childStep : ℕ
+childStep = 1
 
--- one more at each of f 0, .., f (n - 1)
-unfoldable pub tally : ℕ → (ℕ → ℕ) → List ℕ → List ℕ
-tally zero f ts = ts
-tally (suc n) f ts = bump (tally n f ts) (f n)
+abbrev pub dequeStep : ℕ
+dequeStep = 1024
 
--- one more at each element
-unfoldable pub tallyList : List ℕ → List ℕ → List ℕ
-tallyList [] ts = ts
-tallyList (x ∷ xs) ts = tallyList xs (bump ts x)
+abbrev pub chainStep : ℕ
+chainStep = 1048576
+
+-- the word taken apart
+abbrev pub childCount : ℕ → ℕ
+childCount t = t % dequeStep
+
+abbrev pub dequeCount : ℕ → ℕ
+dequeCount t = (t % chainStep) / dequeStep
+
+abbrev pub chainCount : ℕ → ℕ
+chainCount t = t / chainStep
+
+-- one step more at p; past the end, nothing
+unfoldable pub bump : ℕ → List ℕ → ℕ → List ℕ
+bump step ts p = set ts p (plus (getD ts p 0) step)
+
+-- one step more at each of f 0, .., f (n - 1)
+unfoldable pub tally : ℕ → ℕ → (ℕ → ℕ) → List ℕ → List ℕ
+tally step zero f ts = ts
+tally step (suc n) f ts = bump step (tally step n f ts) (f n)
+
+-- one step more at each element
+unfoldable pub tallyList : ℕ → List ℕ → List ℕ → List ℕ
+tallyList step [] ts = ts
+tallyList step (x ∷ xs) ts = tallyList step xs (bump step ts x)
 
 -- where a frame is counted as a child: at its parent if it lives, else nowhere
 abbrev pub childAt : Frame → ℕ
@@ -37,11 +57,11 @@ childIn fs c = childAt (frameAt fs c)
 
 -- at each place the number of its live children
 abbrev pub tallyChildren : List ℕ → List ℕ → List ℕ
-tallyChildren fs = tally places (childIn fs)
+tallyChildren fs = tally childStep places (childIn fs)
 
 -- at each place how often it stands in deque w
 abbrev pub tallyDeque : List ℕ → ℕ → List ℕ → List ℕ
-tallyDeque ds w = tally (size ds w) (place ds w)
+tallyDeque ds w = tally dequeStep (size ds w) (place ds w)
 
 -- at each place how often it stands in the deques of the first n workers
 unfoldable pub tallyDeques : ℕ → List ℕ → List ℕ → List ℕ
@@ -54,6 +74,10 @@ next fs p = frameAt fs p .parent
 -- the chain of free places; one step more than places passes its end
 unfoldable pub chain : List ℕ → ℕ → List ℕ
 chain fs first = follow (suc places) (next fs) first
+
+-- at each place how often it stands on the free chain
+abbrev pub tallyChain : List ℕ → ℕ → List ℕ → List ℕ
+tallyChain fs first = tallyList chainStep (chain fs first)
 
 -- ---- deques
 
@@ -112,18 +136,26 @@ abbrev pub placeSound : List ℕ → ℕ → ℕ → ℕ → ℕ → Bool
 placeSound fs p c n e =
     cond (eqb (frameAt fs p .live) 1) (liveSound (frameAt fs p) (frameAt fs (frameAt fs p .parent)) c n e) (freeSound (frameAt fs p) e)
 
+-- of a place and its word t of the tallies
+abbrev pub wordSound : List ℕ → ℕ → ℕ → Bool
+wordSound fs p t = placeSound fs p (childCount t) (dequeCount t) (chainCount t)
+
 -- every place, with its tallies of children, of places of deques and of places of the chain
-abbrev pub placeTallied : List ℕ → List ℕ → List ℕ → List ℕ → ℕ → Bool
-placeTallied fs children seen free p = placeSound fs p (getD children p 0) (getD seen p 0) (getD free p 0)
+abbrev pub placeTallied : List ℕ → List ℕ → ℕ → Bool
+placeTallied fs ts p = wordSound fs p (getD ts p 0)
 
 -- ---- the whole
 
 abbrev pub zeros : List ℕ
 zeros = replicate places 0
 
--- a place, with the tallies of the whole check
+-- the tallies of the whole check
+abbrev pub tallies : ℕ → List ℕ → List ℕ → List ℕ
+tallies first ds fs = tallyChain fs first (tallyDeques maxWorkers ds (tallyChildren fs zeros))
+
+-- a place, with these tallies
 abbrev pub placeChecked : ℕ → List ℕ → List ℕ → ℕ → Bool
-placeChecked first ds fs = placeTallied fs (tallyChildren fs zeros) (tallyDeques maxWorkers ds zeros) (tallyList (chain fs first) zeros)
+placeChecked first ds fs = placeTallied fs (tallies first ds fs)
 
 -- where a frame lives its ancestors lead to a Main, so one at most is enough
 unfoldable pub checkFrames : ℕ → ℕ → List ℕ → List ℕ → Bool

@@ -6,6 +6,7 @@ ghost use Rattle.frames.specs.Widths.{maxWorkers, frameWords, dequePlaces, dequ
 ghost use Rattle.frames.specs.Deques.{size};
 ghost use Rattle.words.specs.Basics.{all};
 ghost use Rattle.frame_check.specs.Algorithm.{tallyDeque, tallyDeques, zeroPast, dequeFits, childBelow, inDeque, dequeSound};
+use super::tallies::DEQUE_STEP;
 use super::tallies::bump;
 use frames::DEQUE_PLACES;
 use frames::Frame;
@@ -81,7 +82,7 @@ fn tally_deque(tallies: &mut [u32], deques: &[u32], frames: &[u32], w: u32) -> b
     while k < n {
         let p = place_at(deques, w, k);
         let above = place_at(deques, w, words::sub(k, 1));
-        bump(tallies, p);
+        bump(tallies, p, DEQUE_STEP);
         sound = sound & in_deque(frame_or_zero(frames, p), p, above, k, n);
         k += 1;
     }

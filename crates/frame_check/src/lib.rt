@@ -17,12 +17,10 @@ pub fn check_frames(workers: u32, first: u32, deques: &[u32], frames: &[u32]) ->
     if !deques::deques_fit(workers, deques) {
         return false;
     }
-    let mut children = [0u32; PLACES as usize];
-    let mut seen = [0u32; PLACES as usize];
-    let mut free = [0u32; PLACES as usize];
-    tallies::tally_children(&mut children, frames);
-    let placed = deques::tally_deques(&mut seen, deques, frames);
-    let chained = tallies::tally_chain(&mut free, frames, first);
+    let mut tallies = [0u32; PLACES as usize];
+    tallies::tally_children(&mut tallies, frames);
+    let placed = deques::tally_deques(&mut tallies, deques, frames);
+    let chained = tallies::tally_chain(&mut tallies, frames, first);
     let mains = places::count_mains(frames);
-    (placed & chained) & ((mains <= 1) & places::places_sound(frames, &children, &seen, &free))
+    (placed & chained) & ((mains <= 1) & places::places_sound(frames, &tallies))
 }

@@ -5,6 +5,8 @@ ghost use Rattle.frames.specs.Widths.{places, frameWords};
 ghost use mathlib.Core.Bool.{cond};
 ghost use Rattle.words.specs.Basics.{all};
 ghost use Rattle.frame_check.specs.Algorithm.{isMain, mains, parentSound, placedSound, liveSound, freeSound, placeSound, placeTallied};
+use super::tallies::CHAIN_STEP;
+use super::tallies::DEQUE_STEP;
 use frames::Frame;
 use frames::NONE;
 use frames::PLACES;
@@ -55,18 +57,18 @@ fn place_sound(frames: &[u32], p: u32, children: u32, seen: u32, free: u32) -> b
 }
 
 // Every place, with its tallies of children, of places of deques and of places of the free chain.
-pub fn places_sound(frames: &[u32], children: &[u32], seen: &[u32], free: &[u32]) -> bool
+pub fn places_sound(frames: &[u32], tallies: &[u32]) -> bool
     requires { ⌜ length (now frames) ≡ frameWords ⌝ }
-    ensures { λ r. ⌜ r ≡ all places (placeTallied (now (frames .entry)) (now (children .entry)) (now (seen .entry)) (now (free .entry))) ⌝ }
+    ensures { λ r. ⌜ r ≡ all places (placeTallied (now (frames .entry)) (now (tallies .entry))) ⌝ }
 {
     let mut sound = true;
     let mut p: u32 = 0;
     while p < PLACES {
-        let at = p as usize;
-        let c = words::word(children, at);
-        let n = words::word(seen, at);
-        let e = words::word(free, at);
-        sound = sound & place_sound(frames, p, c, n, e);
+        let t = words::word(tallies, p as usize);
+        let children = t % DEQUE_STEP;
+        let seen = (t % CHAIN_STEP) / DEQUE_STEP;
+        let free = t / CHAIN_STEP;
+        sound = sound & place_sound(frames, p, children, seen, free);
         p += 1;
     }
     sound

@@ -6,12 +6,35 @@ use borrow.Author.Needs.{needs}
 use Rattle.frame_check.proofs.check_frames.Statement.{statement}
 use Rattle.frame_check.proofs.check_frames.Tie as tie
 
+-- the places passed, from the last back
+abbrev mains-of : tie.After-places-sound → tie.After-count-mains
+mains-of c = c .before .before
+
+abbrev chain-of : tie.After-count-mains → tie.After-tally-chain
+chain-of c = c .before .before
+
+abbrev deques-of : tie.After-tally-chain → tie.After-tally-deques
+deques-of c = c .before .before .before
+
+abbrev children-of : tie.After-tally-deques → tie.After-tally-children
+children-of c = c .before .before .before
+
+-- the deques fit
+abbrev else-of : tie.After-tally-children → tie.Else1
+else-of c = c .before .before
+
+abbrev fits-of : tie.Else1 → tie.After-deques-fit
+fits-of c = c .before
+
+abbrev start-of : tie.After-deques-fit → tie.Start
+start-of c = c .before .before .before
+
 deques-fit-requires : tie.Need-deques-fit-requires
 deques-fit-requires c κs = search needs
 
 returns : tie.Need-returns
 returns c =
-    let a = c .before .before .before .before .args in
+    let a = start-of (c .before) .args in
     unfit (a .workers) (a .first) (a .deques .now) (a .frames .now) (sym (c .before .deques-fit .ensures) ∙ not-true _ (c .if1 .taken))
 
 slice-aggregate-tally-children : tie.Need-slice-aggregate-tally-children
@@ -25,9 +48,9 @@ slice-aggregate-tally-deques c = search needs
 
 tally-deques-requires : tie.Need-tally-deques-requires
 tally-deques-requires c κs =
-    let t = c .before .before .before .before in
-    let s = t .before .before .before .before in
-    (s .pre .0, s .pre .1, fit-sizes (s .args .workers) (s .args .deques .now) (sym (t .before .deques-fit .ensures) ∙ not-false _ (t .if1 .left)))
+    let t = else-of (c .before .before) in
+    let s = start-of (fits-of t) in
+    (s .pre .0, s .pre .1, fit-sizes (s .args .workers) (s .args .deques .now) (sym (fits-of t .deques-fit .ensures) ∙ not-false _ (t .if1 .left)))
 
 slice-aggregate-tally-chain : tie.Need-slice-aggregate-tally-chain
 slice-aggregate-tally-chain c = search needs
@@ -41,27 +64,25 @@ count-mains-requires c κs = search needs
 slice-aggregate-places-sound : tie.Need-slice-aggregate-places-sound
 slice-aggregate-places-sound c = search needs
 
-slice-aggregate-places-sound-2 : tie.Need-slice-aggregate-places-sound-2
-slice-aggregate-places-sound-2 c = search needs
-
-slice-aggregate-places-sound-3 : tie.Need-slice-aggregate-places-sound-3
-slice-aggregate-places-sound-3 c = search needs
-
 places-sound-requires : tie.Need-places-sound-requires
 places-sound-requires c κs = search needs
 
 returns-2 : tie.Need-returns-2
 returns-2 c =
-    let a = c .before .before .before .before .before .before .before .before .before .before .before .before .before .before .before .before .before .before .args in
+    let m = mains-of c in
+    let h = chain-of m in
+    let d = deques-of h in
+    let k = children-of d in
+    let t = else-of k in
+    let a = start-of (fits-of t) .args in
     fit (a .workers) (a .first) (a .deques .now) (a .frames .now)
-    (sym (c .before .before .before .before .before .before .before .before .before .before .before .before .before .before .before .deques-fit .ensures)
-    ∙ not-false _ (c .before .before .before .before .before .before .before .before .before .before .before .before .before .before .if1 .left))
-    (c .before .before .before .before .before .before .before .before .before .tally-deques .ensures .1)
-    (c .before .before .before .before .before .before .tally-chain .ensures .1)
-    (c .before .before .before .before .count-mains .ensures)
-    (c .before .before .before .before .before .before .before .before .before .before .before .before .tally-children .ensures)
-    (c .before .before .before .before .before .before .before .before .before .tally-deques .ensures .0)
-    (c .before .before .before .before .before .before .tally-chain .ensures .0)
+    (sym (fits-of t .deques-fit .ensures) ∙ not-false _ (t .if1 .left))
+    (d .tally-deques .ensures .1)
+    (h .tally-chain .ensures .1)
+    (m .count-mains .ensures)
+    (k .tally-children .ensures)
+    (d .tally-deques .ensures .0)
+    (h .tally-chain .ensures .0)
     (c .places-sound .ensures)
 
 pub check-frames-spec : {M : Type 1} → statement M
@@ -78,7 +99,5 @@ check-frames-spec =
     tally-chain-requires
     count-mains-requires
     slice-aggregate-places-sound
-    slice-aggregate-places-sound-2
-    slice-aggregate-places-sound-3
     places-sound-requires
     returns-2)

@@ -1,18 +1,19 @@
 -- The check answers true where its facts hold, and only there: with the tallies as the numbers that they count, each of its tests is
--- its fact.
-use mathlib.Core.Path.{_≡_, sym, _∙_}
+-- its fact. A place's word of the tallies is its three counts in one, each below 1,024.
+use mathlib.Core.Path.{_≡_, sym, ap, _∙_}
 use mathlib.Core.Logic.{_⊎_, inl, inr}
 use mathlib.Core.Bool.{Bool, true, cond, _&&_}
 use mathlib.Core.List.{List}
-use Prim.Native.Nat.{ℕ, suc, _+_, _-_, _≤_, _<_}
+use Prim.Native.Nat.{ℕ, suc, _+_, _*_, _-_, _≤_, _<_}
+use native.Mathlib.Nat.{le-trans}
 use native.Mathlib.Omega.{arith}
 use lib.ListN.{length, getD, getD-replicate}
 use lib.Dec.{eqb, ltb}
 use borrow.Author.Tests.{ne-eqb}
-use Rattle.words.specs.Basics.{none, all, count, below}
+use Rattle.words.specs.Basics.{none, all, howMany, count, follow, below}
 use Rattle.words.specs.Tests.{decided, both}
-use Rattle.words.specs.Counting.{all-at, all-of}
-use Rattle.words.specs.Tallies.{and-of, howMany-cong, length-follow}
+use Rattle.words.specs.Counting.{all-at, all-of, count-le}
+use Rattle.words.specs.Tallies.{and-of, howMany-le, howMany-cong, sum-upto, length-follow}
 use Rattle.frames.specs.declared.Frame.{Frame}
 use Rattle.frames.specs.Frames.{frameAt}
 use Rattle.frames.specs.Widths.{maxWorkers, places, dequePlaces}
@@ -20,43 +21,95 @@ use Rattle.frames.specs.Deques.{size, place}
 use Rattle.soundness.specs.Soundness.{isChild, children, inDeques, freePlaces}
 use Rattle.soundness.specs.Theory.Is.{Is, eq-is, le-is, and-is, or-is, cond-is, all-is}
 use Rattle.soundness.specs.Theory.Sentences.{Lives, HasParent, Placed, FreeAt, lives-is, parent-is, placed-is, hold-is, absent-is, zeros-is, free-is}
-use Rattle.frame_check.specs.Algorithm.{tallyList, childAt, childIn, tallyChildren, tallyDeques, next, chain, dequeFits}
-use Rattle.frame_check.specs.Algorithm.{onDeque, dequeSound, mains, placeSound, placeChecked, zeros, checkFrames}
-use Rattle.frame_check.specs.Theory.Tallied.{tally-at, tallyList-at, tallyDeques-at}
+use Rattle.frame_check.specs.Algorithm.{childStep, dequeStep, chainStep, childCount, dequeCount, chainCount, childAt, childIn, tallyChildren, tallyDeques, next, chain}
+use Rattle.frame_check.specs.Algorithm.{dequeFits, onDeque, dequeSound, mains, placeSound, wordSound, placeChecked, zeros, tallies, checkFrames}
+use Rattle.frame_check.specs.Theory.Tallied.{length-tally, length-tallyDeques, tally-at, tallyList-at, tallyDeques-at}
 
 -- ---- the tallies
 
 zeros-at : (p : ℕ) → p < places → _≡_ {A = ℕ} (getD zeros p 0) 0
 zeros-at p b = getD-replicate places p 0 0 b
 
-from-zero : {a b c : ℕ} → a ≡ b + c → b ≡ 0 → a ≡ c
-from-zero e z = omega arith
-
 child-counted : (f : Frame) (p : ℕ) → p < places → eqb (childAt f) p ≡ eqb (f .live) 1 && eqb (f .parent) p
 child-counted f p b = elim (decided (eqb (f .live) 1)) [ inl e ↦ rw e | inr e ↦ rw e (ne-eqb none p (λ d. omega arith)) ]
 
+-- each count is below 1,024
+children-le : (fs : List ℕ) (p : ℕ) → children fs p ≤ 64
+children-le fs p = howMany-le places (isChild fs p)
+
+deques-le : (ds : List ℕ) (p : ℕ) → ((w : ℕ) → w < maxWorkers → size ds w ≤ dequePlaces) → inDeques ds p ≤ 512
+deques-le ds p h =
+    sum-upto maxWorkers dequePlaces (λ w. howMany (size ds w) (λ k. eqb (place ds w k) p))
+    (λ w c. le-trans (howMany-le (size ds w) (λ k. eqb (place ds w k) p)) (h w c))
+
+chain-le : (fs : List ℕ) (first p : ℕ) → count p (chain fs first) ≤ 65
+unfolding chain
+chain-le fs first p = le-trans (count-le p (follow (suc places) (next fs) first)) (length-follow (suc places) (next fs) first)
+
+-- the counts c, n and e in one word
+abbrev packed : ℕ → ℕ → ℕ → ℕ
+packed c n e = childStep * c + dequeStep * n + chainStep * e
+
+-- no count wraps: after the children, the deques and the chain
+children-fit : {a c m : ℕ} → a ≡ 0 → m ≡ c → c ≤ 64 → a + childStep * m < 4294967296
+children-fit z d l = omega arith
+
+deques-fit : {a c n : ℕ} → a ≡ c → c ≤ 64 → n ≤ 512 → a + dequeStep * n < 4294967296
+deques-fit u l k = omega arith
+
+chain-fits : {a b c n e : ℕ} → a ≡ c → b ≡ a + dequeStep * n → c ≤ 64 → n ≤ 512 → e ≤ 65 → b + chainStep * e < 4294967296
+chain-fits u v l k m = omega arith
+
+children-only : {a c m t : ℕ} → a ≡ 0 → m ≡ c → t ≡ a + childStep * m → t ≡ c
+children-only z d e = omega arith
+
+together : {a b c t : ℕ} (n e : ℕ) → a ≡ c → b ≡ a + dequeStep * n → t ≡ b + chainStep * e → t ≡ packed c n e
+together n e u v w = omega arith
+
+in-range : {p : ℕ} (ts : List ℕ) → p < places → length ts ≡ places → p < length ts
+in-range ts b e = omega arith
+
 children-at : (fs : List ℕ) (p : ℕ) → p < places → getD (tallyChildren fs zeros) p 0 ≡ children fs p
 children-at fs p b =
-    from-zero (tally-at places (childIn fs) zeros p b (omega (arith, zeros-at p b))) (zeros-at p b) ∙
-    howMany-cong places (λ c. eqb (childIn fs c) p) (isChild fs p) (λ c d. child-counted (frameAt fs c) p b)
+    let m = howMany-cong places (λ c. eqb (childIn fs c) p) (isChild fs p) (λ c d. child-counted (frameAt fs c) p b) in
+    children-only (zeros-at p b) m (tally-at childStep places (childIn fs) zeros p b (children-fit (zeros-at p b) m (children-le fs p)))
 
-deques-at : (ds : List ℕ) (p : ℕ) → p < places → ((w : ℕ) → w < maxWorkers → size ds w ≤ dequePlaces) → getD (tallyDeques maxWorkers ds zeros) p 0 ≡ inDeques ds p
-deques-at ds p b h = from-zero (tallyDeques-at maxWorkers ds zeros p b h (omega (arith, zeros-at p b))) (zeros-at p b)
+-- a place's word is its counts in one
+tallies-at : (first : ℕ) (ds fs : List ℕ) → ((w : ℕ) → w < maxWorkers → size ds w ≤ dequePlaces) → (p : ℕ) → p < places
+    → getD (tallies first ds fs) p 0 ≡ packed (children fs p) (inDeques ds p) (count p (chain fs first))
+tallies-at first ds fs h p b =
+    let us = tallyChildren fs zeros in
+    let vs = tallyDeques maxWorkers ds us in
+    let long = length-tally childStep places (childIn fs) zeros in
+    let c = children-le fs p in
+    let n = deques-le ds p h in
+    let u = children-at fs p b in
+    let v = tallyDeques-at maxWorkers ds us p (in-range us b long) (deques-fit u c n) in
+    together (inDeques ds p) (count p (chain fs first)) u v
+    (tallyList-at chainStep (chain fs first) vs p (in-range vs b (length-tallyDeques maxWorkers ds us ∙ long)) (chain-fits u v c n (chain-le fs first p)))
 
-length-chain : (fs : List ℕ) (first : ℕ) → length (chain fs first) ≤ suc places
-unfolding chain
-length-chain fs first = length-follow (suc places) (next fs) first
+-- the word taken apart gives the counts back
+child-back : (c n e : ℕ) → c < dequeStep → childCount (packed c n e) ≡ c
+child-back c n e a = omega arith
 
-chain-at : (fs : List ℕ) (first p : ℕ) → p < places → getD (tallyList (chain fs first) zeros) p 0 ≡ count p (chain fs first)
-chain-at fs first p b =
-    from-zero (tallyList-at (chain fs first) zeros p b (omega (arith, zeros-at p b, length-chain fs first))) (zeros-at p b)
+deque-back : (c n e : ℕ) → c < dequeStep → n < dequeStep → dequeCount (packed c n e) ≡ n
+deque-back c n e a b = omega arith
+
+chain-back : (c n e : ℕ) → c < dequeStep → n < dequeStep → chainCount (packed c n e) ≡ e
+chain-back c n e a b = omega arith
 
 -- a place with what its tallies count
 abbrev placeCounted : ℕ → List ℕ → List ℕ → ℕ → Bool
 placeCounted first ds fs p = placeSound fs p (children fs p) (inDeques ds p) (count p (chain fs first))
 
 place-counted : (first : ℕ) (ds fs : List ℕ) → ((w : ℕ) → w < maxWorkers → size ds w ≤ dequePlaces) → (p : ℕ) → p < places → placeChecked first ds fs p ≡ placeCounted first ds fs p
-place-counted first ds fs h p b = rw (children-at fs p b, deques-at ds p b h, chain-at fs first p b)
+place-counted first ds fs h p b =
+    let c = children fs p in
+    let n = inDeques ds p in
+    let e = count p (chain fs first) in
+    let u : c < dequeStep = omega (arith, children-le fs p) in
+    let v : n < dequeStep = omega (arith, deques-le ds p h) in
+    ap (wordSound fs p) (tallies-at first ds fs h p b) ∙ rw (child-back c n e u, deque-back c n e u v, chain-back c n e u v)
 
 -- ---- what the check finds
 

@@ -1,9 +1,8 @@
--- What the tallies are: as long as before, and at each place how often it was met.
-use mathlib.Core.Path.{_≡_, refl, sym, _∙_}
+-- What the tallies are: as long as before, and at each place as many steps more as it was met, if the word does not wrap.
+use mathlib.Core.Path.{_≡_, refl, sym, ap, _∙_}
 use mathlib.Core.Bool.{cond}
 use mathlib.Core.List.{List, [], _∷_}
-use Prim.Native.Nat.{ℕ, zero, suc, _+_, _*_, _≤_, _<_}
-use native.Mathlib.Nat.{le-trans}
+use Prim.Native.Nat.{ℕ, zero, suc, _+_, _*_, _<_}
 use native.Mathlib.Omega.{arith}
 use native.Mathlib.Decide.{ℕ-discrete}
 use lib.ListN.{length, getD, length-set}
@@ -11,64 +10,65 @@ use lib.Seq.{getD-set-same, getD-set-other}
 use lib.Dec.{eqb}
 use borrow.Author.Tests.{eq-eqb, ne-eqb}
 use Rattle.words.specs.Basics.{plus, sum, howMany, count}
-use Rattle.words.specs.Counting.{count-nil, hit-le}
-use Rattle.words.specs.Tallies.{howMany-le, sum-upto, count-step}
-use Rattle.frames.specs.Widths.{dequePlaces}
+use Rattle.words.specs.Counting.{count-nil}
+use Rattle.words.specs.Tallies.{count-step}
 use Rattle.frames.specs.Deques.{size, place}
-use Rattle.frame_check.specs.Algorithm.{bump, tally, tallyList, tallyDeques}
+use Rattle.frame_check.specs.Algorithm.{dequeStep, bump, tally, tallyList, tallyDeques}
 
-pub length-bump : (ts : List ℕ) (p : ℕ) → length (bump ts p) ≡ length ts
+pub length-bump : (step : ℕ) (ts : List ℕ) (p : ℕ) → length (bump step ts p) ≡ length ts
 unfolding bump
-length-bump ts p = simp length-set
+length-bump step ts p = simp length-set
 
-pub length-tally : (n : ℕ) (f : ℕ → ℕ) (ts : List ℕ) → length (tally n f ts) ≡ length ts
+pub length-tally : (step n : ℕ) (f : ℕ → ℕ) (ts : List ℕ) → length (tally step n f ts) ≡ length ts
 unfolding tally
-length-tally zero f ts = refl
-length-tally (suc n) f ts = length-bump (tally n f ts) (f n) ∙ length-tally n f ts
+length-tally step zero f ts = refl
+length-tally step (suc n) f ts = length-bump step (tally step n f ts) (f n) ∙ length-tally step n f ts
 
 pub length-tallyDeques : (n : ℕ) (ds ts : List ℕ) → length (tallyDeques n ds ts) ≡ length ts
 unfolding tallyDeques
 length-tallyDeques zero ds ts = refl
-length-tallyDeques (suc w) ds ts = length-tally (size ds w) (place ds w) (tallyDeques w ds ts) ∙ length-tallyDeques w ds ts
+length-tallyDeques (suc w) ds ts = length-tally dequeStep (size ds w) (place ds w) (tallyDeques w ds ts) ∙ length-tallyDeques w ds ts
 
--- one more at p, if the word there does not wrap
-bump-at : (ts : List ℕ) (q p : ℕ) → p < length ts → getD ts p 0 + 1 < 4294967296 → getD (bump ts q) p 0 ≡ getD ts p 0 + cond (eqb q p) 1 0
+-- the step at p, if the word there does not wrap
+bump-at : (step : ℕ) (ts : List ℕ) (q p : ℕ) → p < length ts → getD ts p 0 + step * cond (eqb q p) 1 0 < 4294967296
+    → getD (bump step ts q) p 0 ≡ getD ts p 0 + step * cond (eqb q p) 1 0
 unfolding bump
-bump-at ts q p b w = elim (ℕ-discrete q p) [
-  | yes e ↦ rw (eq-eqb q p e, e) (getD-set-same ts p (plus (getD ts p 0) 1) 0 b ∙ fits)
-  | no e ↦ rw (ne-eqb q p e) (getD-set-other ts q p (plus (getD ts q 0) 1) 0 (λ d. e (sym d)) ∙ same)
+bump-at step ts q p b = elim (ℕ-discrete q p) [
+  | yes e ↦ rw (eq-eqb q p e, e) (λ w. getD-set-same ts p (plus (getD ts p 0) step) 0 b ∙ fits w)
+  | no e ↦ rw (ne-eqb q p e) (λ w. getD-set-other ts q p (plus (getD ts q 0) step) 0 (λ d. e (sym d)) ∙ same)
 ]
   where
-    fits : plus (getD ts p 0) 1 ≡ getD ts p 0 + 1
-    fits = omega arith
+    fits : getD ts p 0 + step * 1 < 4294967296 → plus (getD ts p 0) step ≡ getD ts p 0 + step * 1
+    fits w = omega arith
 
-    same : getD ts p 0 ≡ getD ts p 0 + 0
+    same : getD ts p 0 ≡ getD ts p 0 + step * 0
     same = omega arith
 
-pub tally-at : (n : ℕ) (f : ℕ → ℕ) (ts : List ℕ) (p : ℕ) → p < length ts → getD ts p 0 + n < 4294967296
-    → getD (tally n f ts) p 0 ≡ getD ts p 0 + howMany n (λ k. eqb (f k) p)
+pub tally-at : (step n : ℕ) (f : ℕ → ℕ) (ts : List ℕ) (p : ℕ) → p < length ts → getD ts p 0 + step * howMany n (λ k. eqb (f k) p) < 4294967296
+    → getD (tally step n f ts) p 0 ≡ getD ts p 0 + step * howMany n (λ k. eqb (f k) p)
 unfolding tally
-tally-at zero f ts p b w = omega arith
-tally-at (suc n) f ts p b w =
-    let r = tally-at n f ts p b (omega arith) in
-    let s = bump-at (tally n f ts) (f n) p (omega (arith, length-tally n f ts)) (omega (arith, r, howMany-le n (λ k. eqb (f k) p))) in
+tally-at step zero f ts p b w = omega arith
+tally-at step (suc n) f ts p b w =
+    let r = tally-at step n f ts p b (omega arith) in
+    let s = bump-at step (tally step n f ts) (f n) p (omega (arith, length-tally step n f ts)) (omega (arith, r)) in
     omega (arith, r, s)
 
-pub tallyDeques-at : (n : ℕ) (ds ts : List ℕ) (p : ℕ) → p < length ts → ((w : ℕ) → w < n → size ds w ≤ dequePlaces) → getD ts p 0 + dequePlaces * n < 4294967296
-    → getD (tallyDeques n ds ts) p 0 ≡ getD ts p 0 + sum n (λ w. howMany (size ds w) (λ k. eqb (place ds w k) p))
+pub tallyDeques-at : (n : ℕ) (ds ts : List ℕ) (p : ℕ) → p < length ts
+    → getD ts p 0 + dequeStep * sum n (λ w. howMany (size ds w) (λ k. eqb (place ds w k) p)) < 4294967296
+    → getD (tallyDeques n ds ts) p 0 ≡ getD ts p 0 + dequeStep * sum n (λ w. howMany (size ds w) (λ k. eqb (place ds w k) p))
 unfolding tallyDeques
-tallyDeques-at zero ds ts p b h w = omega arith
-tallyDeques-at (suc n) ds ts p b h w =
-    let r = tallyDeques-at n ds ts p b (λ v c. h v (omega arith)) (omega arith) in
-    let m = sum-upto n dequePlaces (λ v. howMany (size ds v) (λ k. eqb (place ds v k) p)) (λ v c. le-trans (howMany-le (size ds v) (λ k. eqb (place ds v k) p)) (h v (omega arith))) in
-    let s = tally-at (size ds n) (place ds n) (tallyDeques n ds ts) p (omega (arith, length-tallyDeques n ds ts)) (omega (arith, r, m, h n (omega arith))) in
+tallyDeques-at zero ds ts p b w = omega arith
+tallyDeques-at (suc n) ds ts p b w =
+    let r = tallyDeques-at n ds ts p b (omega arith) in
+    let s = tally-at dequeStep (size ds n) (place ds n) (tallyDeques n ds ts) p (omega (arith, length-tallyDeques n ds ts)) (omega (arith, r)) in
     omega (arith, r, s)
 
-pub tallyList-at : (xs ts : List ℕ) (p : ℕ) → p < length ts → getD ts p 0 + length xs < 4294967296
-    → getD (tallyList xs ts) p 0 ≡ getD ts p 0 + count p xs
+pub tallyList-at : (step : ℕ) (xs ts : List ℕ) (p : ℕ) → p < length ts → getD ts p 0 + step * count p xs < 4294967296
+    → getD (tallyList step xs ts) p 0 ≡ getD ts p 0 + step * count p xs
 unfolding tallyList
-tallyList-at [] ts p b w = omega (arith, count-nil p)
-tallyList-at (x ∷ xs) ts p b w =
-    let s = bump-at ts x p b (omega arith) in
-    let r = tallyList-at xs (bump ts x) p (omega (arith, length-bump ts x)) (omega (arith, s, hit-le (eqb x p))) in
-    omega (arith, r, s, count-step p x xs)
+tallyList-at step [] ts p b w = omega (arith, ap (λ (n : ℕ). step * n) (count-nil p))
+tallyList-at step (x ∷ xs) ts p b w =
+    let e : step * count p (x ∷ xs) ≡ step * cond (eqb x p) 1 0 + step * count p xs = ap (λ (n : ℕ). step * n) (count-step p x xs) ∙ omega arith in
+    let s = bump-at step ts x p b (omega (arith, e)) in
+    let r = tallyList-at step xs (bump step ts x) p (omega (arith, length-bump step ts x)) (omega (arith, s, e)) in
+    omega (arith, r, s, e)

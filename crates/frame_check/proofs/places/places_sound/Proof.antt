@@ -1,4 +1,4 @@
--- The loop keeps the answer for the places passed.
+-- The loop keeps the answer for the places passed, with each one's word taken apart.
 use mathlib.Core.Path.{_≡_, refl}
 use Prim.Native.Nat.{_≤_, _-_}
 use native.Mathlib.Omega.{arith}
@@ -11,25 +11,19 @@ use Rattle.frame_check.proofs.places.places_sound.Statement.{statement}
 use Rattle.frame_check.proofs.places.places_sound.Tie as tie
 
 abbrev Inv-loop : tie.InvT-loop
-Inv-loop frames children seen free sound₀ p₀ sound p = (sound ≡ all p (placeTallied frames children seen free)) × (p ≤ places)
+Inv-loop frames tallies sound₀ p₀ sound p = (sound ≡ all p (placeTallied frames tallies)) × (p ≤ places)
 
 abbrev μ-loop : tie.MeasureT-loop
-μ-loop frames children seen free sound₀ p₀ sound p = places - p
+μ-loop frames tallies sound₀ p₀ sound p = places - p
 
 loop-holds : tie.Need-loop-holds Inv-loop μ-loop
 loop-holds c = (refl, omega arith)
 
-cast-at : tie.Need-cast-at Inv-loop μ-loop
-cast-at c = omega arith
+cast-word : tie.Need-cast-word Inv-loop μ-loop
+cast-word c = omega arith
 
 word-requires : tie.Need-word-requires Inv-loop μ-loop
 word-requires c κs = search needs
-
-word-requires-2 : tie.Need-word-requires-2 Inv-loop μ-loop
-word-requires-2 c κs = search needs
-
-word-requires-3 : tie.Need-word-requires-3 Inv-loop μ-loop
-word-requires-3 c κs = search needs
 
 place-sound-requires : tie.Need-place-sound-requires Inv-loop μ-loop
 place-sound-requires c κs = search needs
@@ -42,15 +36,15 @@ loop-less c = search needs
 
 loop-again : tie.Need-loop-again Inv-loop μ-loop
 loop-again c =
-    let a = c .before .before .before .before .before .before .before .before .before .before .args in
-    let l = c .before .before .before .before .before .loop in
-    (all-turn (l .p) (placeTallied (a .frames .now) (a .children .now) (a .seen .now) (a .free .now)) (l .inv .0) (rw (c .place-sound .ensures, c .before .word3 .ensures, c .before .before .word2 .ensures, c .before .before .before .word .ensures)), omega arith)
+    let l = c .before .before .before .loop in
+    let a = c .before .before .before .before .before .before .args in
+    (all-turn (l .p) (placeTallied (a .frames .now) (a .tallies .now)) (l .inv .0) (rw (c .place-sound .ensures, c .before .word .ensures)), omega arith)
 
 returns : tie.Need-returns Inv-loop μ-loop
 returns c =
-    let a = c .before .before .before .before .before .before .args in
+    let a = c .before .before .before .before .args in
     let l = c .before .loop in
-    at-end (λ k. all k (placeTallied (a .frames .now) (a .children .now) (a .seen .now) (a .free .now))) (l .inv .1) (c .loop-test .left) (l .inv .0)
+    at-end (λ k. all k (placeTallied (a .frames .now) (a .tallies .now))) (l .inv .1) (c .loop-test .left) (l .inv .0)
 
 pub places-sound-spec : {M : Type 1} → statement M
 places-sound-spec =
@@ -59,10 +53,8 @@ places-sound-spec =
     Inv-loop
     μ-loop
     loop-holds
-    cast-at
+    cast-word
     word-requires
-    word-requires-2
-    word-requires-3
     place-sound-requires
     add-p
     loop-less

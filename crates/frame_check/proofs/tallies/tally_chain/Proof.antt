@@ -4,7 +4,7 @@ use lib.ListN.{length}
 use Rattle.words.specs.Basics.{below}
 use Rattle.words.specs.Tallies.{follow-none}
 use Rattle.frames.specs.Widths.{places}
-use Rattle.frame_check.specs.Algorithm.{tallyList, next, chain}
+use Rattle.frame_check.specs.Algorithm.{next, chain, tallyChain}
 use Rattle.frame_check.proofs.Laws.{Walk, walk-turn, walk-end, follow-over}
 use borrow.Author.Needs.{needs}
 use Rattle.frame_check.proofs.tallies.tally_chain.Statement.{statement}
@@ -12,7 +12,7 @@ use Rattle.frame_check.proofs.tallies.tally_chain.Tie as tie
 
 abbrev Inv-loop : tie.InvT-loop
 Inv-loop tallies₀ frames first left₀ p₀ sound₀ tallies left p sound =
-    Walk (next frames) (tallyList (chain frames first) tallies₀) (below places (chain frames first)) left p tallies sound
+    Walk (next frames) (tallyChain frames first tallies₀) (below places (chain frames first)) left p tallies sound
     × (length tallies ≡ length tallies₀)
 
 abbrev μ-loop : tie.MeasureT-loop

@@ -4,7 +4,7 @@ use Prim.Native.Nat.{_≤_, _-_}
 use native.Mathlib.Omega.{arith}
 use lib.ListN.{length}
 use Rattle.frames.specs.Widths.{places}
-use Rattle.frame_check.specs.Algorithm.{tally, childIn}
+use Rattle.frame_check.specs.Algorithm.{childStep, tally, childIn}
 use Rattle.frame_check.specs.Theory.Tallied.{length-tally}
 use Rattle.frame_check.proofs.Laws.{at-end, tally-turn}
 use borrow.Author.Needs.{needs}
@@ -12,7 +12,7 @@ use Rattle.frame_check.proofs.tallies.tally_children.Statement.{stateme
 use Rattle.frame_check.proofs.tallies.tally_children.Tie as tie
 
 abbrev Inv-loop : tie.InvT-loop
-Inv-loop tallies₀ frames c₀ tallies c = (tallies ≡ tally c (childIn frames) tallies₀) × (c ≤ places)
+Inv-loop tallies₀ frames c₀ tallies c = (tallies ≡ tally childStep c (childIn frames) tallies₀) × (c ≤ places)
 
 abbrev μ-loop : tie.MeasureT-loop
 μ-loop tallies₀ frames c₀ tallies c = places - c
@@ -41,7 +41,7 @@ loop-again c =
     let a = c .before .before .before .before .before .before .before .before .before .before .args in
     let l = c .before .before .before .before .before .before .before .loop in (
       rw (c .before .before .bump .ensures)
-          (tally-turn (l .c) (childIn (a .frames .now)) (a .tallies .now) (l .inv .0) (rw (c .before .before .before .child-at .ensures, c .before .before .before .before .frame-or-zero .ensures))),
+          (tally-turn childStep (l .c) (childIn (a .frames .now)) (a .tallies .now) (l .inv .0) (rw (c .before .before .before .child-at .ensures, c .before .before .before .before .frame-or-zero .ensures))),
       omega arith,
     )
 
@@ -49,13 +49,13 @@ same-length : tie.Need-same-length Inv-loop μ-loop
 same-length c =
     let a = c .before .before .before .before .args in
     let l = c .before .loop in
-    ap length (l .inv .0) ∙ length-tally (l .c) (childIn (a .frames .now)) (a .tallies .now)
+    ap length (l .inv .0) ∙ length-tally childStep (l .c) (childIn (a .frames .now)) (a .tallies .now)
 
 returns : tie.Need-returns Inv-loop μ-loop
 returns c =
     let a = c .before .before .before .before .args in
     let l = c .before .loop in
-    at-end (λ k. tally k (childIn (a .frames .now)) (a .tallies .now)) (l .inv .1) (c .loop-test .left) (l .inv .0)
+    at-end (λ k. tally childStep k (childIn (a .frames .now)) (a .tallies .now)) (l .inv .1) (c .loop-test .left) (l .inv .0)
 
 pub tally-children-spec : {M : Type 1} → statement M
 tally-children-spec =
