@@ -1,4 +1,5 @@
--- The invariant: the core is sound, and the records that are left, run from here, leave what all of them leave from the start.
+-- The invariant: the core is sound, and the records that are left, run from here, leave what all of them leave from the start. The
+-- measure: how many are left. The mathematics of a turn is in `proofs.Turns`.
 use mathlib.Core.Path.{_≡_, refl, sym, ap, _∙_}
 use Prim.Native.Nat.{_≤_, _<_, _-_, _*_, _/_}
 use native.Mathlib.Omega.{arith}
@@ -22,60 +23,98 @@ Inv-loop h deques₀ frames₀ pool₀ tape answers₀ node₀ place₀ count₀
 abbrev μ-loop : tie.MeasureT-loop
 μ-loop h deques₀ frames₀ pool₀ tape answers₀ node₀ place₀ count₀ i₀ deques frames pool answers node place count i = length tape / 8 - i
 
+-- ---- the places that the answers speak of, each by its way from the next
+
+abbrev start-of : tie.At-loop Inv-loop μ-loop → tie.Start Inv-loop μ-loop
+start-of l = l .before .before .before .before .before .before
+
+abbrev turn-of : tie.After-head-with Inv-loop μ-loop → tie.In-loop Inv-loop μ-loop
+turn-of h = h .before
+
+abbrev head-of : tie.After-step-record Inv-loop μ-loop → tie.After-head-with Inv-loop μ-loop
+head-of r = r .before .before .before .before
+
+abbrev refused-of : tie.After-enum-told Inv-loop μ-loop → tie.After-step-record Inv-loop μ-loop
+refused-of e = e .before .before .before .before .before .before .before .before
+
+abbrev accepted-of : tie.After-answer Inv-loop μ-loop → tie.After-step-record Inv-loop μ-loop
+accepted-of e = e .before .before .before .before .before .before .before .before
+
+-- ---- the answers
+
 loop-holds : tie.Need-loop-holds Inv-loop μ-loop
-loop-holds c =
-    (search needs, refl, refl, refl, refl, c .before .before .before .before .before .pre .0, begin _ _ _)
+loop-holds c = (search needs, refl, refl, refl, refl, c .before .before .before .before .before .pre .0, begin _ _ _)
 
 step-record-requires : tie.Need-step-record-requires Inv-loop μ-loop
 step-record-requires c κs =
-    let q : c .before .before .before .before .before .loop .i < length (c .before .before .before .before .before .before .before .before .before .before .before .args .tape .now) / 8 = c .before .before .before .before .loop-test .taken in
-    (ready-head _ _ _ _ _ (c .before .before .before .head-with .ensures) (c .before .before .before .before .before .loop .inv .5), omega arith)
+    let h = c .before .before .before in
+    let t = turn-of h in
+    let l = t .before in
+    let q : l .loop .i < length (start-of l .args .tape .now) / 8 = t .loop-test .taken in
+    (ready-head _ _ _ _ _ (h .head-with .ensures) (l .loop .inv .5), omega arith)
 
 put-answer-requires : tie.Need-put-answer-requires Inv-loop μ-loop
 put-answer-requires c κs =
-    let q : c .before .before .before .before .before .before .before .before .before .before .before .before .before .before .before .before .loop .i < length (c .before .before .before .before .before .before .before .before .before .before .before .before .before .before .before .before .before .before .before .before .before .before .args .tape .now) / 8 = c .before .before .before .before .before .before .before .before .before .before .before .before .before .before .before .loop-test .taken in
-    omega (arith, c .before .before .before .before .before .before .before .before .before .before .before .before .before .before .before .before .before .before .before .before .before .before .pre .1, c .before .before .before .before .before .before .before .before .before .before .before .before .before .before .before .before .loop .inv .4)
+    let t = turn-of (head-of (refused-of (c .before .before))) in
+    let l = t .before in
+    let s = start-of l in
+    let q : l .loop .i < length (s .args .tape .now) / 8 = t .loop-test .taken in
+    omega (arith, s .pre .1, l .loop .inv .4)
 
 loop-again : tie.Need-loop-again Inv-loop μ-loop
 loop-again c =
-    let inv = c .before .before .before .before .before .before .before .before .before .before .before .before .before .before .before .before .before .before .before .loop .inv in
-    let i = c .before .before .before .before .before .before .before .before .before .before .before .before .before .before .before .before .before .before .before .loop .i in
-    let q : i < length (c .before .before .before .before .before .before .before .before .before .before .before .before .before .before .before .before .before .before .before .before .before .before .before .before .before .args .tape .now) / 8 = c .before .before .before .before .before .before .before .before .before .before .before .before .before .before .before .before .before .before .loop-test .taken in
-    let t = turn-kept (c .before .before .before .before .before .before .before .before .before .before .before .before .before .before .before .before .before .before .before .before .before .before .before .before .before .args .tape .now) (length (c .before .before .before .before .before .before .before .before .before .before .before .before .before .before .before .before .before .before .before .before .before .before .before .before .before .args .tape .now) / 8) (c .before .before .before .before .before .before .before .before .before .before .before .before .before .before .before .before .before .before .before .before .before .before .before .before .before .args .h) _ _ _ _ _ _ _ _ _ _ _ _ _ _ _ _ i _ _ (c .before .before .before .before .before .before .before .before .before .before .before .before .before .before .before .before .before .head-with .ensures) (inv .5) q (c .before .before .before .before .before .before .before .before .before .before .before .before .before .step-record .ensures)
-    (c .before .before .before .first-word .ensures) (sym (ap (λ (a : Answer). answerWords a .1) (c .before .before .before .before .before .enum-told .given .1))) (c .before .before .put-answer .ensures) in (
+    let e = c .before .before .before .before .before in
+    let r = refused-of e in
+    let h = head-of r in
+    let t = turn-of h in
+    let l = t .before in
+    let s = start-of l in
+    let inv = l .loop .inv in
+    let q : l .loop .i < length (s .args .tape .now) / 8 = t .loop-test .taken in
+    let k = turn-kept (s .args .tape .now) (length (s .args .tape .now) / 8) (s .args .h) _ _ _ _ _ _ _ _ _ _ _ _ _ _ _ _ (l .loop .i) _ _ (h .head-with .ensures) (inv .5) q (r .step-record .ensures)
+    (c .before .before .before .first-word .ensures) (sym (ap (λ (a : Answer). answerWords a .1) (e .enum-told .given .1))) (c .before .before .put-answer .ensures) in (
       omega arith,
-      c .before .before .before .before .before .before .before .before .before .before .before .before .before .step-record .kept .1 .0 ∙ inv .1,
-      c .before .before .before .before .before .before .before .before .before .before .before .before .before .step-record .kept .1 .1 .0 ∙ inv .2,
-      c .before .before .before .before .before .before .before .before .before .before .before .before .before .step-record .kept .1 .1 .1 .0 ∙ inv .3,
+      r .step-record .kept .1 .0 ∙ inv .1,
+      r .step-record .kept .1 .1 .0 ∙ inv .2,
+      r .step-record .kept .1 .1 .1 .0 ∙ inv .3,
       c .before .before .put-answer .kept .0 ∙ inv .4,
-      t .0,
-      t .1 ∙ inv .6,
+      k .0,
+      k .1 ∙ inv .6,
     )
 
 put-answer-requires-2 : tie.Need-put-answer-requires-2 Inv-loop μ-loop
 put-answer-requires-2 c κs =
-    let q : c .before .before .before .before .before .before .before .before .before .before .before .before .before .before .before .before .before .before .loop .i < length (c .before .before .before .before .before .before .before .before .before .before .before .before .before .before .before .before .before .before .before .before .before .before .before .before .args .tape .now) / 8 = c .before .before .before .before .before .before .before .before .before .before .before .before .before .before .before .before .before .loop-test .taken in
-    omega (arith, c .before .before .before .before .before .before .before .before .before .before .before .before .before .before .before .before .before .before .before .before .before .before .before .before .pre .1, c .before .before .before .before .before .before .before .before .before .before .before .before .before .before .before .before .before .before .loop .inv .4)
+    let t = turn-of (head-of (accepted-of (c .before .before .before .before))) in
+    let l = t .before in
+    let s = start-of l in
+    let q : l .loop .i < length (s .args .tape .now) / 8 = t .loop-test .taken in
+    omega (arith, s .pre .1, l .loop .inv .4)
 
 loop-again-2 : tie.Need-loop-again-2 Inv-loop μ-loop
 loop-again-2 c =
-    let inv = c .before .before .before .before .before .before .before .before .before .before .before .before .before .before .before .before .before .before .before .before .before .loop .inv in
-    let i = c .before .before .before .before .before .before .before .before .before .before .before .before .before .before .before .before .before .before .before .before .before .loop .i in
-    let q : i < length (c .before .before .before .before .before .before .before .before .before .before .before .before .before .before .before .before .before .before .before .before .before .before .before .before .before .before .before .args .tape .now) / 8 = c .before .before .before .before .before .before .before .before .before .before .before .before .before .before .before .before .before .before .before .before .loop-test .taken in
-    let t = turn-kept (c .before .before .before .before .before .before .before .before .before .before .before .before .before .before .before .before .before .before .before .before .before .before .before .before .before .before .before .args .tape .now) (length (c .before .before .before .before .before .before .before .before .before .before .before .before .before .before .before .before .before .before .before .before .before .before .before .before .before .before .before .args .tape .now) / 8) (c .before .before .before .before .before .before .before .before .before .before .before .before .before .before .before .before .before .before .before .before .before .before .before .before .before .before .before .args .h) _ _ _ _ _ _ _ _ _ _ _ _ _ _ _ _ i _ _ (c .before .before .before .before .before .before .before .before .before .before .before .before .before .before .before .before .before .before .before .head-with .ensures) (inv .5) q (c .before .before .before .before .before .before .before .before .before .before .before .before .before .before .before .step-record .ensures)
-    (c .before .before .before .before .done-kind .ensures ∙ sym (ap (λ (a : Answer). answerWords a .0) (c .before .before .before .before .before .before .before .answer .given .1))) (c .before .before .before .done-number .ensures ∙ sym (ap (λ (a : Answer). answerWords a .1) (c .before .before .before .before .before .before .before .answer .given .1))) (c .before .before .put-answer2 .ensures) in (
+    let e = c .before .before .before .before .before .before .before in
+    let r = accepted-of e in
+    let h = head-of r in
+    let t = turn-of h in
+    let l = t .before in
+    let s = start-of l in
+    let inv = l .loop .inv in
+    let q : l .loop .i < length (s .args .tape .now) / 8 = t .loop-test .taken in
+    let k = turn-kept (s .args .tape .now) (length (s .args .tape .now) / 8) (s .args .h) _ _ _ _ _ _ _ _ _ _ _ _ _ _ _ _ (l .loop .i) _ _ (h .head-with .ensures) (inv .5) q (r .step-record .ensures)
+    (c .before .before .before .before .done-kind .ensures ∙ sym (ap (λ (a : Answer). answerWords a .0) (e .answer .given .1))) (c .before .before .before .done-number .ensures ∙ sym (ap (λ (a : Answer). answerWords a .1) (e .answer .given .1))) (c .before .before .put-answer2 .ensures) in (
       omega arith,
-      c .before .before .before .before .before .before .before .before .before .before .before .before .before .before .before .step-record .kept .1 .0 ∙ inv .1,
-      c .before .before .before .before .before .before .before .before .before .before .before .before .before .before .before .step-record .kept .1 .1 .0 ∙ inv .2,
-      c .before .before .before .before .before .before .before .before .before .before .before .before .before .before .before .step-record .kept .1 .1 .1 .0 ∙ inv .3,
+      r .step-record .kept .1 .0 ∙ inv .1,
+      r .step-record .kept .1 .1 .0 ∙ inv .2,
+      r .step-record .kept .1 .1 .1 .0 ∙ inv .3,
       c .before .before .put-answer2 .kept .0 ∙ inv .4,
-      t .0,
-      t .1 ∙ inv .6,
+      k .0,
+      k .1 ∙ inv .6,
     )
 
 returns : tie.Need-returns Inv-loop μ-loop
 returns c =
-    rw (c .head-with2 .ensures) (sym (finish _ _ _ (c .before .before .loop .i) _ _ (c .before .loop-test .left)) ∙ c .before .before .loop .inv .6, refl)
+    let l = c .before .before in
+    rw (c .head-with2 .ensures) (sym (finish _ _ _ (l .loop .i) _ _ (c .before .loop-test .left)) ∙ l .loop .inv .6, refl)
 
 pub run-tape-spec : {M : Type 1} → statement M
 run-tape-spec = tie.close (tie.spec Inv-loop μ-loop loop-holds (λ c. search needs) (λ c. search needs) (λ c. search needs) (λ c κs. search needs) step-record-requires (λ c. search needs) (λ c. search needs) (λ c κs. search needs) put-answer-requires (λ c. search needs) loop-again (λ c κs. search needs) (λ c κs. search needs) put-answer-requires-2 (λ c. search needs) loop-again-2 (λ c κs. search needs) (λ c. search needs) (λ c. search needs) (λ c. search needs) (λ c. search needs) returns)
