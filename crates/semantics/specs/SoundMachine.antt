@@ -8,6 +8,7 @@ use Rattle.words.specs.Basics.{joined}
 use Rattle.words.specs.Counting.{range}
 use Rattle.sizes.specs.Sizes.{height}
 use Rattle.pool.specs.Pool.{readAt}
+use Rattle.frames.specs.Widths.{places}
 use Rattle.frames.specs.Deques.{dequeList}
 use Rattle.frames.specs.Frames.{frameAt}
 use Rattle.soundness.specs.declared.Numbers.{Numbers}
@@ -32,7 +33,7 @@ placeOf m (k ∷ r) = k - 1
 -- ---- frames: no history, and 64 spawns, so that the children to come have names that are not there
 
 abbrev pub frameOf : ℕ → List ℕ → List ℕ → ℕ → Frame
-frameOf n fs ws p = record { name = nameOf fs p; values = map (readAt (height n) ws (frameAt fs p .root)) (range n 0); history = []; spawned = 64 }
+frameOf n fs ws p = record { name = nameOf fs p; values = map (readAt (height n) ws (frameAt fs p .root)) (range n 0); history = []; spawned = places }
 
 abbrev pub framesOf : ℕ → List ℕ → List ℕ → List ℕ → List Frame
 framesOf n fs ws ps = map (frameOf n fs ws) ps
@@ -45,7 +46,7 @@ waitingBelow ds fs zero = []
 waitingBelow ds fs (suc c) = waitingBelow ds fs c ++ cond (lives fs c && eqb (inDeques ds c) 0) (c ∷ []) []
 
 abbrev pub waitingPlaces : List ℕ → List ℕ → List ℕ
-waitingPlaces ds fs = waitingBelow ds fs 64
+waitingPlaces ds fs = waitingBelow ds fs places
 
 -- the workers' deques
 abbrev pub runningPlaces : ℕ → List ℕ → List (List ℕ)

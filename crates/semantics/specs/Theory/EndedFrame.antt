@@ -11,6 +11,7 @@ use Rattle.words.specs.Lists.{In-perm}
 use Rattle.words.specs.Counting.{δ-other, count, count-cons}
 use Rattle.sizes.specs.Sizes.{height}
 use Rattle.pool.specs.Pool.{readAt, release}
+use Rattle.frames.specs.Widths.{places}
 use Rattle.frames.specs.Deques.{dequeList}
 use Rattle.frames.specs.Frames.{frameAt, freePlace}
 use Rattle.frames.specs.Steps.{Table, return as returnTable}
@@ -68,7 +69,7 @@ module _ {P : Trees} {M : Machine} {c : Core} (r : Relates P M c) (w : ℕ) (q :
       let at : Frame → ℕ = λ f. r .at (f .name) in
       omega (arith, r .once p b, count-perm p (Permᴰ·map at before), count-perm p (Permᴰ·map at (X .frames)), count-cons p (r .at (q .name)) (placesOf (r .at) others), count-cons p (r .at (q .name)) (r .gs))
 
-  vacant-left : (p : ℕ) → p < 64 → 0 < count p (r .at (q .name) ∷ r .gs) → (x : ℕ) × (frameAt fs′ p ≡ freePlace x)
+  vacant-left : (p : ℕ) → p < places → 0 < count p (r .at (q .name) ∷ r .gs) → (x : ℕ) × (frameAt fs′ p ≡ freePlace x)
   vacant-left p b h =
       elim (ℕ-discrete p (r .at (q .name))) [
         | yes z ↦ (c .head .numbers .«free_place», ap (frameAt fs′) z ∙ X .freed)

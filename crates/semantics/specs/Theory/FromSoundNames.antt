@@ -10,6 +10,7 @@ use lib.ListN.{length}
 use Rattle.words.specs.Basics.{none}
 use Rattle.words.specs.Tests.{decided, true≢false}
 use Rattle.words.specs.Distinct.{same-refl, same-differ}
+use Rattle.frames.specs.Widths.{places}
 use Rattle.frames.specs.Frames.{frameAt}
 use Rattle.soundness.specs.Soundness.{isChild as isChildAt}
 use Rattle.model.specs.Machine.{Name, isChild}
@@ -23,9 +24,9 @@ use Rattle.semantics.specs.SoundMachine.{nameFrom, nameOf, placeOf}
 -- no number of it is above 64
 abbrev pub Small : Name → Type 0
 Small [] = Unit {0}
-Small (k ∷ r) = (k ≤ 64) × Small r
+Small (k ∷ r) = (k ≤ places) × Small r
 
-small-not-below : (p r : Name) → Small r → below p 64 r → ⊥
+small-not-below : (p r : Name) → Small r → below p places r → ⊥
 small-not-below p [] s b = b
 small-not-below p (k ∷ r) s (inl h) = omega (arith, h .1)
 small-not-below p (k ∷ r) s (inr h) = small-not-below p r (s .1) (h .1)
@@ -34,7 +35,7 @@ small-cast : {p q : Name} → p ≡ q → Small q → Small p
 small-cast e s = subst Small (sym e) s
 
 -- frames with small names that own a name in common have the same name
-pub owns-same : (p q r : Name) → Small p → Small q → owns p 64 r → owns q 64 r → p ≡ q
+pub owns-same : (p q r : Name) → Small p → Small q → owns p places r → owns q places r → p ≡ q
 owns-same p q [] sp sq (inl e) (inl f) = sym e ∙ f
 owns-same p q [] sp sq (inl e) (inr f) = absurd f
 owns-same p q [] sp sq (inr e) f = absurd e
@@ -51,8 +52,8 @@ owns-same p q (k ∷ r) sp sq (inr (inr b)) (inr (inr c)) = owns-same p q r sp s
 pub record Rooted (fs : List ℕ) : Type 0 where
   pub main : ℕ
   -- a live frame of depth 0 is at place main, with parent none
-  pub flat : (p : ℕ) → p < 64 → Lives fs p → frameAt fs p .depth ≡ 0 → (p ≡ main) × (frameAt fs p .parent ≡ none)
-  pub deep : (p : ℕ) → p < 64 → Lives fs p → frameAt fs p .depth ≢ 0 → HasParent fs p
+  pub flat : (p : ℕ) → p < places → Lives fs p → frameAt fs p .depth ≡ 0 → (p ≡ main) × (frameAt fs p .parent ≡ none)
+  pub deep : (p : ℕ) → p < places → Lives fs p → frameAt fs p .depth ≢ 0 → HasParent fs p
 
 pub rooted-facts : {workers first : ℕ} {ds fs : List ℕ} → FramesFacts workers first ds fs → Rooted fs
 rooted-facts {ds = ds} {fs = fs} F = go (F .one-main)
@@ -78,23 +79,23 @@ unfolding nameFrom
 name-suc fs p d e = ap (λ d. nameFrom d fs p) e
 
 module _ (fs : List ℕ) (R : Rooted fs) where
-  pub name-child : (p : ℕ) → p < 64 → Lives fs p → frameAt fs p .depth ≢ 0 → nameOf fs p ≡ suc p ∷ nameOf fs (frameAt fs p .parent)
+  pub name-child : (p : ℕ) → p < places → Lives fs p → frameAt fs p .depth ≢ 0 → nameOf fs p ≡ suc p ∷ nameOf fs (frameAt fs p .parent)
   name-child p b l d = name-suc fs p (frameAt fs (frameAt fs p .parent) .depth) (R .deep p b l d .2)
 
   -- a frame with a parent among the places is not Main
-  pub not-main : (p q : ℕ) → p < 64 → Lives fs p → frameAt fs p .parent ≡ q → q < 64 → frameAt fs p .depth ≢ 0
+  pub not-main : (p q : ℕ) → p < places → Lives fs p → frameAt fs p .parent ≡ q → q < places → frameAt fs p .depth ≢ 0
   not-main p q b l e c z = omega (arith, R .flat p b l z .1, e)
 
-  pub place-name : (p : ℕ) → p < 64 → Lives fs p → placeOf (R .main) (nameOf fs p) ≡ p
+  pub place-name : (p : ℕ) → p < places → Lives fs p → placeOf (R .main) (nameOf fs p) ≡ p
   place-name p b l = elim (ℕ-discrete (frameAt fs p .depth) 0) [
     | yes z ↦ ap (placeOf (R .main)) (name-main fs p z) ∙ sym (R .flat p b l z .0)
     | no z ↦ ap (placeOf (R .main)) (name-child p b l z) ∙ omega arith
   ]
 
-  pub name-injective : (p q : ℕ) → p < 64 → q < 64 → Lives fs p → Lives fs q → nameOf fs p ≡ nameOf fs q → p ≡ q
+  pub name-injective : (p q : ℕ) → p < places → q < places → Lives fs p → Lives fs q → nameOf fs p ≡ nameOf fs q → p ≡ q
   name-injective p q b c l m e = sym (place-name p b l) ∙ ap (placeOf (R .main)) e ∙ place-name q c m
 
-  pub parent-name : (p : ℕ) → p < 64 → Lives fs p → frameAt fs p .parent ≡ parentPlace (placeOf (R .main)) (nameOf fs p)
+  pub parent-name : (p : ℕ) → p < places → Lives fs p → frameAt fs p .parent ≡ parentPlace (placeOf (R .main)) (nameOf fs p)
   parent-name p b l = elim (ℕ-discrete (frameAt fs p .depth) 0) [
     | yes z ↦ R .flat p b l z .1 ∙ ap (parentPlace (placeOf (R .main))) (sym (name-main fs p z))
     | no z ↦
@@ -102,16 +103,16 @@ module _ (fs : List ℕ) (R : Rooted fs) where
         sym (place-name (frameAt fs p .parent) (h .0) (h .1)) ∙ ap (parentPlace (placeOf (R .main))) (sym (name-child p b l z)))
   ]
 
-  small-from : (d p : ℕ) → p < 64 → Lives fs p → frameAt fs p .depth ≡ d → Small (nameFrom d fs p)
+  small-from : (d p : ℕ) → p < places → Lives fs p → frameAt fs p .depth ≡ d → Small (nameFrom d fs p)
   unfolding nameFrom
   small-from zero p b l e = tt
   small-from (suc d) p b l e = (let h = R .deep p b l (λ z. omega arith) in (omega arith, small-from d (frameAt fs p .parent) (h .0) (h .1) (omega (arith, h .2))))
 
-  pub small-name : (p : ℕ) → p < 64 → Lives fs p → Small (nameOf fs p)
+  pub small-name : (p : ℕ) → p < places → Lives fs p → Small (nameOf fs p)
   small-name p b l = small-from (frameAt fs p .depth) p b l refl
 
   -- q's name is a child's name of p's just where q is a child of p
-  pub child-name : (p q k : ℕ) → p < 64 → q < 64 → Lives fs p → Lives fs q → nameOf fs q ≡ k ∷ nameOf fs p → frameAt fs q .parent ≡ p
+  pub child-name : (p q k : ℕ) → p < places → q < places → Lives fs p → Lives fs q → nameOf fs q ≡ k ∷ nameOf fs p → frameAt fs q .parent ≡ p
   child-name p q k b c l m e = elim (ℕ-discrete (frameAt fs q .depth) 0) [
     | yes z ↦ absurd (nil≢cons (sym (name-main fs q z) ∙ e))
     | no z ↦
@@ -119,10 +120,10 @@ module _ (fs : List ℕ) (R : Rooted fs) where
         name-injective (frameAt fs q .parent) p (h .0) b (h .1) l (tail-eq-of-cons-eq (sym (name-child q c m z) ∙ e)))
   ]
 
-  pub name-of-child : (p q : ℕ) → p < 64 → q < 64 → Lives fs q → frameAt fs q .parent ≡ p → nameOf fs q ≡ suc q ∷ nameOf fs p
+  pub name-of-child : (p q : ℕ) → p < places → q < places → Lives fs q → frameAt fs q .parent ≡ p → nameOf fs q ≡ suc q ∷ nameOf fs p
   name-of-child p q b c m e = name-child q c m (not-main q p c m e b) ∙ ap (λ r. suc q ∷ nameOf fs r) e
 
-  pub child-test : (p q : ℕ) → p < 64 → q < 64 → Lives fs p → Lives fs q → isChild (nameOf fs p) (nameOf fs q) ≡ isChildAt fs p q
+  pub child-test : (p q : ℕ) → p < places → q < places → Lives fs p → Lives fs q → isChild (nameOf fs p) (nameOf fs q) ≡ isChildAt fs p q
   child-test p q b c l m = elim (decided (isChildAt fs p q)) [
     | inl t ↦ ap (isChild (nameOf fs p)) (name-of-child p q b c m (child-at fs p q t .1)) ∙ same-refl (nameOf fs p) ∙ sym t
     | inr t ↦ go t (nameOf fs q) refl ∙ sym t

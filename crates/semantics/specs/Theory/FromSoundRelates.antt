@@ -13,6 +13,7 @@ use Rattle.words.specs.Counting.{range}
 use Rattle.sizes.specs.Sizes.{height, treeNodes}
 use Rattle.pool.specs.Pool.{readAt}
 use Rattle.pool.specs.Theory.Sharing.{rootsOf as treeRoots}
+use Rattle.frames.specs.Widths.{places, frameWords, dequeWords}
 use Rattle.frames.specs.Deques.{dequeList}
 use Rattle.frames.specs.Frames.{frameAt}
 use Rattle.frames.specs.Theory.Lists.{list-empty}
@@ -106,7 +107,7 @@ module _ (s : Numbers) (ds fs ws : List ℕ) where
     live-there : AllLive fs L
     live-there p m = live-of F few p m
 
-    recorded : (p z : ℕ) → p < 64 → Lives fs p → frameAt fs p .suspended ≡ z → Recorded fs at (live M) z (framed p)
+    recorded : (p z : ℕ) → p < places → Lives fs p → frameAt fs p .suspended ≡ z → Recorded fs at (live M) z (framed p)
     recorded p z b l e =
         let q = place-name fs R p b l in
         record {
@@ -138,7 +139,7 @@ module _ (s : Numbers) (ds fs ws : List ℕ) where
       | no h ↦ list-empty ds w (F .absent w b (omega arith)) ∙ ap (placesOf at) (sym (deque-none w (omega arith)))
     ]
 
-    once-there : (p : ℕ) → p < 64 → count p (F .places .gs) + count p (placesOf at (live M)) ≡ 1
+    once-there : (p : ℕ) → p < places → count p (F .places .gs) + count p (placesOf at (live M)) ≡ 1
     once-there p b =
         let e : placesOf at (live M) ≡ L = ap (placesOf at) live-frames ∙ places-frames (s .splitters) fs ws R L live-there in
         elim (F .places .each p b) [
@@ -161,7 +162,7 @@ module _ (s : Numbers) (ds fs ws : List ℕ) where
         subst (λ (g : Frame). readAt (height (s .splitters)) ws (frameAt fs (at (g .name)) .root) x ≡ getD (g .values) x 0) (y .2)
         (ap (λ q. readAt (height (s .splitters)) ws (frameAt fs q .root) x) (place-name fs R (y .0) (l .0) (l .1)) ∙ sym (getD-range read 0 (s .splitters) 0 x b ∙ ap read e))
 
-    relates-there : length ds ≡ 520 → length fs ≡ 384 → Relates (LiveTrees (s .nodes) (s .splitters)) M (countedCore s ds fs ws)
+    relates-there : length ds ≡ dequeWords → length fs ≡ frameWords → Relates (LiveTrees (s .nodes) (s .splitters)) M (countedCore s ds fs ws)
     relates-there dlen flen = record {
       at = at;
       gs = F .places .gs;
@@ -226,7 +227,7 @@ module _ (s : Numbers) (ds fs ws : List ℕ) where
 
 -- ---- the theorem
 
-pub from-sound : (s : Numbers) (ds fs ws : List ℕ) → sound s ds fs ws ≡ true → length ds ≡ 520 → length fs ≡ 384
+pub from-sound : (s : Numbers) (ds fs ws : List ℕ) → sound s ds fs ws ≡ true → length ds ≡ dequeWords → length fs ≡ frameWords
     → let M : Machine = machineOf s ds fs ws in
     let c : Core = countedCore s ds fs ws in
     Relates (LiveTrees (s .nodes) (s .splitters)) M c × FrameTree M × DequeInvariant M × MarkInvariant (live M) × Bounded (M .splitters) (live M) × (c .head .«free_count» ≡ freeNodes M)
@@ -240,7 +241,7 @@ module _ (s : Numbers) (ds fs ws : List ℕ) (S : SoundFacts s ds fs ws) where
   framed-history : (L : List ℕ) (f : Frame) → In f (framesOf (s .splitters) fs ws L) → f .history ≡ []
   framed-history L f m = (let x = In-unmap (frameOf (s .splitters) fs ws) L m in ap (λ (g : Frame). g .history) (sym (x .2)))
 
-  pub nodes-alive : (p : ℕ) → p < 64 → Lives fs p → machineOf s ds fs ws .nodes ≡ treeNodes (s .splitters) + freeCount s ws
+  pub nodes-alive : (p : ℕ) → p < places → Lives fs p → machineOf s ds fs ws .nodes ≡ treeNodes (s .splitters) + freeCount s ws
   nodes-alive p b l =
       let n = s .splitters in
       let A : List Frame = framesOf n fs ws (livePlaces (s .workers) ds fs) in
@@ -254,7 +255,7 @@ module _ (s : Numbers) (ds fs ws : List ℕ) (S : SoundFacts s ds fs ws) where
         subst (λ k. inUse k B ≡ treeNodes k) (length-range n 0) (inUse-main vs),
       )
 
-  pub nodes-ended : ((p : ℕ) → p < 64 → Lives fs p → ⊥) → machineOf s ds fs ws .nodes ≡ freeCount s ws
+  pub nodes-ended : ((p : ℕ) → p < places → Lives fs p → ⊥) → machineOf s ds fs ws .nodes ≡ freeCount s ws
   nodes-ended h = go (livePlaces (s .workers) ds fs) (live-of (S .frames) (S .numbers .workers-le))
     where
       go : (L : List ℕ) → AllLive fs L → inUse (s .splitters) (framesOf (s .splitters) fs ws L) + freeCount s ws ≡ freeCount s ws

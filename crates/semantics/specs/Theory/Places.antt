@@ -18,6 +18,7 @@ use Rattle.words.specs.Distinct.{same-eq, same-of}
 use Rattle.words.specs.NoDup.{NoDup, length-le}
 use Rattle.words.specs.Counting.{δ, δ-same, δ-other, count, count-nil, count-cons, sum-cong, sum-add, sum-zero, sum-one, sum-const, miss, hit-le}
 use Rattle.sizes.specs.Sizes.{treeNodes}
+use Rattle.frames.specs.Widths.{places}
 use Rattle.frames.specs.declared.Frame.{Frame as FrameWords}
 use Rattle.frames.specs.Frames.{frameAt}
 use Rattle.frames.specs.Deques.{bottom, dequeList}
@@ -71,7 +72,7 @@ in-deque (d ∷ ds) (suc v) m = In-right d (in-deque ds v m)
 
 -- "each place is free or some live frame's, and only one's"
 abbrev pub PlacedOnce : (Name → ℕ) → List ℕ → List Frame → Type 0
-PlacedOnce at gs L = (p : ℕ) → p < 64 → count p gs + count p (placesOf at L) ≡ 1
+PlacedOnce at gs L = (p : ℕ) → p < places → count p gs + count p (placesOf at L) ≡ 1
 
 pub not-head : (p g : ℕ) (gs : List ℕ) → count p (g ∷ gs) ≡ 0 → p ≢ g
 not-head p g gs o e = omega (arith, count-cons p g gs, ap (δ p) e, δ-same p)
@@ -132,15 +133,15 @@ module _ (N : ℕ) (gs ps : List ℕ) (once : (p : ℕ) → p < N → count p gs
   at-most h = omega (arith, all-once, sum-count N ps h)
 
 module _ (at : Name → ℕ) (gs : List ℕ) (L : List Frame) (once : PlacedOnce at gs L) where
-  pub frames-le : ((f : Frame) → In f L → at (f .name) < 64) → length L ≤ 64
-  frames-le h = omega (arith, length-map L (λ (f : Frame). at (f .name)), at-most 64 gs (placesOf at L) once (λ x m. inside x (In-unmap (λ (f : Frame). at (f .name)) L m)))
+  pub frames-le : ((f : Frame) → In f L → at (f .name) < places) → length L ≤ places
+  frames-le h = omega (arith, length-map L (λ (f : Frame). at (f .name)), at-most places gs (placesOf at L) once (λ x m. inside x (In-unmap (λ (f : Frame). at (f .name)) L m)))
     where
-      inside : (x : ℕ) → (f : Frame) × In f L × (at (f .name) ≡ x) → x < 64
+      inside : (x : ℕ) → (f : Frame) × In f L × (at (f .name) ≡ x) → x < places
       inside x u = omega (arith, h (u .0) (u .1), u .2)
 
   -- with fewer a place is free
-  pub place-left : length L < 64 → 0 < length gs
-  place-left h = omega (arith, length-map L (λ (f : Frame). at (f .name)), at-least 64 gs (placesOf at L) once)
+  pub place-left : length L < places → 0 < length gs
+  place-left h = omega (arith, length-map L (λ (f : Frame). at (f .name)), at-least places gs (placesOf at L) once)
 
 -- ---- children
 
@@ -223,12 +224,12 @@ named-one p (g ∷ l) f c m e =
 -- ---- records
 
 -- the frame's place and its record there
-pub recorded-as : (fs : List ℕ) (at : Name → ℕ) (L : List Frame) (s : ℕ) (f : Frame) (p : ℕ) (F : FrameWords) → at (f .name) ≡ p → frameAt fs p ≡ F → p < 64
+pub recorded-as : (fs : List ℕ) (at : Name → ℕ) (L : List Frame) (s : ℕ) (f : Frame) (p : ℕ) (F : FrameWords) → at (f .name) ≡ p → frameAt fs p ≡ F → p < places
     → F .live ≡ 1 → F .parent ≡ parentPlace at (f .name) → F .depth ≡ length (f .name) → F .outstanding ≡ childCount (f .name) L → F .suspended ≡ s → Recorded fs at L s f
 recorded-as fs at L s f p F ep eF b h₁ h₂ h₃ h₄ h₅ =
     let e : frameAt fs (at (f .name)) ≡ F = ap (frameAt fs) ep ∙ eF in
     record {
-      inside = subst (λ (x : ℕ). x < 64) (sym ep) b;
+      inside = subst (λ (x : ℕ). x < places) (sym ep) b;
       live = ap (λ (G : FrameWords). G .live) e ∙ h₁;
       parent = ap (λ (G : FrameWords). G .parent) e ∙ h₂;
       depth = ap (λ (G : FrameWords). G .depth) e ∙ h₃;
@@ -250,7 +251,7 @@ module _ {P : Trees} {M : Machine} {c : Core} (r : Relates P M c) where
   pub recorded : (f : Frame) → In f (live M) → (s : ℕ) × Recorded (c .frames) (r .at) (live M) s f
   recorded f m = elim (In-cases (M .suspended) m) [ inl i ↦ (1, r .waiting f i) | inr i ↦ (0, r .running f i) ]
 
-  pub placed-inside : (f : Frame) → In f (live M) → r .at (f .name) < 64
+  pub placed-inside : (f : Frame) → In f (live M) → r .at (f .name) < places
   placed-inside f m = recorded f m .1 .inside
 
   -- it is not free
@@ -262,7 +263,7 @@ module _ {P : Trees} {M : Machine} {c : Core} (r : Relates P M c) where
   placed-apart f g mf mg ne z = omega (arith, r .once (r .at (f .name)) (placed-inside f mf), count-two (r .at) f g (live M) mf mg ne z)
 
   -- "At most 64 live frames."
-  pub live-few : length (live M) ≤ 64
+  pub live-few : length (live M) ≤ places
   live-few = frames-le (r .at) (r .gs) (live M) (r .once) placed-inside
 
 -- ---- trees and numbers

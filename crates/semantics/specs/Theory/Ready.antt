@@ -20,6 +20,7 @@ use Rattle.pool.specs.Links.{Link, LinksIn, PathIn}
 use Rattle.pool.specs.Theory.Operations.{Live}
 use Rattle.pool.specs.Theory.Soundness.{linkLevel, linkSize, sound-live}
 use Rattle.pool.specs.Theory.LiveLinks.{live-links, live-free, live-path}
+use Rattle.frames.specs.Widths.{places, dequePlaces}
 use Rattle.frames.specs.Frames.{frameAt}
 use Rattle.frames.specs.Deques.{size, place, bottom, dequeList}
 use Rattle.frames.specs.Ranges.{ParentOf}
@@ -44,14 +45,14 @@ tree-positive n p = omega (arith, sum-ge (suc (height n)) 0 (width n) (omega ari
 
 module _ {workers first : ℕ} {ds fs : List ℕ} (F : FramesFacts workers first ds fs) (few : workers ≤ 8) where
   -- a frame stands at most once in a deque, and only if it lives
-  deque-once : (w : ℕ) → w < 8 → (p : ℕ) → p < 64 → count p (dequeList ds w) ≤ 1
+  deque-once : (w : ℕ) → w < 8 → (p : ℕ) → p < places → count p (dequeList ds w) ≤ 1
   deque-once w b p h = elim (ℕ-discrete (frameAt fs p .live) 1) [
     | yes l ↦ (let g = sum-ge 8 w (λ v. count p (dequeList ds v)) b in elim (F .placed p h l) [ inl r ↦ omega (arith, g, r .0) | inr r ↦ omega (arith, g, r .0) ])
     | no l ↦ elim (ℕ-discrete (count p (dequeList ds w)) 0) [ yes z ↦ omega arith | no z ↦ absurd (l (deque-live F few w p b (count-In p (dequeList ds w) (omega arith)) .1)) ]
   ]
 
   -- the first free place is in no deque
-  first-out : first < 64 → (w : ℕ) → w < 8 → count first (dequeList ds w) ≡ 0
+  first-out : first < places → (w : ℕ) → w < 8 → count first (dequeList ds w) ≡ 0
   first-out h w b = elim (ℕ-discrete (count first (dequeList ds w)) 0) [
     | yes z ↦ z
     | no z ↦ (let l = deque-live F few w first b (count-In first (dequeList ds w) (omega arith)) .1 in elim (F .places .each first h) [
@@ -60,15 +61,15 @@ module _ {workers first : ℕ} {ds fs : List ℕ} (F : FramesFacts workers first
     ])
   ]
     where
-      listed : (gs : List ℕ) → Chain (nextFree fs) 64 first gs → count first gs ≡ 0 → ⊥
+      listed : (gs : List ℕ) → Chain (nextFree fs) places first gs → count first gs ≡ 0 → ⊥
       listed [] c o = omega (arith, c)
       listed (g ∷ gs) c o = omega (arith, count-cons first g gs, ap (δ first) (c .0), δ-same first)
 
   -- with it they are at most 64
-  deque-room : first < 64 → (w : ℕ) → w < 8 → size ds w < 64
+  deque-room : first < places → (w : ℕ) → w < 8 → size ds w < dequePlaces
   deque-room h w b =
       let L = dequeList ds w in
-      let short = once-short (λ x. x) 64 (first ∷ L) (and-of (ltb-of h) (below-of 64 L (λ p m. deque-live F few w p b m .0)))
+      let short = once-short (λ x. x) places (first ∷ L) (and-of (ltb-of h) (below-of places L (λ p m. deque-live F few w p b m .0)))
       (λ p i. elim (ℕ-discrete p first) [
         | yes e ↦ omega (arith, count-cons p first L, ap (λ q. count q L) e, first-out h w b, δ-le p first)
         | no e ↦ omega (arith, count-cons p first L, δ-other p first e, deque-once w b p i)
@@ -76,11 +77,11 @@ module _ {workers first : ℕ} {ds fs : List ℕ} (F : FramesFacts workers first
       omega (arith, short, list-length ds w)
 
   -- the bottom frame of a deque
-  bottom-lives : (w : ℕ) → w < 8 → 0 < size ds w → (bottom ds w < 64) × Lives fs (bottom ds w)
+  bottom-lives : (w : ℕ) → w < 8 → 0 < size ds w → (bottom ds w < places) × Lives fs (bottom ds w)
   unfolding bottom
   bottom-lives w b h = F .hold-live w b (size ds w - 1) (omega arith)
 
-  live-parent : (p : ℕ) → p < 64 → Lives fs p → ParentOf p (frameAt fs p)
+  live-parent : (p : ℕ) → p < places → Lives fs p → ParentOf p (frameAt fs p)
   live-parent p b l = elim (ℕ-discrete (frameAt fs p .depth) 0) [
     | yes e ↦ elim (F .one-main) [ inl h ↦ absurd (h .0 p b l) | inr m ↦ inr (ap (λ q. frameAt fs q .parent) (m .only p b l e) ∙ m .orphan) ]
     | no e ↦ inl (F .parents p b l e .0, λ q. omega (arith, F .parents p b l e .2, ap (λ z. frameAt fs z .depth) q))
@@ -110,7 +111,7 @@ module _ (c : Core) (K : Kept c) where
       (pool-fact n (c .head .numbers .nodes) (c .pool) (c .head .numbers .«free_node») (liveRoots (c .frames)) (S .numbers .room) (S .pool))
 
   acting-root : (w : ℕ) → w < 8 → 0 < size (c .deques) w → 0 < count (actingIn c w .root) (liveRoots (c .frames))
-  acting-root w b h = (let r = bottom-lives (S .frames) (S .numbers .workers-le) w b h in root-counted (c .frames) 64 (bottom (c .deques) w) (r .0) (r .1))
+  acting-root w b h = (let r = bottom-lives (S .frames) (S .numbers .workers-le) w b h in root-counted (c .frames) places (bottom (c .deques) w) (r .0) (r .1))
 
   pub kept-ready : Ready c
   kept-ready =
@@ -127,7 +128,7 @@ module _ (c : Core) (K : Kept c) where
         long-frames = K .long-frames;
         links = live-links N (height n) n small (height-covers n) trees;
         free-node = live-free N (height n) n small (height-covers n) trees;
-        free-place = chain-start 64 (nextFree (c .frames)) (c .head .numbers .«free_place») (F .places .gs) (F .places .chain);
+        free-place = chain-start places (nextFree (c .frames)) (c .head .numbers .«free_place») (F .places .gs) (F .places .chain);
         sizes = F .within;
         held = λ w k b h. F .hold-live w b k h .0;
         room = λ w b h. deque-room F few h w b;

@@ -14,6 +14,7 @@ use Rattle.words.specs.Basics.{none, joined}
 use Rattle.words.specs.Tests.{decided, true≢false, ltb-of, nltb-of}
 use Rattle.words.specs.Counting.{δ-same, count, count-nil, count-cons, sum-zero, sum-ge, all-at, all-of}
 use Rattle.sizes.specs.Sizes.{height}
+use Rattle.frames.specs.Widths.{places}
 use Rattle.frames.specs.Deques.{size}
 use Rattle.frames.specs.Theory.Lists.{list-length}
 use Rattle.frames.specs.Theory.Places.{FreePlaces}
@@ -139,20 +140,20 @@ module _ {P : Trees} {M : Machine} {c : Core} (r : Relates P M c) where
 
   -- ---- 64 frames live
 
-  placed : (p : ℕ) → In p (placesOf (r .at) (live M)) → p < 64
+  placed : (p : ℕ) → In p (placesOf (r .at) (live M)) → p < places
   placed p m = let u = In-unmap (λ (f : Frame). r .at (f .name)) (live M) m in omega (arith, placed-inside r (u .0) (u .1), u .2)
 
-  full : (gs : List ℕ) → r .gs ≡ gs → eqb (c .head .numbers .«free_place») none ≡ notBelow (length (live M)) 64
+  full : (gs : List ℕ) → r .gs ≡ gs → eqb (c .head .numbers .«free_place») none ≡ notBelow (length (live M)) places
   full [] e =
       let z : c .head .numbers .«free_place» ≡ none = subst (λ (g : List ℕ). FreePlaces (c .frames) (c .head .numbers .«free_place») g) e (r .formed .places) in
-      let many : 64 ≤ length (live M) = omega (arith, none-free 64 (r .gs) (placesOf (r .at) (live M)) (r .once) placed e, length-map (live M) (λ (f : Frame). r .at (f .name))) in
+      let many : places ≤ length (live M) = omega (arith, none-free places (r .gs) (placesOf (r .at) (live M)) (r .once) placed e, length-map (live M) (λ (f : Frame). r .at (f .name))) in
       eq-eqb (c .head .numbers .«free_place») none z ∙ sym (ap not (nltb-of many))
   full (g ∷ gs) e =
       let z = subst (λ (l : List ℕ). FreePlaces (c .frames) (c .head .numbers .«free_place») l) e (r .formed .places) in
-      let few : length (live M) < 64 = omega (arith, free-positive 64 (r .gs) (placesOf (r .at) (live M)) (r .once) placed g gs (z .1) e, length-map (live M) (λ (f : Frame). r .at (f .name))) in
+      let few : length (live M) < places = omega (arith, free-positive places (r .gs) (placesOf (r .at) (live M)) (r .once) placed g gs (z .1) e, length-map (live M) (λ (f : Frame). r .at (f .name))) in
       ne-eqb (c .head .numbers .«free_place») none (λ n. omega (arith, z .0, z .1)) ∙ sym (ap not (ltb-of few))
 
-  pub vacant-same : eqb (c .head .numbers .«free_place») none ≡ notBelow (length (live M)) 64
+  pub vacant-same : eqb (c .head .numbers .«free_place») none ≡ notBelow (length (live M)) places
   vacant-same = full (r .gs) refl
 
   -- ---- Main has returned

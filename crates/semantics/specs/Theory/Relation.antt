@@ -11,6 +11,7 @@ use lib.ListN.{length, getD}
 use Rattle.words.specs.Basics.{none, count, joined}
 use Rattle.sizes.specs.Sizes.{height, treeNodes}
 use Rattle.pool.specs.Pool.{readAt, retain, release, write}
+use Rattle.frames.specs.Widths.{places}
 use Rattle.frames.specs.Deques.{dequeList}
 use Rattle.frames.specs.Frames.{frameAt, freePlace}
 use Rattle.frames.specs.Theory.Tables.{Formed}
@@ -38,12 +39,12 @@ event x m = record { splitter = x; mark = m }
 -- what spawn, return and write do to it, for N nodes and n splitters
 pub record TreeLaws (N n : ℕ) (P : Trees) : Type 0 where
   pub perm : (ws : List ℕ) (free k : ℕ) (Fs Fs' : List (ℕ × History)) → List·Permᴰ Fs Fs' → P ws free k Fs → P ws free k Fs'
-  pub spawn : (ws : List ℕ) (free k : ℕ) (F : ℕ × History) (Fs : List (ℕ × History)) → length Fs < 64 → P ws free k (F ∷ Fs)
+  pub spawn : (ws : List ℕ) (free k : ℕ) (F : ℕ × History) (Fs : List (ℕ × History)) → length Fs < places → P ws free k (F ∷ Fs)
       → P (retain ws (F .0)) free k (F ∷ F ∷ Fs) × Kept (height n) n ws (retain ws (F .0)) (F ∷ Fs)
   pub return : (ws : List ℕ) (free k : ℕ) (F : ℕ × History) (Fs : List (ℕ × History)) → P ws free k (F ∷ Fs)
       → P (release (height n) ws free k (F .0) .0) (release (height n) ws free k (F .0) .1) (release (height n) ws free k (F .0) .2) Fs
       × Kept (height n) n ws (release (height n) ws free k (F .0) .0) Fs
-  pub write : (ws : List ℕ) (free k root : ℕ) (h : History) (Fs : List (ℕ × History)) (x v : ℕ) (m : Mark) → length Fs < 64 → x < n → height n < k → m ≢ []
+  pub write : (ws : List ℕ) (free k root : ℕ) (h : History) (Fs : List (ℕ × History)) (x v : ℕ) (m : Mark) → length Fs < places → x < n → height n < k → m ≢ []
       → Fresh m ((root, h) ∷ Fs) → P ws free k ((root, h) ∷ Fs)
       → P (write (height n) ws free k root x v .0) (write (height n) ws free k root x v .1) (write (height n) ws free k root x v .2) ((free, event x m ∷ h) ∷ Fs)
       × Kept (height n) n ws (write (height n) ws free k root x v .0) Fs
@@ -74,7 +75,7 @@ rootsOf fs at L = map (λ f. (rootOf fs at f, f .history)) L
 
 -- the record of the frame f, one of the live frames L: suspended (s is 1) or not (0)
 pub record Recorded (fs : List ℕ) (at : Name → ℕ) (L : List Frame) (s : ℕ) (f : Frame) : Type 0 where
-  pub inside : at (f .name) < 64
+  pub inside : at (f .name) < places
   pub live : frameAt fs (at (f .name)) .live ≡ 1
   pub parent : frameAt fs (at (f .name)) .parent ≡ parentPlace at (f .name)
   pub depth : frameAt fs (at (f .name)) .depth ≡ length (f .name)
@@ -103,7 +104,7 @@ pub record Relates (P : Trees) (M : Machine) (c : Core) : Type 0 where
   pub running : (f : Frame) → In f (joined (M .deques)) → Recorded (c .frames) at (live M) 0 f
   pub waiting : (f : Frame) → In f (M .suspended) → Recorded (c .frames) at (live M) 1 f
   -- each place is free or some live frame's, and only one's
-  pub once : (p : ℕ) → p < 64 → count p gs + count p (placesOf at (live M)) ≡ 1
-  pub vacant : (p : ℕ) → p < 64 → 0 < count p gs → (q : ℕ) × (frameAt (c .frames) p ≡ freePlace q)
+  pub once : (p : ℕ) → p < places → count p gs + count p (placesOf at (live M)) ≡ 1
+  pub vacant : (p : ℕ) → p < places → 0 < count p gs → (q : ℕ) × (frameAt (c .frames) p ≡ freePlace q)
   pub trees : P (c .pool) (c .head .numbers .«free_node») (c .head .«free_count») (rootsOf (c .frames) at (live M))
   pub values : (f : Frame) → In f (live M) → (x : ℕ) → x < M .splitters → readAt (height (M .splitters)) (c .pool) (rootOf (c .frames) at f) x ≡ getD (f .values) x 0

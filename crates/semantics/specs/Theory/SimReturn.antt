@@ -16,6 +16,7 @@ use Rattle.words.specs.Tests.{decided, both, true→T, true≢false}
 use Rattle.words.specs.Lists.{In-perm, joined-set}
 use Rattle.words.specs.Distinct.{same-eq, same-ne, same-refl, same-differ}
 use Rattle.words.specs.Counting.{δ-other, count, count-cons, hit, miss}
+use Rattle.frames.specs.Widths.{places}
 use Rattle.frames.specs.Deques.{dequeList}
 use Rattle.frames.specs.declared.Frame.{Frame as FrameWords}
 use Rattle.frames.specs.declared.Returned.{Returned}
@@ -136,8 +137,8 @@ module _ {P : Trees} {M : Machine} {c : Core} (r : Relates P M c) (tree : FrameT
   -- ---- the end of a child: g is the parent
 
   module _ (k : ℕ) (eq : q .name ≡ k ∷ parentName) (g : Frame) (mg : In g others) (eg : g .name ≡ parentName) where
-    parent-inside : upper < 64
-    parent-inside = subst (λ (n : Name). r .at n < 64) eg (placed-inside r g (old g (there mg)))
+    parent-inside : upper < places
+    parent-inside = subst (λ (n : Name). r .at n < places) eg (placed-inside r g (old g (there mg)))
 
     parent-is : frameAt (c .frames) own .parent ≡ upper
     parent-is = acting-record r w q d lt e .parent ∙ ap (parentPlace (r .at)) eq

@@ -16,6 +16,7 @@ use Rattle.words.specs.Distinct.{same-refl, same-differ}
 use Rattle.words.specs.Counting.{δ-same, count, count-cons, hit, miss}
 use Rattle.sizes.specs.Sizes.{height}
 use Rattle.pool.specs.Pool.{readAt, retain}
+use Rattle.frames.specs.Widths.{places}
 use Rattle.frames.specs.Deques.{dequeList}
 use Rattle.frames.specs.declared.Frame.{Frame as FrameWords}
 use Rattle.frames.specs.Frames.{frameAt, freePlace, childOf, withChild}
@@ -49,7 +50,7 @@ placed-other at n g r ne = rw (same-differ ne)
 -- ---- the step: q spawns, g is the first free place and hs are the others
 
 module _ {P : Trees} {M : Machine} {c : Core} (r : Relates P M c) (tree : FrameTree M) (w : ℕ) (q : Frame) (d : List Frame)
-    (lt : w < length (M .deques)) (e : deque M w ≡ q ∷ d) (few : length (live M) < 64) (g : ℕ) (hs : List ℕ) (eg : r .gs ≡ g ∷ hs) where
+    (lt : w < length (M .deques)) (e : deque M w ≡ q ∷ d) (few : length (live M) < places) (g : ℕ) (hs : List ℕ) (eg : r .gs ≡ g ∷ hs) where
   abbrev others : List Frame
   others = d ++ rest M w
 
@@ -141,14 +142,14 @@ module _ {P : Trees} {M : Machine} {c : Core} (r : Relates P M c) (tree : FrameT
       spawned-table (tableOf c) w (r .at (q .name)) g (placesOf (r .at) d) hs formed (worker-few r w q d lt e) (acting-deque r w q d lt e)
       (omega (arith, others-few, length-append d (rest M w), length-map d (λ (f : Frame). r .at (f .name)))) (placed-inside r q (old q (here refl))) (taken q (here refl)) g-once
 
-  places : List·Permᴰ (placesOf at′ (live M′)) (g ∷ placesOf (r .at) (q ∷ others))
-  places = subst (List·Permᴰ (placesOf at′ (live M′))) (ap₂ _∷_ new-place (same-places (q ∷ others) (λ f m. m))) (Permᴰ·map (λ (f : Frame). at′ (f .name)) after)
+  places-after : List·Permᴰ (placesOf at′ (live M′)) (g ∷ placesOf (r .at) (q ∷ others))
+  places-after = subst (List·Permᴰ (placesOf at′ (live M′))) (ap₂ _∷_ new-place (same-places (q ∷ others) (λ f m. m))) (Permᴰ·map (λ (f : Frame). at′ (f .name)) after)
 
   once-after : PlacedOnce at′ hs (live M′)
   once-after p b =
-      omega (arith, once p b, count-perm p places, count-perm p (Permᴰ·map (λ (f : Frame). r .at (f .name)) before), count-cons p g (placesOf (r .at) (q ∷ others)), count-cons p g hs)
+      omega (arith, once p b, count-perm p places-after, count-perm p (Permᴰ·map (λ (f : Frame). r .at (f .name)) before), count-cons p g (placesOf (r .at) (q ∷ others)), count-cons p g hs)
 
-  vacant-after : (p : ℕ) → p < 64 → 0 < count p hs → (x : ℕ) × (frameAt (t′ .frames) p ≡ freePlace x)
+  vacant-after : (p : ℕ) → p < places → 0 < count p hs → (x : ℕ) × (frameAt (t′ .frames) p ≡ freePlace x)
   vacant-after p b h =
       let o = r .vacant p b (subst (λ (z : List ℕ). 0 < count p z) (sym eg) (omega (arith, count-cons p g hs))) in
       let not-g : p ≢ g = λ z. omega (arith, g-once, ap (λ (x : ℕ). count x hs) z) in

@@ -13,6 +13,7 @@ use Rattle.words.specs.Lists.{In-perm, joined-set}
 use Rattle.sizes.specs.Sizes.{height}
 use Rattle.pool.specs.Pool.{readAt}
 use Rattle.pool.specs.Pool.{write as path}
+use Rattle.frames.specs.Widths.{places}
 use Rattle.frames.specs.declared.Frame.{Frame as Words}
 use Rattle.frames.specs.Frames.{frameAt, setFrame, withRoot}
 use Rattle.frames.specs.Theory.Records.{length-setFrame, frame-set-same, frame-set-other}
@@ -90,7 +91,7 @@ module _ (P : Trees) (M : Machine) (c : Core) (w x v : ℕ) (q : Frame) (d : Lis
 
   module _ (laws : TreeLaws (c .head .numbers .nodes) (M .splitters) P) (marks : MarkInvariant (live M)) (bounds : Bounded (M .splitters) (live M)) (below : x < M .splitters)
       (room : height (M .splitters) < c .head .«free_count») where
-    few : length (rootsOf (c .frames) (r .at) others) < 64
+    few : length (rootsOf (c .frames) (r .at) others) < places
     few = omega (arith, length-map others (treeOf (c .frames) (r .at)), length-perm before, bounds .0)
 
     law : P (after .0) (after .1) (after .2) ((c .head .numbers .«free_node», event x (length (q .history) ∷ q .name) ∷ q .history) ∷ rootsOf (c .frames) (r .at) others)

@@ -8,7 +8,7 @@ use native.Mathlib.Omega.{arith}
 use lib.ListN.{length, length-map}
 use Rattle.pool.specs.Pool.{retain, release}
 use Rattle.pool.specs.Pool.{write as writePath}
-use Rattle.frames.specs.Widths.{frameWords, dequeWords}
+use Rattle.frames.specs.Widths.{places, frameWords, dequeWords}
 use Rattle.soundness.specs.declared.Numbers.{Numbers}
 use Rattle.soundness.specs.Soundness.{sound}
 use Rattle.model.specs.declared.Step.{Step}
@@ -45,7 +45,7 @@ module _ (M : Machine) (c : Core) (r : Relates (LiveTrees (c .head .numbers .nod
   root-is : (a : Action) (w : ℕ) (x : Acts M w a) → actingIn c w .root ≡ rootOf (c .frames) (r .at) (x .actor)
   root-is a w x = ap (λ f. f .root) (acting-frame r w (x .actor) (x .above) (x .worker) (x .at))
 
-  few : (a : Action) (w : ℕ) (x : Acts M w a) → length (rootsOf (c .frames) (r .at) (x .above ++ rest M w)) < 64
+  few : (a : Action) (w : ℕ) (x : Acts M w a) → length (rootsOf (c .frames) (r .at) (x .above ++ rest M w)) < places
   few a w x = omega (arith, length-map (x .above ++ rest M w) (treeOf (c .frames) (r .at)), length-perm (x .before), live-few r)
 
   done-beyond : (st : Step) → Passes M (turnOf st) → Beyond (c .head .numbers .nodes) (c .pool) (doneBy c st .core .pool)

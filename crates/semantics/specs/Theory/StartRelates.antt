@@ -16,6 +16,7 @@ use Rattle.words.specs.Counting.{δ-same, δ-other, count-nil, count-cons, rang
 use Rattle.sizes.specs.Sizes.{height, treeNodes}
 use Rattle.pool.specs.Pool.{readAt, initPool}
 use Rattle.pool.specs.Theory.Good.{After, good-start}
+use Rattle.frames.specs.Widths.{places, frameWords, dequeWords}
 use Rattle.frames.specs.Frames.{frameAt, mainFrame, initFrames}
 use Rattle.frames.specs.Deques.{initDeques, dequeList}
 use Rattle.frames.specs.Theory.Start.{length-init, init-main, init-free, init-places, init-shaped, init-first, init-others}
@@ -45,15 +46,15 @@ module _ (workers : ℕ) (vs ws : List ℕ) (F : Fit workers vs ws) where
   n : ℕ
   n = length vs
 
-  zeros : length (replicate {A = ℕ} 384 0) ≡ 384
-  zeros = length-replicate {A = ℕ} 384 0
+  zeros : length (replicate {A = ℕ} frameWords 0) ≡ frameWords
+  zeros = length-replicate {A = ℕ} frameWords 0
 
   fs : List ℕ
-  fs = initFrames (replicate 384 0)
+  fs = initFrames (replicate frameWords 0)
 
   main-at : frameAt fs 0 ≡ mainFrame 0
   unfolding fs
-  main-at = init-main (replicate 384 0) zeros
+  main-at = init-main (replicate frameWords 0) zeros
 
   room : 4 * N ≤ length ws
   unfolding N
@@ -86,12 +87,12 @@ module _ (workers : ℕ) (vs ws : List ℕ) (F : Fit workers vs ws) where
       enough = F .enough;
       nodes-le = F .nodes-le;
     };
-    formed = record { shaped = init-shaped; long = length-init (replicate 384 0) zeros; places = init-places (replicate 384 0) zeros };
+    formed = record { shaped = init-shaped; long = length-init (replicate frameWords 0) zeros; places = init-places (replicate frameWords 0) zeros };
     deques = deque-at;
     running = λ f m. recorded f (In-one (subst (λ L. In f L) (ap (λ z. main vs ∷ z) (joined-empty (workers - 1))) m));
     waiting = λ f m. absurd (not-in-nil m);
     once = λ p b. subst (λ L. count p (range 63 1) + count p (placesOf (λ _. 0) L) ≡ 1) (sym (live-start workers vs N)) (once-at p b);
-    vacant = λ p b c. (cond (eqb p 63) none (suc p), init-free (replicate 384 0) zeros p (not-first p c) b);
+    vacant = λ p b c. (cond (eqb p 63) none (suc p), init-free (replicate frameWords 0) zeros p (not-first p c) b);
     trees = subst (λ L. GoodTrees N n words first spare (rootsOf fs (λ _. 0) L)) (sym (live-start workers vs N))
         (subst (λ (r : ℕ). GoodTrees N n words first spare ((r, []) ∷ [])) (sym root-is) (started .0 .good));
     values = λ f m x b. (let e : f ≡ main vs = In-one (subst (λ L. In f L) (live-start workers vs N) m) in
@@ -116,11 +117,11 @@ module _ (workers : ℕ) (vs ws : List ℕ) (F : Fit workers vs ws) where
       not-first : (p : ℕ) → 0 < count p (range 63 1) → 1 ≤ p
       not-first p c = elim (ℕ-discrete p 0) [ yes e ↦ absurd (omega (arith, count-range-out 63 1 p (inl (omega arith)))) | no e ↦ omega arith ]
 
-      deque-at : (w : ℕ) → w < 8 → dequeList (initDeques (replicate 520 0)) w ≡ placesOf (λ _. 0) (deque (start workers vs N) w)
+      deque-at : (w : ℕ) → w < 8 → dequeList (initDeques (replicate dequeWords 0)) w ≡ placesOf (λ _. 0) (deque (start workers vs N) w)
       deque-at zero b = init-first
       deque-at (suc w) b = init-others (suc w) (omega arith) b ∙ sym (ap (placesOf (λ _. 0)) (getD-none (workers - 1) w))
 
-      once-at : (p : ℕ) → p < 64 → count p (range 63 1) + count p (0 ∷ []) ≡ 1
+      once-at : (p : ℕ) → p < places → count p (range 63 1) + count p (0 ∷ []) ≡ 1
       once-at p b = elim (ℕ-discrete p 0) [
         | yes e ↦ omega (arith, count-range-out 63 1 p (inl (omega arith)), count-cons p 0 [], count-nil p, ap (λ q. Rattle.words.specs.Basics.δ q 0) e, δ-same 0)
         | no e ↦ omega (arith, count-range-in 63 1 p (omega arith) (omega arith), count-cons p 0 [], count-nil p, δ-other p 0 e)

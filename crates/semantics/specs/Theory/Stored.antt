@@ -7,6 +7,7 @@ use Prim.Native.Nat.{ℕ, _<_}
 use native.Mathlib.Omega.{arith}
 use Rattle.words.specs.Counting.{count}
 use Rattle.words.specs.Lists.{In-perm}
+use Rattle.frames.specs.Widths.{places}
 use Rattle.frames.specs.declared.Frame.{Frame as Words}
 use Rattle.frames.specs.Frames.{frameAt, freePlace}
 use Rattle.model.specs.Machine.{Name, Frame, Machine, live}
@@ -23,7 +24,7 @@ pub record Carried {P : Trees} {M : Machine} {c : Core} (r : Relates P M c) (M�
   pub other-root : (f : Frame) → In f R → rootOf fs′ (r .at) f ≡ rootOf (c .frames) (r .at) f
   pub other-roots : rootsOf fs′ (r .at) R ≡ rootsOf (c .frames) (r .at) R
   pub once : PlacedOnce (r .at) (r .gs) (live M′)
-  pub vacant : (p : ℕ) → p < 64 → 0 < count p (r .gs) → (n : ℕ) × (frameAt fs′ p ≡ freePlace n)
+  pub vacant : (p : ℕ) → p < places → 0 < count p (r .gs) → (n : ℕ) × (frameAt fs′ p ≡ freePlace n)
 
 module _ {P : Trees} {M : Machine} {c : Core} (r : Relates P M c) (M′ : Machine) (fs′ : List ℕ) (q q′ : Frame) (R : List Frame) (s t : ℕ) (named : q′ .name ≡ q .name)
     (before : List·Permᴰ (live M) (q ∷ R)) (after : List·Permᴰ (q′ ∷ R) (live M′))
@@ -44,7 +45,7 @@ module _ {P : Trees} {M : Machine} {c : Core} (r : Relates P M c) (M′ : Machin
       ∙ ap (λ (z : Name). count p (r .at z ∷ placesOf (r .at) R)) (sym named)
       ∙ count-perm p (Permᴰ·map (λ (f : Frame). r .at (f .name)) after)
 
-  still-free : (p : ℕ) → p < 64 → 0 < count p (r .gs) → (n : ℕ) × (frameAt fs′ p ≡ freePlace n)
+  still-free : (p : ℕ) → p < places → 0 < count p (r .gs) → (n : ℕ) × (frameAt fs′ p ≡ freePlace n)
   still-free p h g =
       let x = r .vacant p h g in
       (x .0, elsewhere p (λ e. omega (arith, g, ap (λ (z : ℕ). count z (r .gs)) e, placed-taken r q (In-perm (Permᴰ·symm before) (here refl)))) ∙ x .1)

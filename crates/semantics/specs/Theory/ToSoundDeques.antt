@@ -7,6 +7,7 @@ use Prim.Native.Nat.{ℕ, zero, suc, _≤_, _<_}
 use native.Mathlib.Omega.{arith}
 use native.Mathlib.Decide.{ℕ-discrete}
 use lib.ListN.{length, List·getD-eq-default}
+use Rattle.frames.specs.Widths.{places}
 use Rattle.frames.specs.Frames.{frameAt}
 use Rattle.frames.specs.Deques.{size, place, dequeList, placesTo}
 use Rattle.model.specs.Machine.{Name, Frame, Machine, live, deque}
@@ -15,7 +16,7 @@ use Rattle.model.specs.Theory.DequeShape.{Linked, OnlyChild, nothing, DequeInva
 use Rattle.semantics.specs.Core.{Core}
 use Rattle.semantics.specs.Theory.Relation.{Trees, parentPlace, placesOf, Relates}
 use Rattle.soundness.specs.Theory.Facts.{Lives, FramesFacts}
-use Rattle.semantics.specs.Theory.ToSoundFrames.{recorded, inside, alive, live-frame, parent-named, deque-size, in-live, one-main, parents, outstanding, placed, places}
+use Rattle.semantics.specs.Theory.ToSoundFrames.{recorded, inside, alive, live-frame, parent-named, deque-size, in-live, one-main, parents, outstanding, placed, free-places}
 
 module _ {P : Trees} {M : Machine} {c : Core} (R : Relates P M c) (tree : FrameTree M) (inv : DequeInvariant M) where
   abbrev at : Name → ℕ
@@ -95,11 +96,11 @@ module _ {P : Trees} {M : Machine} {c : Core} (R : Relates P M c) (tree : FrameT
     unfolding dequeList
     along b = R .deques w b
 
-    pub hold-live : w < 8 → (k : ℕ) → k < size (c .deques) w → (place (c .deques) w k < 64) × Lives fs (place (c .deques) w k)
+    pub hold-live : w < 8 → (k : ℕ) → k < size (c .deques) w → (place (c .deques) w k < places) × Lives fs (place (c .deques) w k)
     hold-live b k h =
         let r = frame-at (size (c .deques) w) (deque M w) (along b) k h in
         let m = in-live R w (r .0) (r .1) in
-        subst (λ p. (p < 64) × Lives fs p) (r .2) (inside R (r .0) m, alive R (r .0) m)
+        subst (λ p. (p < places) × Lives fs p) (r .2) (inside R (r .0) m, alive R (r .0) m)
 
     pub absent : w < 8 → c .head .numbers .workers ≤ w → size (c .deques) w ≡ 0
     absent b h = deque-size R w b ∙ ap length (List·getD-eq-default (M .deques) [] {n = w} (omega (arith, R .numbers .workers)))
@@ -107,7 +108,7 @@ module _ {P : Trees} {M : Machine} {c : Core} (R : Relates P M c) (tree : FrameT
     pub child-of-above : w < 8 → (k : ℕ) → suc k < size (c .deques) w → frameAt fs (place (c .deques) w (suc k)) .parent ≡ place (c .deques) w k
     child-of-above b = linked-at (size (c .deques) w) (deque M w) (along b) (in-live R w) (inv .shape w .0)
 
-    pub only-below : w < 8 → (k : ℕ) → suc k < size (c .deques) w → (p : ℕ) → p < 64 → Lives fs p → frameAt fs p .parent ≡ place (c .deques) w (suc k)
+    pub only-below : w < 8 → (k : ℕ) → suc k < size (c .deques) w → (p : ℕ) → p < places → Lives fs p → frameAt fs p .parent ≡ place (c .deques) w (suc k)
         → (suc (suc k) < size (c .deques) w) × (p ≡ place (c .deques) w (suc (suc k)))
     only-below b k h p d l e =
         let x = live-frame R p d l in
@@ -128,5 +129,5 @@ module _ {P : Trees} {M : Machine} {c : Core} (R : Relates P M c) (tree : FrameT
     zeros = R .formed .shaped .zeros;
     child-of-above = child-of-above;
     only-below = only-below;
-    places = places R;
+    places = free-places R;
   }
