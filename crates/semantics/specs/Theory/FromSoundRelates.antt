@@ -222,8 +222,8 @@ module _ (s : Numbers) (ds fs ws : List ℕ) where
     )
 
     -- the nodes in use and those on the chain are all that the machine has
-    spare-there : freeCount s ws ≡ freeNodes M
-    spare-there = omega (arith, ap (inUse (s .splitters)) live-frames)
+    free-count-there : freeCount s ws ≡ freeNodes M
+    free-count-there = omega (arith, ap (inUse (s .splitters)) live-frames)
 
 -- ---- the theorem
 
@@ -233,7 +233,7 @@ pub from-sound : (s : Numbers) (ds fs ws : List ℕ) → sound s ds fs ws ≡ tr
     Relates (LiveTrees (s .nodes) (s .splitters)) M c × FrameTree M × DequeInvariant M × MarkInvariant (live M) × Bounded (M .splitters) (live M) × (c .head .«free_count» ≡ freeNodes M)
 from-sound s ds fs ws e dlen flen =
     let S = sound-facts s ds fs ws e in
-    (relates-there s ds fs ws S dlen flen, tree-there s ds fs ws S, deques-there s ds fs ws S, marks-there s ds fs ws S, bounds-there s ds fs ws S, spare-there s ds fs ws S)
+    (relates-there s ds fs ws S dlen flen, tree-there s ds fs ws S, deques-there s ds fs ws S, marks-there s ds fs ws S, bounds-there s ds fs ws S, free-count-there s ds fs ws S)
 
 -- ---- the machine's nodes: a tree's worth while a frame lives, and those on the free chain
 

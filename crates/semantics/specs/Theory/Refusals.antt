@@ -207,7 +207,7 @@ pub step-judged : (c : Core) (st : Step) → stepOn c st ≡ judged (testsOf c s
 unfolding stepOn
 step-judged c st = refl
 
-module _ {P : Trees} {M : Machine} {c : Core} (r : Relates P M c) (tree : FrameTree M) (shape : DequeInvariant M) (spare : c .head .«free_count» ≡ freeNodes M) where
+module _ {P : Trees} {M : Machine} {c : Core} (r : Relates P M c) (tree : FrameTree M) (shape : DequeInvariant M) (free-count : c .head .«free_count» ≡ freeNodes M) where
   alike : (st : Step) → Alike (testsOf c st) (turnTests M (turnOf st))
   alike (Spawn w) = acting-alike r tree shape w spawn (kindTests c (Spawn w)) (λ q d lt e. (vacant-same r, refl, λ x. tt))
   alike (Return w) = acting-alike r tree shape w return (kindTests c (Return w)) (λ q d lt e. (child-same r w q d lt e, refl, λ x. tt))
@@ -216,7 +216,7 @@ module _ {P : Trees} {M : Machine} {c : Core} (r : Relates P M c) (tree : FrameT
   alike (Read w x) = acting-alike r tree shape w (read x) (kindTests c (Read w x)) (λ q d lt e. (splitter-same r x, refl, λ y. tt))
   alike (Write w x v) =
       acting-alike r tree shape w (write x v) (kindTests c (Write w x v))
-      (λ q d lt e. (splitter-same r x, refl, λ y. (room-same r spare, refl, λ z. tt)))
+      (λ q d lt e. (splitter-same r x, refl, λ y. (room-same r free-count, refl, λ z. tt)))
 
   pub refused-alike : (st : Step)
       → (refusal M st ≡ 0 → stepOn c st ≡ doneBy c st)

@@ -50,9 +50,9 @@ module _ (P : Trees) (M : Machine) (c : Core) (w x v : ℕ) (q : Frame) (d : Lis
   abbrev new-did : StepResult
   new-did = stepResult (withFreeNodes (c .head) (after .1) (after .2)) (c .deques) new-frames (after .0) (Accepted (Written (after .2)))
 
-  wrote-is : writeOn c w x v ≡ new-did
+  write-is : writeOn c w x v ≡ new-did
   unfolding writeOn
-  wrote-is = rw (acting-place r w q d lt e, r .numbers .height-is)
+  write-is = rw (acting-place r w q d lt e, r .numbers .height-is)
 
   abbrev others : List Frame
   others = d ++ rest M w
@@ -146,8 +146,8 @@ module _ (P : Trees) (M : Machine) (c : Core) (w x v : ℕ) (q : Frame) (d : Lis
 pub sim-write : (P : Trees) (M : Machine) (c : Core) (w x v : ℕ) → TreeLaws (c .head .numbers .nodes) (M .splitters) P → MarkInvariant (live M) → Bounded (M .splitters) (live M)
     → c .head .«free_count» ≡ freeNodes M → Passes M (acting w (write x v)) → Relates P M c
     → Relates P (afterTurn M (acting w (write x v))) (writeOn c w x v .core) × (answerWords (writeOn c w x v .answer) ≡ (106, writeOn c w x v .core .head .«free_count»))
-sim-write P M c w x v laws marks bounds spare h r =
+sim-write P M c w x v laws marks bounds free-count h r =
     let a = acts M w (write x v) h in
-    let room : height (M .splitters) < c .head .«free_count» = omega (arith, spare, a .allowed .1) in
-    rw (a .at, wrote-is P M c w x v (a .actor) (a .above) (a .worker) (a .at) r)
+    let room : height (M .splitters) < c .head .«free_count» = omega (arith, free-count, a .allowed .1) in
+    rw (a .at, write-is P M c w x v (a .actor) (a .above) (a .worker) (a .at) r)
     (related P M c w x v (a .actor) (a .above) (a .worker) (a .at) r laws marks bounds (a .allowed .0) room, refl)

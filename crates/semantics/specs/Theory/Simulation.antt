@@ -76,7 +76,7 @@ same-answers : (M : Machine) (c : Core) (st : Step) → answerWords (stepOn c st
 same-answers M c st e = record { first = ap (λ (z : ℕ × ℕ). z .0) e; both = λ k. e; unless-written = inl e }
 
 module _ (P : Trees) (M : Machine) (c : Core) (r : Relates P M c) (laws : TreeLaws (c .head .numbers .nodes) (M .splitters) P) (tree : FrameTree M) (shape : DequeInvariant M)
-    (marks : MarkInvariant (live M)) (bounds : Bounded (M .splitters) (live M)) (spare : c .head .«free_count» ≡ freeNodes M) where
+    (marks : MarkInvariant (live M)) (bounds : Bounded (M .splitters) (live M)) (free-count : c .head .«free_count» ≡ freeNodes M) where
   -- an accepted step but a write
   simulated : (st : Step) → Accepted M st → stepOn c st ≡ doneBy c st → SimulatesTurn P M c st → Simulates P M c st
   simulated st a e s = record {
@@ -89,7 +89,7 @@ module _ (P : Trees) (M : Machine) (c : Core) (r : Relates P M c) (laws : TreeLa
 
   written : (w x v : ℕ) → Accepted M (Write w x v) → stepOn c (Write w x v) ≡ writeOn c w x v → Simulates P M c (Write w x v)
   written w x v a e =
-      let s = sim-write P M c w x v laws marks bounds spare (a .passes) r in
+      let s = sim-write P M c w x v laws marks bounds free-count (a .passes) r in
       let told : answer M (Write w x v) ≡ (106, freeNodes (step M (Write w x v))) =
       a .answered ∙ write-answer w x v (a .passes) ∙ ap (λ (N : Machine). (106, freeNodes N)) (sym (a .after)) in
       let own : answerWords (stepOn c (Write w x v) .answer) ≡ (106, stepOn c (Write w x v) .core .head .«free_count») = rw e (s .1) in
@@ -112,7 +112,7 @@ module _ (P : Trees) (M : Machine) (c : Core) (r : Relates P M c) (laws : TreeLa
 
   refuses : (st : Step) → Refused M st → (k : ℕ) → refusal M st ≡ suc k → Simulates P M c st
   refuses st f k e =
-      let o = refused-alike r tree shape spare st .1 k e in
+      let o = refused-alike r tree shape free-count st .1 k e in
       record {
         related = rw (f .after, o .1) r;
         answers = same-answers M c st (rw (f .answered, o .1) (ap (λ (z : ℕ). (z, 0)) (o .2 ∙ sym e)));
@@ -120,6 +120,6 @@ module _ (P : Trees) (M : Machine) (c : Core) (r : Relates P M c) (laws : TreeLa
 
   pub simulates : (st : Step) → Simulates P M c st
   simulates st = elim (accepted-or-refused M st) [
-    | inl a ↦ accepts st a (refused-alike r tree shape spare st .0 (a .zero-refusal))
+    | inl a ↦ accepts st a (refused-alike r tree shape free-count st .0 (a .zero-refusal))
     | inr f ↦ refuses st f (refusal M st - 1) (omega (arith, f .some-refusal))
   ]

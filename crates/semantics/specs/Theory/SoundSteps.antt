@@ -35,7 +35,7 @@ use Rattle.semantics.specs.Theory.Simulation.{Simulates, simulates, numb
 use Rattle.semantics.specs.Theory.ToSound.{to-sound}
 use Rattle.semantics.specs.Theory.FromSoundRelates.{countedCore, from-sound}
 
-module _ (M : Machine) (c : Core) (r : Relates (LiveTrees (c .head .numbers .nodes) (M .splitters)) M c) (tree : FrameTree M) (shape : DequeInvariant M) (spare : c .head .«free_count» ≡ freeNodes M) where
+module _ (M : Machine) (c : Core) (r : Relates (LiveTrees (c .head .numbers .nodes) (M .splitters)) M c) (tree : FrameTree M) (shape : DequeInvariant M) (free-count : c .head .«free_count» ≡ freeNodes M) where
   -- ---- the words beyond the nodes
 
   -- the trees with the acting frame's in front
@@ -69,7 +69,7 @@ module _ (M : Machine) (c : Core) (r : Relates (LiveTrees (c .head .numbers .nod
       subst (λ (z : ℕ). Beyond (c .head .numbers .nodes) (c .pool) (writePath (c .head .height) (c .pool) (c .head .numbers .«free_node») (c .head .«free_count») z y v .0)) (sym (root-is (write y v) w x))
       (subst (λ (t : ℕ). Beyond (c .head .numbers .nodes) (c .pool) (writePath t (c .pool) (c .head .numbers .«free_node») (c .head .«free_count») (rootOf (c .frames) (r .at) (x .actor)) y v .0)) (sym (r .numbers .height-is))
       (write-beyond (c .head .numbers .nodes) (M .splitters) (r .numbers .nodes-le) (r .numbers .splitters-positive) (c .pool) (c .head .numbers .«free_node») (c .head .«free_count») (rootOf (c .frames) (r .at) (x .actor)) (x .actor .history)
-      (rootsOf (c .frames) (r .at) (x .above ++ rest M w)) y v (few (write y v) w x) (x .allowed .0) (omega (arith, x .allowed .1, spare)) (front-trees (write y v) w x)))
+      (rootsOf (c .frames) (r .at) (x .above ++ rest M w)) y v (few (write y v) w x) (x .allowed .0) (omega (arith, x .allowed .1, free-count)) (front-trees (write y v) w x)))
 
   -- ---- refused or accepted
 
@@ -78,11 +78,11 @@ module _ (M : Machine) (c : Core) (r : Relates (LiveTrees (c .head .numbers .nod
     where
       go : (k : ℕ) → refusal M st ≡ k → 0 < k → stepOn c st .core ≡ c
       go zero e h = absurd (omega arith)
-      go (suc k) e h = ap (λ d. d .core) (refused-alike r tree shape spare st .1 k e .1)
+      go (suc k) e h = ap (λ d. d .core) (refused-alike r tree shape free-count st .1 k e .1)
 
   pub step-beyond : (st : Step) → Beyond (c .head .numbers .nodes) (c .pool) (stepOn c st .core .pool)
   step-beyond st = elim (accepted-or-refused M st) [
-    | inl a ↦ subst (λ d. Beyond (c .head .numbers .nodes) (c .pool) (d .core .pool)) (sym (refused-alike r tree shape spare st .0 (a .zero-refusal))) (done-beyond st (a .passes))
+    | inl a ↦ subst (λ d. Beyond (c .head .numbers .nodes) (c .pool) (d .core .pool)) (sym (refused-alike r tree shape free-count st .0 (a .zero-refusal))) (done-beyond st (a .passes))
     | inr a ↦ subst (λ (d : Core). Beyond (c .head .numbers .nodes) (c .pool) (d .pool)) (sym (unchanged st (a .some-refusal))) (refl, refl)
   ]
 

@@ -93,8 +93,8 @@ module _ (workers : ℕ) (vs ws : List ℕ) (F : Fit workers vs ws) where
     waiting = λ f m. absurd (not-in-nil m);
     once = λ p b. subst (λ L. count p (range 63 1) + count p (placesOf (λ _. 0) L) ≡ 1) (sym (live-start workers vs N)) (once-at p b);
     vacant = λ p b c. (cond (eqb p 63) none (suc p), init-free (replicate frameWords 0) zeros p (not-first p c) b);
-    trees = subst (λ L. GoodTrees N n words first spare (rootsOf fs (λ _. 0) L)) (sym (live-start workers vs N))
-        (subst (λ (r : ℕ). GoodTrees N n words first spare ((r, []) ∷ [])) (sym root-is) (started .0 .good));
+    trees = subst (λ L. GoodTrees N n words first free-count (rootsOf fs (λ _. 0) L)) (sym (live-start workers vs N))
+        (subst (λ (r : ℕ). GoodTrees N n words first free-count ((r, []) ∷ [])) (sym root-is) (started .0 .good));
     values = λ f m x b. (let e : f ≡ main vs = In-one (subst (λ L. In f L) (live-start workers vs N) m) in
         ap (λ (r : ℕ). readAt (height n) words r x) root-is ∙ started .1 x b ∙ ap (λ g. getD (g .values) x 0) (sym e));
   }
@@ -105,10 +105,10 @@ module _ (workers : ℕ) (vs ws : List ℕ) (F : Fit workers vs ws) where
       first : ℕ
       first = initPool ws n N vs .1
 
-      spare : ℕ
-      spare = N - treeNodes n
+      free-count : ℕ
+      free-count = N - treeNodes n
 
-      started : After N n ws [] ((0, []) ∷ []) words first spare × ((y : ℕ) → y < n → readAt (height n) words 0 y ≡ getD vs y 0)
+      started : After N n ws [] ((0, []) ∷ []) words first free-count × ((y : ℕ) → y < n → readAt (height n) words 0 y ≡ getD vs y 0)
       started = good-start N n (F .nodes-le) (F .values-positive) ws vs (F .enough) room
 
       root-is : frameAt fs 0 .root ≡ 0

@@ -43,7 +43,7 @@ use Rattle.semantics.specs.Theory.SoundSteps.{Carried}
 use Rattle.semantics.specs.Theory.Starts.{Fit, fit-started, started-fit}
 use Rattle.semantics.specs.Theory.StartRelates.{firstCore, start-relates}
 use Rattle.semantics.specs.Theory.Runs.{Laws, KeptBy, Ran, outside-long, call-follows, calls-follow, answers-by}
-use Rattle.semantics.specs.Theory.ValidRecords.{valids, trace-told, machine-plain, returned-plain, valids-valid, answers-plain, all-accepted}
+use Rattle.semantics.specs.Theory.ValidRecords.{valids, trace-same, machine-plain, returned-plain, valids-valid, answers-plain, all-accepted}
 
 -- the core is that of a run from a start which the plain machine M has followed
 pub record Follows (M : Machine) (c : Core) : Type 0 where
@@ -196,7 +196,7 @@ module _ (b : Start) (calls : List HostCall) (parts : State) (ws : List ℕ) (wo
 
   trace-is : traceOf b calls ≡ plainTrace (b .workers) (b .values) N ss
   unfolding ss N
-  trace-is = trace-told (plainStart b) (exchanges (afterStart b) calls) (freeCounts (afterStart b) calls) (R .long) (R .same)
+  trace-is = trace-same (plainStart b) (exchanges (afterStart b) calls) (freeCounts (afterStart b) calls) (R .long) (R .same)
 
   -- the one-worker run
   ones : List Step
@@ -218,7 +218,7 @@ module _ (b : Start) (calls : List HostCall) (parts : State) (ws : List ℕ) (wo
   steps₁-are = ap valids fed ∙ valids-valid ones ∙ ones-are
 
   trace₁-is : traceOf b₁ calls₁ ≡ plainTrace 1 (b .values) N (oneWorkerOf (b .workers) (b .values) N ss)
-  trace₁-is = trace-told (plainStart b₁) (exchanges (afterStart b₁) calls₁) (freeCounts (afterStart b₁) calls₁) (R₁ .long) (R₁ .same) ∙ ap₂ trace start-is steps₁-are
+  trace₁-is = trace-same (plainStart b₁) (exchanges (afterStart b₁) calls₁) (freeCounts (afterStart b₁) calls₁) (R₁ .long) (R₁ .same) ∙ ap₂ trace start-is steps₁-are
 
   answers₁-are : answersIn (exchanges (afterStart b₁) calls₁) ≡ answers (start 1 (b .values) N) (oneWorkerOf (b .workers) (b .values) N ss)
   answers₁-are =

@@ -16,7 +16,7 @@ use Rattle.model.specs.Run.{run, answers, trace, turnEntry, Returned, AllAccept
 use Rattle.model.specs.Theory.RunSteps.{accepted-at, accepted-or-refused}
 use Rattle.semantics.specs.Calls.{saysAccepted, Exchange, traceFrom, recordsIn, answersIn}
 use Rattle.semantics.specs.Demands.{fromStart, answersBy, machineBy, allAccepted}
-use Rattle.semantics.specs.Theory.Words.{refusal-low, turn-told}
+use Rattle.semantics.specs.Theory.Words.{refusal-low, turn-same}
 
 -- the records that are steps
 abbrev pub valids : List Decoded → List Step
@@ -24,19 +24,19 @@ valids [] = []
 valids (Valid st ∷ ds) = st ∷ valids ds
 valids (Invalid ∷ ds) = valids ds
 
-pub trace-told : (M : Machine) (es : List Exchange) (ks : List ℕ) → length ks ≡ length (recordsIn es) → answersIn es ≡ answersBy fromStart M (recordsIn es) ks → traceFrom M es ≡ trace M (valids (recordsIn es))
-trace-told M [] ks l e = refl
-trace-told M (t ∷ es) [] l e = absurd (omega arith)
-trace-told M ((Invalid, a) ∷ es) (k ∷ ks) l e = trace-told M es ks (omega arith) (tail-eq-of-cons-eq e)
-trace-told M ((Valid st, a) ∷ es) (k ∷ ks) l e = elim (accepted-or-refused M st) [
+pub trace-same : (M : Machine) (es : List Exchange) (ks : List ℕ) → length ks ≡ length (recordsIn es) → answersIn es ≡ answersBy fromStart M (recordsIn es) ks → traceFrom M es ≡ trace M (valids (recordsIn es))
+trace-same M [] ks l e = refl
+trace-same M (t ∷ es) [] l e = absurd (omega arith)
+trace-same M ((Invalid, a) ∷ es) (k ∷ ks) l e = trace-same M es ks (omega arith) (tail-eq-of-cons-eq e)
+trace-same M ((Valid st, a) ∷ es) (k ∷ ks) l e = elim (accepted-or-refused M st) [
   | inl A ↦
-      let t = turn-told M (turnOf st) (A .passes) in
+      let t = turn-same M (turnOf st) (A .passes) in
       let w : a ≡ turnAnswer M (turnOf st) = ap headPair e ∙ A .answered in
-      let r = trace-told (step M st) es ks (omega arith) (tail-eq-of-cons-eq e) in
+      let r = trace-same (step M st) es ks (omega arith) (tail-eq-of-cons-eq e) in
       rw (w, t .0, t .1) (ap (λ z. turnEntry M (turnOf st) ++ z) (r ∙ ap (λ z. trace z (valids (recordsIn es))) (A .after)) ∙ sym (A .traced (valids (recordsIn es))))
   | inr A ↦
       let w : a ≡ (refusal M st, 0) = ap headPair e ∙ A .answered in
-      let r = trace-told (step M st) es ks (omega arith) (tail-eq-of-cons-eq e) in
+      let r = trace-same (step M st) es ks (omega arith) (tail-eq-of-cons-eq e) in
       rw (w, lt-leb 100 (refusal M st) (refusal-low M st)) (r ∙ ap (λ z. trace z (valids (recordsIn es))) (A .after) ∙ sym (A .traced (valids (recordsIn es))))
 ]
   where
@@ -75,4 +75,4 @@ pub all-accepted : (M : Machine) (ss : List Step) → AllAccepted M ss → allAc
 all-accepted M [] a = tt
 all-accepted M (s ∷ ss) (accepted-then e a) =
     let A = accepted-at M s (unfold refusal in e) in
-    (ap saysAccepted (A .answered) ∙ turn-told M (turnOf s) (A .passes) .0, all-accepted (step M s) ss a)
+    (ap saysAccepted (A .answered) ∙ turn-same M (turnOf s) (A .passes) .0, all-accepted (step M s) ss a)

@@ -131,9 +131,9 @@ refusal-low M st = first-low (turnTests M (turnOf st)) (tests-low M (turnOf st))
 
 -- ---- an accepted turn's answer says so, and what its frame did and read is told by it
 
-pub turn-told : (M : Machine) (t : Turn) → Passes M t → (saysAccepted (turnAnswer M t) ≡ true) × (turnEntry M t (turnAnswer M t) ≡ plainEntry M t)
-turn-told M (stealing w v) h = (refl, refl)
-turn-told M (acting w a) h = let x = acts M w a h in rw (x .at) (own (x .actor) (x .above) a)
+pub turn-same : (M : Machine) (t : Turn) → Passes M t → (saysAccepted (turnAnswer M t) ≡ true) × (turnEntry M t (turnAnswer M t) ≡ plainEntry M t)
+turn-same M (stealing w v) h = (refl, refl)
+turn-same M (acting w a) h = let x = acts M w a h in rw (x .at) (own (x .actor) (x .above) a)
   where
     own : (q : Frame) (d : List Frame) (a : Action) → (saysAccepted (actionAnswer M w (q ∷ d) a) ≡ true) × (bottomEntry (q ∷ d) a (actionAnswer M w (q ∷ d) a) ≡ plainBottom (q ∷ d) a)
     own q d spawn = (refl, refl)
