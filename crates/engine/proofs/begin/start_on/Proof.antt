@@ -11,6 +11,9 @@ use Rattle.engine.proofs.begin.start_on.Tie as tie
 abbrev start-of : tie.After-start-verdict → tie.Start
 start-of v = v .before .before .before .before .before .before
 
+abbrev told-of : tie.After-init-frames → tie.After-enum-told
+told-of f = f .before .before .before .before .before .before .before .before .before .before
+
 -- what the tests say of the two lengths
 bounds : (t : tie.After-enum-told) → (length (t .before .before .before .before .before .before .before .before .args .values .now) ≤ 256) × (length (t .before .before .before .before .before .before .before .before .args .pool .now) / 4 ≤ 16384)
 bounds t =
@@ -47,9 +50,13 @@ same-length-3 c = search needs
 
 returns : tie.Need-returns
 returns c =
-    let v = c .before .before .before .before .before .before .before .before .before .before .before .before .before .before .before .before in
+    let third = c .before .before .before in
+    let second = third .before .before .before .before in
+    let first = second .before .before .before .before in
+    let g = first .before .before .before in
+    let v = g .before .before in
     let s = start-of v in
-    start-refused (s .args .workers) _ _ _ (v .start-verdict .ensures) _ _ _ _ _ _ (c .before .before .before .before .before .before .before .before .before .before .before .before .before .before .verdict .given .1) (s .pre) (c .refusal-number .ensures) (c .before .before .before .before .before .before .before .before .before .before .before .clear-all .ensures) (c .before .before .before .before .before .before .before .clear-all2 .ensures) (c .before .before .before .clear-all3 .ensures)
+    start-refused (s .args .workers) _ _ _ (v .start-verdict .ensures) _ _ _ _ _ _ (g .verdict .given .1) (s .pre) (c .refusal-number .ensures) (first .clear-all .ensures) (second .clear-all2 .ensures) (third .clear-all3 .ensures)
 
 enum-told : tie.Need-enum-told
 enum-told c = search needs
@@ -75,12 +82,12 @@ init-frames-requires c κs = search needs
 
 cast-t22 : tie.Need-cast-t22
 cast-t22 c =
-    let q = bounds (c .before .before .before .before .before .before .before .before .before .before .before .before .before) in
+    let q = bounds (told-of (c .before .before .before)) in
     omega arith
 
 cast-t23 : tie.Need-cast-t23
 cast-t23 c =
-    let q = bounds (c .before .before .before .before .before .before .before .before .before .before .before .before .before) in
+    let q = bounds (told-of (c .before .before .before)) in
     omega arith
 
 put-numbers-requires : tie.Need-put-numbers-requires
@@ -100,10 +107,12 @@ same-length-7 c = search needs
 
 returns-2 : tie.Need-returns-2
 returns-2 c =
-    let t = c .before .before .before .before .before .before .before .before .before .before .before .before .before .before .before .before in
+    let f = c .before .before .before .before .before .before in
+    let d = f .before .before .before .before in
+    let t = told-of f in
     let v = t .before .before in
     let s = start-of v in
-    started (s .args .workers) _ _ _ (v .start-verdict .ensures) _ _ _ _ _ (t .enum-told .given .1) (c .before .before .before .before .before .before .before .before .before .before .before .before .before .before .init-pool .ensures) (c .before .before .put-numbers .ensures) (c .before .before .before .before .before .before .before .before .before .before .init-deques .ensures) (c .before .before .before .before .before .before .init-frames .ensures)
+    started (s .args .workers) _ _ _ (v .start-verdict .ensures) _ _ _ _ _ (t .enum-told .given .1) (d .before .before .before .before .init-pool .ensures) (c .before .before .put-numbers .ensures) (d .init-deques .ensures) (f .init-frames .ensures)
 
 pub start-on-spec : {M : Type 1} → statement M
 start-on-spec =
