@@ -1,3 +1,4 @@
+-- The three tests in order: the ways out are in `proofs.Starts`.
 use borrow.Author.Needs.{needs}
 use Prim.Native.Nat.{_≤_}
 use Rattle.engine.proofs.Starts.{few, start-values, start-workers, start-nodes, start-passes}

@@ -1,3 +1,4 @@
+-- Refused by 5, by the tables, by the pool, or sound: the ways out are in `proofs.Checks`.
 use borrow.Author.Needs.{needs}
 use borrow.Author.Tests.{not-true, not-false}
 use Rattle.engine.proofs.Checks.{no-room, tables-unsound, pool-unsound, all-sound}

@@ -1,3 +1,4 @@
+-- The tests of the numbers are the sentence's.
 use borrow.Author.Needs.{needs}
 use Rattle.soundness.specs.Soundness.{numbersSound}
 use Rattle.engine.proofs.checking.check_numbers.Statement.{statement}

@@ -1,3 +1,4 @@
+-- Numbers first, then frames and deques.
 use borrow.Author.Needs.{needs}
 use borrow.Author.Tests.{not-true, not-false}
 use Rattle.engine.proofs.Checks.{tables-no, tables-yes}

@@ -1,3 +1,4 @@
+-- No step, or the step: the ways out are in `proofs.Steps`.
 use borrow.Author.Needs.{needs}
 use Rattle.engine.proofs.Steps.{record-refused, record-steps}
 use Rattle.engine.proofs.records.step_record.Statement.{statement}

@@ -1,3 +1,4 @@
+-- No such worker, or fewer than two frames.
 use borrow.Author.Needs.{needs}
 use borrow.Author.Tests.{lt-ltb, le-ltb}
 use Rattle.engine.proofs.refusals.no_victim.Statement.{statement}

@@ -1,3 +1,4 @@
+-- The tests in order: the ways out are in `proofs.Laws`.
 use borrow.Author.Needs.{needs}
 use borrow.Author.Tests.{not-true, not-false}
 use mathlib.Core.Path.{sym, _∙_}

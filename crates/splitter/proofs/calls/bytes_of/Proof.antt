@@ -1,3 +1,4 @@
+-- Eight bytes, as the definition has them.
 use mathlib.Core.List.{[], _∷_}
 use borrow.Author.Needs.{needs}
 use Rattle.splitter.proofs.calls.bytes_of.Statement.{statement}

@@ -1,3 +1,4 @@
+-- A mask is a remainder.
 use lib.Bits.{and-mask, mask-lt}
 use Rattle.splitter.proofs.calls.low_byte.Statement.{statement}
 use Rattle.splitter.proofs.calls.low_byte.Tie as tie

@@ -1,3 +1,4 @@
+-- The bytes decode to the cut fields: `record-made` in the specs' Theory.OneRecord.
 use borrow.Author.Needs.{needs}
 use Rattle.splitter.specs.Theory.OneRecord.{record-made}
 use Rattle.splitter.proofs.calls.record_of.Statement.{statement}
