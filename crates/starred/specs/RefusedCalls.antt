@@ -38,7 +38,7 @@ starts workers n nodes k = lends anyParts workers n (4 * nodes) k
 
 -- "a refused start hands out a state of zeros" and changes nothing else; refused by 99 it leaves the parts too
 abbrev leftBy : Start → StartResult → Bool
-leftBy b o = same (wordsOf (o .state)) (cond (eqb (o .result) 99) (wordsOf (b .parts)) (wordsOf zeros)) && same (o .pool) (b .pool)
+leftBy b o = same (wordsOf (o .state)) (cond (eqb (o .result) 99) (wordsOf (b .parts)) (replicate 909 0)) && same (o .pool) (b .pool)
 
 -- the result; and whether it left what it must, if it was refused
 abbrev startSeen : Start → ℕ × Bool
