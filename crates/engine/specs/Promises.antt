@@ -1,4 +1,4 @@
--- What the promises of the engine's inner functions are said in, beside the definitions of the crate semantics.
+-- What the promises of the engine's inner functions are said in, beside the definitions of the crate semantics. Definitions only.
 use mathlib.Core.Path.{_≡_}
 use mathlib.Core.Bool.{Bool, cond, _||_}
 use mathlib.Core.List.{List, [], _∷_}

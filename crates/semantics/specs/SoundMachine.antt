@@ -4,8 +4,8 @@ use mathlib.Core.Bool.{cond, _&&_}
 use mathlib.Core.List.{List, [], _∷_, _++_, map}
 use Prim.Native.Nat.{ℕ, zero, suc, _+_, _-_}
 use lib.Dec.{eqb}
-use Rattle.words.specs.Basics.{joined}
-use Rattle.words.specs.Counting.{range}
+use Rattle.words.specs.Basics.{joined, range}
+
 use Rattle.sizes.specs.Sizes.{height}
 use Rattle.pool.specs.Pool.{readAt}
 use Rattle.frames.specs.Widths.{places}
