@@ -5,7 +5,6 @@ use mathlib.Core.List.{List, [], _∷_, _++_, map}
 use Prim.Native.Nat.{ℕ, zero, suc, _+_, _-_}
 use lib.Dec.{eqb}
 use Rattle.words.specs.Basics.{joined, range}
-
 use Rattle.sizes.specs.Sizes.{height}
 use Rattle.pool.specs.Pool.{readAt}
 use Rattle.frames.specs.Widths.{places}
