@@ -1,24 +1,26 @@
 -- A turn and the end of the loops.
-use mathlib.Core.Path.{_≡_, sym, ap, _∙_}
+use mathlib.Core.Path.{_≡_, refl, sym, ap, _∙_}
 use mathlib.Core.Logic.{_≢_}
-use mathlib.Core.Bool.{Bool, true, false, cond, _&&_, and-true, and-assoc}
-use mathlib.Core.List.{List, [], _∷_}
-use Prim.Native.Nat.{ℕ, suc, _+_, _-_, _≤_, _<_}
-use native.Mathlib.Numerals.{add-one}
+use mathlib.Core.Bool.{Bool, true, false, cond, _&&_, and-false}
+use mathlib.Core.List.{List}
+use Prim.Native.Nat.{ℕ, zero, suc, _+_, _-_, _≤_, _<_}
+use native.Mathlib.Numerals.{add-one, sub-one}
 use native.Mathlib.Omega.{arith}
 use lib.Dec.{eqb, leb, ltb}
-use borrow.Author.Tests.{leb-true, ltb-true, lt-ltb, eqb-true, eq-eqb, ne-eqb}
-use Rattle.words.specs.Basics.{none, all, howMany, follow, below}
+use lib.ListN.{length, getD}
+use lib.Seq.{set-out}
+use borrow.Author.Tests.{leb-true, ltb-true, lt-ltb, le-ltb, eqb-true, eq-eqb, ne-eqb}
+use Rattle.words.specs.Basics.{none, all, howMany}
 use Rattle.words.specs.Counting.{all-at}
-use Rattle.words.specs.Tallies.{same-tests, follow-step}
+use Rattle.words.specs.Tallies.{same-tests}
 use Rattle.words.specs.Tests.{both}
 use Rattle.frames.specs.Widths.{maxWorkers, places, dequePlaces}
 use Rattle.frames.specs.declared.Frame.{Frame}
 use Rattle.frames.specs.Frames.{frameAt}
 use Rattle.frames.specs.Deques.{size, place}
 use Rattle.soundness.specs.Soundness.{framesSound}
-use Rattle.frame_check.specs.Algorithm.{chainStep, bump, tally, tallyList, tallyChildren, tallyDeque, tallyDeques, chain, tallyChain, dequeFits, dequeSound}
-use Rattle.frame_check.specs.Algorithm.{mains, liveSound, freeSound, placeSound, placeTallied, placeChecked, zeros, checkFrames}
+use Rattle.frame_check.specs.Algorithm.{childStep, childCount, dequeCount, bump, tally, childIn, tallyChildren, tallyDeque, tallyDeques, dequeFits, dequeSound, isFlat, mainAt, mains, liveAt, lives}
+use Rattle.frame_check.specs.Algorithm.{liveSound, freeSound, placeTallied, placeChecked, next, chainFrom, zeros, checkFrames}
 use Rattle.frame_check.specs.Theory.Theorem.{check-frames}
 
 -- a loop that counts up to n ends at n
@@ -39,26 +41,62 @@ pub tallyDeques-turn : (w : ℕ) (ds ts : List ℕ) {us : List ℕ} → us ≡ t
 unfolding tallyDeques
 tallyDeques-turn w ds ts e = rw (add-one, e)
 
--- ---- along the chain: what is left of it from p on, in tallies ts that are sound so far, gives the tallies X and the answer b
-abbrev pub Walk : (ℕ → ℕ) → List ℕ → Bool → ℕ → ℕ → List ℕ → Bool → Type 0
-Walk next X b left p ts s = (tallyList chainStep (follow left next p) ts ≡ X) × (s && below places (follow left next p) ≡ b)
+-- ---- the pass over the places: what it has counted below p
+pub record Passed (fs ts : List ℕ) (p : ℕ) (us : List ℕ) (main live : ℕ) : Type 0 where
+  pub tallied : us ≡ tally childStep p (childIn fs) ts
+  pub main-is : main ≡ howMany p (mainAt fs)
+  pub live-is : live ≡ howMany p (liveAt fs)
 
-pub walk-turn : (next : ℕ → ℕ) (X : List ℕ) (b : Bool) (left p : ℕ) (ts : List ℕ) (s : Bool) → 0 < left → p ≢ none
-    → Walk next X b left p ts s → Walk next X b (left - 1) (next p) (bump chainStep ts p) (s && ltb p places)
-unfolding tallyList
-walk-turn next X b left p ts s h n w =
-    let e : left ≡ suc (left - 1) = omega arith in
-    let d : follow left next p ≡ p ∷ follow (left - 1) next (next p) = ap (λ (l : ℕ). follow l next p) e ∙ follow-step (left - 1) next p n in
-    ((rw d at (w .0)), and-assoc s (ltb p places) (below places (follow (left - 1) next (next p))) ∙ (rw d at (w .1)))
+module _ (fs ts : List ℕ) (p : ℕ) (us : List ℕ) (main live : ℕ) (f : Frame) (d : f ≡ frameAt fs p) (P : Passed fs ts p us main live) where
+  pub pass-dead : f .live ≢ 1 → length us ≡ places → Passed fs ts (p + 1) us main live
+  unfolding bump
+  pass-dead h l =
+      let e : eqb (frameAt fs p .live) 1 ≡ false = rw (← d) (ne-eqb (f .live) 1 h) in
+      let o : length us ≤ none = omega arith in
+      record {
+        tallied = sym (set-out us none _ o) ∙ tally-turn childStep p (childIn fs) ts (P .tallied) (rw e);
+        main-is = omega (arith, howMany-turn p (mainAt fs) {t = 0} (P .main-is) (rw e));
+        live-is = omega (arith, howMany-turn p (liveAt fs) {t = 0} (P .live-is) (rw e));
+      }
 
-pub walk-end : (next : ℕ → ℕ) (X : List ℕ) (b : Bool) (left p : ℕ) (ts : List ℕ) (s : Bool) → follow left next p ≡ []
-    → Walk next X b left p ts s → (ts ≡ X) × (s ≡ b)
-unfolding tallyList
-walk-end next X b left p ts s e w = ((rw e at (w .0)), sym (and-true s) ∙ (rw e at (w .1)))
+  pub pass-live : f .live ≡ 1 → {n : ℕ} → n ≡ cond (isFlat f) 1 0 → Passed fs ts (p + 1) (bump childStep us (f .parent)) (main + n) (live + 1)
+  pass-live h {n} k =
+      let e : eqb (frameAt fs p .live) 1 ≡ true = rw (← d) (eq-eqb (f .live) 1 h) in
+      record {
+        tallied = tally-turn childStep p (childIn fs) ts (P .tallied) (rw (e, d));
+        main-is = howMany-turn p (mainAt fs) (P .main-is) (rw (e, ← d) k);
+        live-is = howMany-turn p (liveAt fs) (P .live-is) (rw e);
+      }
 
--- the chain is left where nothing is left to go, and at none
-pub follow-over : (next : ℕ → ℕ) (left p : ℕ) → left ≤ 0 → follow left next p ≡ []
-follow-over next left p h = let e : left ≡ 0 = omega arith in ap (λ (l : ℕ). follow l next p) e
+pub pass-end : (fs ts : List ℕ) {p : ℕ} {us : List ℕ} {main live : ℕ} → Passed fs ts p us main live → p ≤ places → places ≤ p
+    → (us ≡ tallyChildren fs ts) × (main ≡ mains fs) × (live ≡ lives fs)
+pass-end fs ts P a b = (
+  at-end (λ k. tally childStep k (childIn fs) ts) a b (P .tallied),
+  at-end (λ k. howMany k (mainAt fs)) a b (P .main-is),
+  at-end (λ k. howMany k (liveAt fs)) a b (P .live-is),
+)
+
+-- ---- along the chain
+module _ (fs : List ℕ) where
+  pub chain-off : (c p : ℕ) → 0 < c → places ≤ p → chainFrom fs c p ≡ false
+  unfolding chainFrom
+  chain-off zero p b h = absurd (omega arith)
+  chain-off (suc c) p b h = rw (le-ltb p places h)
+
+  pub chain-full : (c p : ℕ) → 0 < c → freeSound (frameAt fs p) ≡ false → chainFrom fs c p ≡ false
+  unfolding chainFrom
+  chain-full zero p b h = absurd (omega arith)
+  chain-full (suc c) p b h = rw h (and-false (ltb p places))
+
+  pub chain-next : (c p : ℕ) → 0 < c → p < places → freeSound (frameAt fs p) ≡ true → chainFrom fs (c - 1) (next fs p) ≡ chainFrom fs c p
+  unfolding chainFrom
+  chain-next zero p b i h = absurd (omega arith)
+  chain-next (suc c) p b i h = rw (sub-one, lt-ltb p places i, h)
+
+  pub chain-end : (c p : ℕ) → c ≤ 0 → eqb p none ≡ chainFrom fs c p
+  unfolding chainFrom
+  chain-end zero p b = refl
+  chain-end (suc c) p b = absurd (omega arith)
 
 -- ---- tests, as the code and as the definitions write them
 
@@ -70,11 +108,12 @@ shallow-test a c d = same-tests _ _ (λ e. eq-eqb a (suc c) (omega (arith, eqb-t
 
 -- ---- a place, by the record that stands there
 
-pub place-live : (fs : List ℕ) (p c n e : ℕ) (f : Frame) → f ≡ frameAt fs p → f .live ≡ 1 → liveSound f (frameAt fs (f .parent)) c n e ≡ placeSound fs p c n e
-place-live fs p c n e f d h = rw (← d, eq-eqb (f .live) 1 h)
+pub place-live : (fs ts : List ℕ) (p : ℕ) (f : Frame) → f ≡ frameAt fs p → f .live ≡ 1 → {t : ℕ} → t ≡ getD ts p 0
+    → liveSound f (frameAt fs (f .parent)) (childCount t) (dequeCount t) ≡ placeTallied fs ts p
+place-live fs ts p f d h e = rw (← d, eq-eqb (f .live) 1 h, e)
 
-pub place-free : (fs : List ℕ) (p c n e : ℕ) (f : Frame) → f ≡ frameAt fs p → f .live ≢ 1 → freeSound f e ≡ placeSound fs p c n e
-place-free fs p c n e f d h = rw (← d, ne-eqb (f .live) 1 h)
+pub place-free : (fs ts : List ℕ) (p : ℕ) (f : Frame) → f ≡ frameAt fs p → f .live ≢ 1 → true ≡ placeTallied fs ts p
+place-free fs ts p f d h = rw (← d, ne-eqb (f .live) 1 h)
 
 -- ---- the whole check
 
@@ -86,15 +125,15 @@ module _ (workers first : ℕ) (ds fs : List ℕ) where
       whole : false ≡ checkFrames workers first ds fs
       whole = rw e
 
-  pub fit : all maxWorkers (dequeFits workers ds) ≡ true → {placed chained sound : Bool} {n : ℕ} {us vs ts : List ℕ}
-      → placed ≡ all maxWorkers (dequeSound ds fs) → chained ≡ below places (chain fs first) → n ≡ mains fs → us ≡ tallyChildren fs zeros → vs ≡ tallyDeques maxWorkers ds us
-      → ts ≡ tallyChain fs first vs → sound ≡ all places (placeTallied fs ts)
-      → (placed && chained) && (leb n 1 && sound) ≡ framesSound workers first ds fs
+  pub fit : all maxWorkers (dequeFits workers ds) ≡ true → {placed chained sound : Bool} {m l c : ℕ} {us vs : List ℕ}
+      → placed ≡ all maxWorkers (dequeSound ds fs) → chained ≡ chainFrom fs c first → c ≡ places - l → l ≡ lives fs → m ≡ mains fs → us ≡ tallyChildren fs zeros
+      → vs ≡ tallyDeques maxWorkers ds us → sound ≡ all places (placeTallied fs vs)
+      → (placed && chained) && (leb m 1 && sound) ≡ framesSound workers first ds fs
   unfolding checkFrames
-  fit e a b c d f g h = rw (h, a, b, c, g, f, d) (sym (ap (λ (t : Bool). t && rest) e) ∙ check-frames workers first ds fs)
+  fit e a b c d m f g h = rw (h, a, b, c, d, m, g, f) (sym (ap (λ (t : Bool). t && rest) e) ∙ check-frames workers first ds fs)
     where
       rest : Bool
-      rest = (all maxWorkers (dequeSound ds fs) && below places (chain fs first)) && (leb (mains fs) 1 && all places (placeChecked first ds fs))
+      rest = (all maxWorkers (dequeSound ds fs) && chainFrom fs (places - lives fs) first) && (leb (mains fs) 1 && all places (placeChecked ds fs))
 
 -- deques that fit are as long as they may be
 pub fit-sizes : (workers : ℕ) (ds : List ℕ) → all maxWorkers (dequeFits workers ds) ≡ true → (w : ℕ) → w < maxWorkers → size ds w ≤ dequePlaces

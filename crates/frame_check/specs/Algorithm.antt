@@ -1,12 +1,12 @@
 -- The check of frames and deques over lists of words: what the functions of src/ compute. Definitions only; that it is document
 -- 01's soundness is the theorem of Theorem. It is linear in the places: how often a place stands somewhere is counted in an
--- array of tallies, one word for each place, instead of searched for. The word holds three counts, each below 1,024.
+-- array of tallies, one word for each place, instead of searched for. The word holds two counts, each below 1,024.
 use mathlib.Core.Bool.{Bool, cond, _||_, _&&_}
-use mathlib.Core.List.{List, [], _∷_}
+use mathlib.Core.List.{List}
 use Prim.Native.Nat.{ℕ, zero, suc, _-_, _/_, _%_}
 use lib.ListN.{getD, set, replicate}
 use lib.Dec.{eqb, leb, ltb}
-use Rattle.words.specs.Basics.{none, plus, all, howMany, below, follow}
+use Rattle.words.specs.Basics.{none, plus, all, howMany, implies}
 use Rattle.frames.specs.Widths.{maxWorkers, places, dequePlaces}
 use Rattle.frames.specs.declared.Frame.{Frame}
 use Rattle.frames.specs.Frames.{frameAt}
@@ -14,25 +14,19 @@ use Rattle.frames.specs.Deques.{size, place}
 
 -- ---- tallies
 
--- the steps in which a place's word counts its children, its places in deques and its places on the free chain
+-- the steps in which a place's word counts its children and its places in deques
 abbrev pub childStep : ℕ
 childStep = 1
 
 abbrev pub dequeStep : ℕ
 dequeStep = 1024
 
-abbrev pub chainStep : ℕ
-chainStep = 1048576
-
 -- the word taken apart
 abbrev pub childCount : ℕ → ℕ
 childCount t = t % dequeStep
 
 abbrev pub dequeCount : ℕ → ℕ
-dequeCount t = (t % chainStep) / dequeStep
-
-abbrev pub chainCount : ℕ → ℕ
-chainCount t = t / chainStep
+dequeCount t = t / dequeStep
 
 -- one step more at p; past the end, nothing
 unfoldable pub bump : ℕ → List ℕ → ℕ → List ℕ
@@ -42,11 +36,6 @@ bump step ts p = set ts p (plus (getD ts p 0) step)
 unfoldable pub tally : ℕ → ℕ → (ℕ → ℕ) → List ℕ → List ℕ
 tally step zero f ts = ts
 tally step (suc n) f ts = bump step (tally step n f ts) (f n)
-
--- one step more at each element
-unfoldable pub tallyList : ℕ → List ℕ → List ℕ → List ℕ
-tallyList step [] ts = ts
-tallyList step (x ∷ xs) ts = tallyList step xs (bump step ts x)
 
 -- where a frame is counted as a child: at its parent if it lives, else nowhere
 abbrev pub childAt : Frame → ℕ
@@ -67,17 +56,6 @@ tallyDeque ds w = tally dequeStep (size ds w) (place ds w)
 unfoldable pub tallyDeques : ℕ → List ℕ → List ℕ → List ℕ
 tallyDeques zero ds ts = ts
 tallyDeques (suc w) ds ts = tallyDeque ds w (tallyDeques w ds ts)
-
-abbrev pub next : List ℕ → ℕ → ℕ
-next fs p = frameAt fs p .parent
-
--- the chain of free places; one step more than places passes its end
-unfoldable pub chain : List ℕ → ℕ → List ℕ
-chain fs first = follow (suc places) (next fs) first
-
--- at each place how often it stands on the free chain
-abbrev pub tallyChain : List ℕ → ℕ → List ℕ → List ℕ
-tallyChain fs first = tallyList chainStep (chain fs first)
 
 -- ---- deques
 
@@ -105,14 +83,20 @@ dequeSound ds fs w = all (size ds w) (onDeque ds fs w)
 
 -- ---- places
 
-abbrev pub isMain : Frame → Bool
-isMain f = eqb (f .live) 1 && eqb (f .depth) 0
+abbrev pub isFlat : Frame → Bool
+isFlat f = eqb (f .depth) 0
 
 abbrev pub mainAt : List ℕ → ℕ → Bool
-mainAt fs p = isMain (frameAt fs p)
+mainAt fs p = eqb (frameAt fs p .live) 1 && isFlat (frameAt fs p)
 
 abbrev pub mains : List ℕ → ℕ
 mains fs = howMany places (mainAt fs)
+
+abbrev pub liveAt : List ℕ → ℕ → Bool
+liveAt fs p = eqb (frameAt fs p .live) 1
+
+abbrev pub lives : List ℕ → ℕ
+lives fs = howMany places (liveAt fs)
 
 -- of a live frame and the record that its parent's word names: Main has none, any other frame a live one, one shallower
 abbrev pub parentSound : Frame → Frame → Bool
@@ -123,26 +107,34 @@ parentSound f g =
 abbrev pub placedSound : Frame → ℕ → ℕ → Bool
 placedSound f c n = (eqb n 1 && eqb (f .suspended) 0) || (eqb n 0 && (eqb (f .suspended) 1 && ltb 0 c))
 
--- the same, on e places of the free chain
-abbrev pub liveSound : Frame → Frame → ℕ → ℕ → ℕ → Bool
-liveSound f g c n e = (eqb e 0 && eqb (f .outstanding) c) && (parentSound f g && placedSound f c n)
+-- the same, and its parent g
+abbrev pub liveSound : Frame → Frame → ℕ → ℕ → Bool
+liveSound f g c n = eqb (f .outstanding) c && (parentSound f g && placedSound f c n)
 
--- of a free place, on e places of the free chain
-abbrev pub freeSound : Frame → ℕ → Bool
-freeSound f e =
-    eqb e 1 && (eqb (f .live) 0 && (eqb (f .depth) 0 && (eqb (f .outstanding) 0 && (eqb (f .suspended) 0 && eqb (f .root) 0))))
-
-abbrev pub placeSound : List ℕ → ℕ → ℕ → ℕ → ℕ → Bool
-placeSound fs p c n e =
-    cond (eqb (frameAt fs p .live) 1) (liveSound (frameAt fs p) (frameAt fs (frameAt fs p .parent)) c n e) (freeSound (frameAt fs p) e)
+abbrev pub placeSound : List ℕ → ℕ → ℕ → ℕ → Bool
+placeSound fs p c n = implies (liveAt fs p) (liveSound (frameAt fs p) (frameAt fs (frameAt fs p .parent)) c n)
 
 -- of a place and its word t of the tallies
 abbrev pub wordSound : List ℕ → ℕ → ℕ → Bool
-wordSound fs p t = placeSound fs p (childCount t) (dequeCount t) (chainCount t)
+wordSound fs p t = placeSound fs p (childCount t) (dequeCount t)
 
--- every place, with its tallies of children, of places of deques and of places of the chain
+-- every place, with its tallies of children and of places of deques
 abbrev pub placeTallied : List ℕ → List ℕ → ℕ → Bool
 placeTallied fs ts p = wordSound fs p (getD ts p 0)
+
+-- ---- the free chain
+
+abbrev pub next : List ℕ → ℕ → ℕ
+next fs p = frameAt fs p .parent
+
+-- zero but for the link
+abbrev pub freeSound : Frame → Bool
+freeSound f = eqb (f .live) 0 && (eqb (f .depth) 0 && (eqb (f .outstanding) 0 && (eqb (f .suspended) 0 && eqb (f .root) 0)))
+
+-- the chain from place p on has just c places, all of them free
+unfoldable pub chainFrom : List ℕ → ℕ → ℕ → Bool
+chainFrom fs zero p = eqb p none
+chainFrom fs (suc c) p = ltb p places && (freeSound (frameAt fs p) && chainFrom fs c (next fs p))
 
 -- ---- the whole
 
@@ -150,16 +142,17 @@ abbrev pub zeros : List ℕ
 zeros = replicate places 0
 
 -- the tallies of the whole check
-abbrev pub tallies : ℕ → List ℕ → List ℕ → List ℕ
-tallies first ds fs = tallyChain fs first (tallyDeques maxWorkers ds (tallyChildren fs zeros))
+abbrev pub tallies : List ℕ → List ℕ → List ℕ
+tallies ds fs = tallyDeques maxWorkers ds (tallyChildren fs zeros)
 
 -- a place, with these tallies
-abbrev pub placeChecked : ℕ → List ℕ → List ℕ → ℕ → Bool
-placeChecked first ds fs = placeTallied fs (tallies first ds fs)
+abbrev pub placeChecked : List ℕ → List ℕ → ℕ → Bool
+placeChecked ds fs = placeTallied fs (tallies ds fs)
 
--- where a frame lives its ancestors lead to a Main, so one at most is enough
+-- where a frame lives its ancestors lead to a Main, so one at most is enough; a chain that ends has no place twice, so with as
+-- many places as no frame lives in it has each of them
 unfoldable pub checkFrames : ℕ → ℕ → List ℕ → List ℕ → Bool
 checkFrames workers first ds fs =
     all maxWorkers (dequeFits workers ds) &&
-    ((all maxWorkers (dequeSound ds fs) && below places (chain fs first)) &&
-    (leb (mains fs) 1 && all places (placeChecked first ds fs)))
+    ((all maxWorkers (dequeSound ds fs) && chainFrom fs (places - lives fs) first) &&
+    (leb (mains fs) 1 && all places (placeChecked ds fs)))

@@ -1,5 +1,7 @@
 -- what the tallies count
 pub mod Tallied
+-- the free chain
+pub mod FreeChain
 -- the check, taken apart
 pub mod Passes
 -- what it finds makes the sentences true

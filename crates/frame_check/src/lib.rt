@@ -9,6 +9,12 @@ ghost use lib.ListN.{length};
 ghost use Rattle.frames.specs.Widths.{frameWords, dequeWords};
 ghost use Rattle.soundness.specs.Soundness.{framesSound};
 
+// How many frames live, and how many of them have depth 0.
+pub struct Census {
+    pub mains: u32,
+    pub live: u32,
+}
+
 // first is the first free place.
 pub fn check_frames(workers: u32, first: u32, deques: &[u32], frames: &[u32]) -> bool
     requires { ⌜ (length (now deques) ≡ dequeWords) × (length (now frames) ≡ frameWords) ⌝ }
@@ -18,9 +24,8 @@ pub fn check_frames(workers: u32, first: u32, deques: &[u32], frames: &[u32]) ->
         return false;
     }
     let mut tallies = [0u32; PLACES as usize];
-    tallies::tally_children(&mut tallies, frames);
+    let census = tallies::tally_children(&mut tallies, frames);
     let placed = deques::tally_deques(&mut tallies, deques, frames);
-    let chained = tallies::tally_chain(&mut tallies, frames, first);
-    let mains = places::count_mains(frames);
-    (placed & chained) & ((mains <= 1) & places::places_sound(frames, &tallies))
+    let chained = places::follow_free(frames, words::sub(PLACES, census.live), first);
+    (placed & chained) & ((census.mains <= 1) & places::places_sound(frames, &tallies))
 }

@@ -7,14 +7,11 @@ use Rattle.frame_check.proofs.check_frames.Statement.{statement}
 use Rattle.frame_check.proofs.check_frames.Tie as tie
 
 -- the places passed, from the last back
-abbrev mains-of : tie.After-places-sound → tie.After-count-mains
-mains-of c = c .before .before
+abbrev chain-of : tie.After-places-sound → tie.After-follow-free
+chain-of c = c .before .before .before
 
-abbrev chain-of : tie.After-count-mains → tie.After-tally-chain
-chain-of c = c .before .before
-
-abbrev deques-of : tie.After-tally-chain → tie.After-tally-deques
-deques-of c = c .before .before .before
+abbrev deques-of : tie.After-sub → tie.After-tally-deques
+deques-of c = c .before .before
 
 abbrev children-of : tie.After-tally-deques → tie.After-tally-children
 children-of c = c .before .before .before
@@ -52,14 +49,11 @@ tally-deques-requires c κs =
     let s = start-of (fits-of t) in
     (s .pre .0, s .pre .1, fit-sizes (s .args .workers) (s .args .deques .now) (sym (fits-of t .deques-fit .ensures) ∙ not-false _ (t .if1 .left)))
 
-slice-aggregate-tally-chain : tie.Need-slice-aggregate-tally-chain
-slice-aggregate-tally-chain c = search needs
+sub-requires : tie.Need-sub-requires
+sub-requires c κs = search needs
 
-tally-chain-requires : tie.Need-tally-chain-requires
-tally-chain-requires c κs = search needs
-
-count-mains-requires : tie.Need-count-mains-requires
-count-mains-requires c κs = search needs
+follow-free-requires : tie.Need-follow-free-requires
+follow-free-requires c κs = search needs
 
 slice-aggregate-places-sound : tie.Need-slice-aggregate-places-sound
 slice-aggregate-places-sound c = search needs
@@ -69,20 +63,21 @@ places-sound-requires c κs = search needs
 
 returns-2 : tie.Need-returns-2
 returns-2 c =
-    let m = mains-of c in
-    let h = chain-of m in
-    let d = deques-of h in
+    let h = chain-of c in
+    let m = h .before in
+    let d = deques-of m in
     let k = children-of d in
     let t = else-of k in
     let a = start-of (fits-of t) .args in
     fit (a .workers) (a .first) (a .deques .now) (a .frames .now)
     (sym (fits-of t .deques-fit .ensures) ∙ not-false _ (t .if1 .left))
     (d .tally-deques .ensures .1)
-    (h .tally-chain .ensures .1)
-    (m .count-mains .ensures)
-    (k .tally-children .ensures)
+    (h .follow-free .ensures)
+    (m .sub .ensures)
+    (k .tally-children .ensures .2)
+    (k .tally-children .ensures .1)
+    (k .tally-children .ensures .0)
     (d .tally-deques .ensures .0)
-    (h .tally-chain .ensures .0)
     (c .places-sound .ensures)
 
 pub check-frames-spec : {M : Type 1} → statement M
@@ -95,9 +90,8 @@ check-frames-spec =
     tally-children-requires
     slice-aggregate-tally-deques
     tally-deques-requires
-    slice-aggregate-tally-chain
-    tally-chain-requires
-    count-mains-requires
+    sub-requires
+    follow-free-requires
     slice-aggregate-places-sound
     places-sound-requires
     returns-2)

@@ -23,8 +23,8 @@ none-of : (m : ℕ) → m ≤ 1 → m ≢ 1 → 0 < m → ⊥
 none-of m a b c = omega arith
 
 module _ (workers first : ℕ) (ds fs : List ℕ) (s : Passes workers first ds fs) where
-  live : (p : ℕ) → p < places → Lives fs p → LiveAt first ds fs p
-  live p b = s .each p b .0
+  live : (p : ℕ) → p < places → Lives fs p → LiveAt ds fs p
+  live = s .live
 
   held : (w : ℕ) → w < maxWorkers → (k : ℕ) → k < size ds w → (place ds w k < places) × Lives fs (place ds w k)
   held w b k c = s .on w b k c .0
@@ -69,7 +69,7 @@ module _ (workers first : ℕ) (ds fs : List ℕ) (s : Passes workers first ds f
   only-below w b k l c d a e =
       let q = place ds w (suc k) in
       let h = held w b (suc k) l in
-      let n : children fs q ≡ cond (ltb (suc (suc k)) (size ds w)) 1 0 = sym (live q (h .0) (h .1) .0 .1) ∙ inner w b k l .1 in
+      let n : children fs q ≡ cond (ltb (suc (suc k)) (size ds w)) 1 0 = sym (live q (h .0) (h .1) .0) ∙ inner w b k l .1 in
       let t = at-child fs q c a e in
       elim (decided (ltb (suc (suc k)) (size ds w))) [
         | inl m ↦
@@ -81,8 +81,8 @@ module _ (workers first : ℕ) (ds fs : List ℕ) (s : Passes workers first ds f
 
   each-place : (p : ℕ) → p < places → EachPlace fs first (freePlaces fs first) p
   each-place p b = elim (ℕ-discrete (frameAt fs p .live) 1) [
-    | yes l ↦ inl (l, live p b l .0 .0)
-    | no l ↦ (let f = s .each p b .1 l in inr (f .1, f .0))
+    | yes l ↦ inl (l, s .chained .off p b l)
+    | no l ↦ inr (s .chained .empty p b l, s .chained .once p b l)
   ]
 
   pub finds : FramesFacts workers first ds fs
@@ -90,7 +90,7 @@ module _ (workers first : ℕ) (ds fs : List ℕ) (s : Passes workers first ds f
       record {
         one-main = one-main;
         parents = λ p b l. live p b l .1 .0 .1;
-        outstanding = λ p b l. live p b l .0 .1;
+        outstanding = λ p b l. live p b l .0;
         placed = λ p b l. live p b l .1 .1;
         hold-live = held;
         absent = λ w b. s .fits w b .1 .0;
@@ -98,5 +98,5 @@ module _ (workers first : ℕ) (ds fs : List ℕ) (s : Passes workers first ds f
         zeros = λ w b k l c. s .fits w b .1 .1 k c l;
         child-of-above = λ w b k c. inner w b k c .0;
         only-below = only-below;
-        places = places-of fs first (s .chained, each-place);
+        places = places-of fs first (s .chained .within, each-place);
       }

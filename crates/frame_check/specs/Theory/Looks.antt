@@ -6,18 +6,18 @@ use mathlib.Core.List.{List}
 use Prim.Native.Nat.{ℕ, zero, suc, _-_, _≤_, _<_}
 use native.Mathlib.Omega.{arith}
 use lib.Dec.{ltb}
-use Rattle.words.specs.Basics.{none, howMany, count}
+use Rattle.words.specs.Basics.{none, howMany}
 use Rattle.words.specs.Tests.{decided, true≢false, lt-of, ltb-of}
 use Rattle.words.specs.Counting.{howMany-none}
 use Rattle.words.specs.Tallies.{howMany-one}
-use Rattle.frames.specs.declared.Frame.{Frame}
 use Rattle.frames.specs.Frames.{frameAt}
 use Rattle.frames.specs.Widths.{maxWorkers, places}
 use Rattle.frames.specs.Deques.{size, place}
 use Rattle.soundness.specs.Soundness.{isChild, children, freePlaces}
-use Rattle.soundness.specs.Theory.Sentences.{Lives, FramesFacts, FreeAt, child-is, at-child, main-is, main-only, of-places}
+use Rattle.soundness.specs.Theory.Sentences.{Lives, FramesFacts, child-is, at-child, main-is, main-only, of-places}
 use Rattle.frame_check.specs.Algorithm.{mainAt, mains}
-use Rattle.frame_check.specs.Theory.Passes.{OnDeque, LiveAt, Passes}
+use Rattle.frame_check.specs.Theory.FreeChain.{FreeChain, free-dead}
+use Rattle.frame_check.specs.Theory.Passes.{OnDeque, Passes}
 
 module _ (workers first : ℕ) (ds fs : List ℕ) (F : FramesFacts workers first ds fs) where
   -- a frame below the top has a child if there is a frame below it, else none
@@ -54,18 +54,22 @@ module _ (workers first : ℕ) (ds fs : List ℕ) (F : FramesFacts workers first
   orphan : (p : ℕ) → p < places → Lives fs p → frameAt fs p .depth ≡ 0 → frameAt fs p .parent ≡ none
   orphan p b l d = elim (F .one-main) [ inl n ↦ absurd (n .0 p b l) | inr m ↦ main-only ds fs m .1 p b l d ]
 
-  each : (p : ℕ) → p < places → (Lives fs p → LiveAt first ds fs p) × ((Lives fs p → ⊥) → (count p (freePlaces fs first) ≡ 1) × FreeAt fs p)
-  each p b = elim (of-places fs first (F .places) .1 p b) [
-    | inl u ↦ ((λ l. ((u .1, F .outstanding p b l), ((orphan p b l, F .parents p b l), F .placed p b l))), λ n. absurd (n (u .0)))
-    | inr f ↦ ((λ l. (let z = ap (λ (g : Frame). g .live) (f .0 .1) in absurd (omega (arith, l, z)))), λ n. (f .1, f .0))
-  ]
+  chained : FreeChain fs (freePlaces fs first)
+  chained =
+      let P = of-places fs first (F .places) in
+      record {
+        within = P .0;
+        off = λ p b l. elim (P .1 p b) [ inl u ↦ u .1 | inr f ↦ absurd (free-dead fs p (f .0) l) ];
+        once = λ p b n. elim (P .1 p b) [ inl u ↦ absurd (n (u .0)) | inr f ↦ f .1 ];
+        empty = λ p b n. elim (P .1 p b) [ inl u ↦ absurd (n (u .0)) | inr f ↦ f .0 ];
+      }
 
   pub looks : Passes workers first ds fs
   looks =
       record {
         fits = λ w b. (F .within w b, (F .absent w b, λ k c l. F .zeros w b k l c));
         on = on;
-        chained = of-places fs first (F .places) .0;
+        chained = chained;
         one = one;
-        each = each;
+        live = λ p b l. (F .outstanding p b l, ((orphan p b l, F .parents p b l), F .placed p b l));
       }

@@ -1,7 +1,7 @@
 -- What the tallies are: as long as before, and at each place as many steps more as it was met, if the word does not wrap.
-use mathlib.Core.Path.{_≡_, refl, sym, ap, _∙_}
+use mathlib.Core.Path.{_≡_, refl, sym, _∙_}
 use mathlib.Core.Bool.{cond}
-use mathlib.Core.List.{List, [], _∷_}
+use mathlib.Core.List.{List}
 use Prim.Native.Nat.{ℕ, zero, suc, _+_, _*_, _<_}
 use native.Mathlib.Omega.{arith}
 use native.Mathlib.Decide.{ℕ-discrete}
@@ -9,11 +9,9 @@ use lib.ListN.{length, getD, length-set}
 use lib.Seq.{getD-set-same, getD-set-other}
 use lib.Dec.{eqb}
 use borrow.Author.Tests.{eq-eqb, ne-eqb}
-use Rattle.words.specs.Basics.{plus, sum, howMany, count}
-use Rattle.words.specs.Counting.{count-nil}
-use Rattle.words.specs.Tallies.{count-step}
+use Rattle.words.specs.Basics.{plus, sum, howMany}
 use Rattle.frames.specs.Deques.{size, place}
-use Rattle.frame_check.specs.Algorithm.{dequeStep, bump, tally, tallyList, tallyDeques}
+use Rattle.frame_check.specs.Algorithm.{dequeStep, bump, tally, tallyDeques}
 
 pub length-bump : (step : ℕ) (ts : List ℕ) (p : ℕ) → length (bump step ts p) ≡ length ts
 unfolding bump
@@ -62,13 +60,3 @@ tallyDeques-at (suc n) ds ts p b w =
     let r = tallyDeques-at n ds ts p b (omega arith) in
     let s = tally-at dequeStep (size ds n) (place ds n) (tallyDeques n ds ts) p (omega (arith, length-tallyDeques n ds ts)) (omega (arith, r)) in
     omega (arith, r, s)
-
-pub tallyList-at : (step : ℕ) (xs ts : List ℕ) (p : ℕ) → p < length ts → getD ts p 0 + step * count p xs < 4294967296
-    → getD (tallyList step xs ts) p 0 ≡ getD ts p 0 + step * count p xs
-unfolding tallyList
-tallyList-at step [] ts p b w = omega (arith, ap (λ (n : ℕ). step * n) (count-nil p))
-tallyList-at step (x ∷ xs) ts p b w =
-    let e : step * count p (x ∷ xs) ≡ step * cond (eqb x p) 1 0 + step * count p xs = ap (λ (n : ℕ). step * n) (count-step p x xs) ∙ omega arith in
-    let s = bump-at step ts x p b (omega (arith, e)) in
-    let r = tallyList-at step xs (bump step ts x) p (omega (arith, length-bump step ts x)) (omega (arith, s, e)) in
-    omega (arith, r, s, e)

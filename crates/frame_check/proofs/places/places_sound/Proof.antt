@@ -1,4 +1,4 @@
--- The loop keeps the answer for the places passed, with each one's word taken apart.
+-- The loop keeps the answer for the places passed.
 use mathlib.Core.Path.{_≡_, refl}
 use Prim.Native.Nat.{_≤_, _-_}
 use native.Mathlib.Omega.{arith}
@@ -16,14 +16,11 @@ Inv-loop frames tallies sound₀ p₀ sound p = (sound ≡ all p (placeTallied f
 abbrev μ-loop : tie.MeasureT-loop
 μ-loop frames tallies sound₀ p₀ sound p = places - p
 
+abbrev start-of : tie.At-loop Inv-loop μ-loop → tie.Start Inv-loop μ-loop
+start-of c = c .before .before .before
+
 loop-holds : tie.Need-loop-holds Inv-loop μ-loop
 loop-holds c = (refl, omega arith)
-
-cast-word : tie.Need-cast-word Inv-loop μ-loop
-cast-word c = omega arith
-
-word-requires : tie.Need-word-requires Inv-loop μ-loop
-word-requires c κs = search needs
 
 place-sound-requires : tie.Need-place-sound-requires Inv-loop μ-loop
 place-sound-requires c κs = search needs
@@ -36,27 +33,17 @@ loop-less c = search needs
 
 loop-again : tie.Need-loop-again Inv-loop μ-loop
 loop-again c =
-    let l = c .before .before .before .loop in
-    let a = c .before .before .before .before .before .before .args in
-    (all-turn (l .p) (placeTallied (a .frames .now) (a .tallies .now)) (l .inv .0) (rw (c .place-sound .ensures, c .before .word .ensures)), omega arith)
+    let l = c .before .before in
+    let a = start-of l .args in
+    (all-turn (l .loop .p) (placeTallied (a .frames .now) (a .tallies .now)) (l .loop .inv .0) (c .place-sound .ensures), omega arith)
 
 returns : tie.Need-returns Inv-loop μ-loop
 returns c =
-    let a = c .before .before .before .before .args in
-    let l = c .before .loop in
-    at-end (λ k. all k (placeTallied (a .frames .now) (a .tallies .now))) (l .inv .1) (c .loop-test .left) (l .inv .0)
+    let l = c .before in
+    let a = start-of l .args in
+    at-end (λ k. all k (placeTallied (a .frames .now) (a .tallies .now))) (l .loop .inv .1) (c .loop-test .left) (l .loop .inv .0)
 
 pub places-sound-spec : {M : Type 1} → statement M
 places-sound-spec =
     tie.close
-    (tie.spec
-    Inv-loop
-    μ-loop
-    loop-holds
-    cast-word
-    word-requires
-    place-sound-requires
-    add-p
-    loop-less
-    loop-again
-    returns)
+    (tie.spec Inv-loop μ-loop loop-holds place-sound-requires add-p loop-less loop-again returns)
