@@ -11,10 +11,10 @@ mod start;
 mod tape;
 
 pub use answers::refusal_number;
-pub use start::start_on;
-pub use tape::tape_on;
 use semantics::Answer;
 use semantics::Refusal;
+pub use start::start_on;
+pub use tape::tape_on;
 
 // What a step leaves of the numbers that change, and its answer.
 pub struct Out {
@@ -33,8 +33,8 @@ pub enum Verdict {
     Refuse(Refusal),
 }
 
-// The place of the frame that a worker executes, or the refusal of its step.
+// The place of the frame that a worker executes and how many frames the worker has, or the refusal of its step.
 pub enum Acting {
-    At(u32),
+    At(u32, u32),
     Refuse(Refusal),
 }

@@ -35,7 +35,7 @@ write-path-requires : tie.Need-write-path-requires
 write-path-requires c κs =
     let root = c .before in
     let s = start-of (within-of (root .before .before)) in
-    write-asks _ _ _ (s .pre .0) (s .pre .1) _ (root .root-at .ensures)
+    write-asks _ _ _ _ (s .pre .0) (s .pre .1) _ (root .root-at .ensures)
 
 set-root-requires : tie.Need-set-root-requires
 set-root-requires c κs = search needs
