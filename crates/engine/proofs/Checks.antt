@@ -163,10 +163,10 @@ module _ (ns ds fs ws ks bytes rs : List ℕ) (b : Bool) (eb : b ≡ unfitTape b
     tape-done r free h h′ ns′ ds′ fs′ ws′ rs′ ek′ z ef eh er five en′ =
         let e : k ≡ Sound free = not-refused k (sym ek′ ∙ z) ∙ ap Sound (sym ef) in
         let o : recordsResult (core h′ ds′ fs′ ws′) rs′ ≡ runOn (recordsResult (coreOf s ws free) rs) 0 (recordsOf bytes) =
-        er .0 ∙ ap (λ (g : Head). runOn (recordsResult (core g ds fs ws) rs) 0 (recordsOf bytes)) (eh ∙ ap (λ (m : Numbers). headOf m free) en) in
+            er .0 ∙ ap (λ (g : Head). runOn (recordsResult (core g ds fs ws) rs) 0 (recordsOf bytes)) (eh ∙ ap (λ (m : Numbers). headOf m free) en) in
         let d : tapeDone (recordsResult (core h′ ds′ fs′ ws′) rs′) (cleared (numbersIn ns .nodes) ks) ≡ tapeChecked k s ws ks bytes rs = rw e (ap (λ q. tapeDone q (cleared (numbersIn ns .nodes) ks)) o) in
         let first : h .numbers ≡ numbersIn ns = ap (λ (g : Head). g .numbers) eh ∙ en in
         let last : h′ .numbers ≡ setFreePlace (setFreeNode (numbersIn ns) (h′ .numbers .«free_node»)) (h′ .numbers .«free_place») =
-        ap (λ (g : Head). g .numbers) (er .1) ∙ ap (λ (m : Numbers). setFreePlace (setFreeNode m (h′ .numbers .«free_node»)) (h′ .numbers .«free_place»)) first in
+            ap (λ (g : Head). g .numbers) (er .1) ∙ ap (λ (m : Numbers). setFreePlace (setFreeNode m (h′ .numbers .«free_node»)) (h′ .numbers .«free_place»)) first in
         let words : ns′ ≡ numberWords (h′ .numbers) = en′ ∙ two-words ns (h′ .numbers .«free_node») (h′ .numbers .«free_place») five ∙ ap numberWords (sym last) in
         by-result _ ns′ ds′ fs′ ws′ ks′ rs′ 0 (by-check _ (rw (words, checks .0) d))

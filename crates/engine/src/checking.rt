@@ -52,14 +52,7 @@ pub fn check(
         clear(work, nodes);
         return Checked::Unsound;
     }
-    let answer = check_pool(
-        numbers.splitters,
-        nodes,
-        numbers.free_node,
-        frames,
-        pool,
-        work,
-    );
+    let answer = check_pool(numbers.splitters, nodes, numbers.free_node, frames, pool, work);
     let PoolChecked::Good(free) = answer else {
         return Checked::Unsound;
     };

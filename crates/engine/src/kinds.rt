@@ -172,6 +172,7 @@ fn write_at(
         return refused(h, Refusal::PoolFull);
     }
     let root = root_at(frames, p);
+    set_root(frames, p, h.numbers.free_node);
     let list = write_path(
         pool,
         h.numbers.nodes,
@@ -182,7 +183,6 @@ fn write_at(
         x,
         v,
     );
-    set_root(frames, p, h.numbers.free_node);
     Out {
         free_node: list.first,
         free_place: h.numbers.free_place,

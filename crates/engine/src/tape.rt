@@ -86,6 +86,10 @@ pub fn tape_on(
         bytes,
         answers,
     );
-    put_free(numbers, last.numbers.free_node, last.numbers.free_place);
+    put_free(
+        numbers,
+        last.numbers.free_node,
+        last.numbers.free_place,
+    );
     0
 }

@@ -112,7 +112,15 @@ pub extern "C" fn splitter_step(
     }
     let bytes = record_of(kind, worker, field, value);
     let mut answers = [0u32; 2];
-    let refused = tape_on(numbers, deques, frames, pool, work, &bytes, &mut answers);
+    let refused = tape_on(
+        numbers,
+        deques,
+        frames,
+        pool,
+        work,
+        &bytes,
+        &mut answers,
+    );
     result_words(refused, answers[0], answers[1])
 }
 

@@ -93,10 +93,7 @@ module _ {workers first : ℕ} {ds fs : List ℕ} (F : FramesFacts workers first
   -- the parent of a live frame lives, and has it as a child
   live-counts : (p : ℕ) → p < 64 → Lives fs p → ParentCounts fs (frameAt fs p)
   live-counts p b l h = elim (ℕ-discrete (frameAt fs p .depth) 0) [
-    | yes e ↦ elim (live-parent p b l) [
-      | inl r ↦ elim (F .one-main) [ inl n ↦ absurd (n .0 p b l) | inr m ↦ absurd (omega (arith, h, ap (λ q. frameAt fs q .parent) (m .only p b l e), m .orphan)) ]
-      | inr r ↦ absurd (omega (arith, h, r))
-    ]
+    | yes e ↦ elim (F .one-main) [ inl n ↦ absurd (n .0 p b l) | inr m ↦ absurd (omega (arith, h, ap (λ q. frameAt fs q .parent) (m .only p b l e), m .orphan)) ]
     | no e ↦ (let q = frameAt fs p .parent in
         let r = F .parents p b l e in
         counted 64 p (isChild fs q) b (and-of (eq-eqb (frameAt fs p .live) 1 l) (eq-eqb q q refl)) (F .outstanding q (r .0) (r .1)))

@@ -83,10 +83,9 @@ run-tape-requires c κs =
     let k = check-of r in
     let n = numbers-of k in
     let e = fit-of n in
-    let s = start-of (e .before) in (
-      found-sound _ _ _ _ _ _ _ _ _ _ (s .pre .deques) (s .pre .frames) (k .check .ensures) (r .check-number .ensures) (l .if2 .left) (h .before .free-in .ensures) (h .head-of .ensures),
-      fit-answers (s .args .bytes .now) (s .args .answers .now) _ (e .before .unfit-tape .ensures) (e .if1 .left),
-    )
+    let s = start-of (e .before) in
+    (found-sound _ _ _ _ _ _ _ _ _ _ (s .pre .deques) (s .pre .frames) (k .check .ensures) (r .check-number .ensures) (l .if2 .left) (h .before .free-in .ensures) (h .head-of .ensures),
+    fit-answers (s .args .bytes .now) (s .args .answers .now) _ (e .before .unfit-tape .ensures) (e .if1 .left))
 
 put-free-requires : tie.Need-put-free-requires
 put-free-requires c κs =
