@@ -3,33 +3,43 @@ use mathlib.Core.Path.{_≡_, refl, sym, ap, _∙_}
 use mathlib.Core.Logic.{inl, inr}
 use mathlib.Core.Bool.{Bool, true, false, not, _||_, _&&_}
 use mathlib.Core.List.{List, [], _∷_}
-use Prim.Native.Nat.{ℕ, suc, _-_, _≤_, _<_}
+use Prim.Native.Nat.{ℕ, zero, suc, _-_, _≤_, _<_}
 use native.Mathlib.Omega.{arith}
+use native.Mathlib.Decide.{ℕ-discrete}
 use lib.Dec.{eqb, ltb}
 use lib.ListN.{length, set}
 use borrow.Author.Tests.{eq-eqb, ne-eqb, lt-ltb, le-ltb}
 use Rattle.words.specs.Basics.{all}
 use Rattle.words.specs.Tests.{decided, true≢false, neither, not-false, lt-of, ge-of}
 use Rattle.words.specs.Counting.{all-at}
+use Rattle.frames.specs.Widths.{maxWorkers}
 use Rattle.frames.specs.Deques.{size}
 use Rattle.soundness.specs.Numbers.{numbersIn, numberWords, setFreeNode, setFreePlace}
 use Rattle.semantics.specs.declared.Head.{Head}
 use Rattle.semantics.specs.declared.Refusal.the-variants.{NoWorker, MainReturned, WorkerIdle, ThiefBusy, NoVictim}
 use Rattle.semantics.specs.Core.{actingTests, stealTests}
 use Rattle.engine.specs.declared.Verdict.the-variants.{Pass, Refuse}
-use Rattle.engine.specs.Promises.{core, verdict}
+use Rattle.engine.specs.Promises.{core, verdict, SizesIn}
 
 -- ---- all idle
+
+and-true : (b : Bool) → b ≡ b && true
+and-true true = refl
+and-true false = refl
 
 -- one number less, of which f holds
 pub all-less : (f : ℕ → Bool) (n : ℕ) → 0 < n → f (n - 1) ≡ true → all (n - 1) f ≡ all n f
 all-less f n h e =
     let s : n ≡ suc (n - 1) = omega arith in
     and-true (all (n - 1) f) ∙ ap (λ b. all (n - 1) f && b) (sym e) ∙ ap (λ (k : ℕ). all k f) (sym s)
-  where
-    and-true : (b : Bool) → b ≡ b && true
-    and-true true = refl
-    and-true false = refl
+
+-- of the numbers from n on f holds
+pub all-from : (f : ℕ → Bool) (n m : ℕ) → n ≤ m → ((w : ℕ) → w < m → n ≤ w → f w ≡ true) → all m f ≡ all n f
+all-from f n zero h a = let z : 0 ≡ n = omega arith in ap (λ (k : ℕ). all k f) z
+all-from f n (suc m) h a = elim (ℕ-discrete n (suc m)) [
+  | yes e ↦ ap (λ (k : ℕ). all k f) (sym e)
+  | no e ↦ ap (λ b. all m f && b) (a m (omega arith) (omega (arith, e))) ∙ sym (and-true (all m f)) ∙ all-from f n m (omega (arith, e)) (λ w b l. a w (omega arith) l)
+]
 
 -- some number below n, of which f does not hold
 pub all-not : (n : ℕ) (f : ℕ → Bool) (i : ℕ) → i < n → f i ≡ false → all n f ≡ false
@@ -44,6 +54,10 @@ all-none f n h = let z : n ≡ 0 = omega arith in ap (λ (k : ℕ). all k f) z
 module _ (h : Head) (ds : List ℕ) where
   abbrev idles : Bool
   idles = all (h .numbers .workers) (λ w. eqb (size ds w) 0)
+
+  -- those that do not exist are idle too
+  pub idles-is : SizesIn (h .numbers .workers) ds → all maxWorkers (λ w. eqb (size ds w) 0) ≡ idles
+  idles-is s = all-from (λ w. eqb (size ds w) 0) (h .numbers .workers) maxWorkers (s .workers-le) (λ w b l. eq-eqb (size ds w) 0 (s .absent w b l))
 
   -- a worker that is not idle
   busy : (w n : ℕ) → w < h .numbers .workers → n ≡ size ds w → (n ≡ 0 → ⊥) → idles ≡ false

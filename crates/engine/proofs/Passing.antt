@@ -15,7 +15,7 @@ use Rattle.frames.specs.Widths.{maxWorkers, places, frameWords, dequePlaces, de
 use Rattle.frames.specs.declared.Frame.{Frame}
 use Rattle.frames.specs.Frames.{frameAt}
 use Rattle.frames.specs.Deques.{size, bottom, top}
-use Rattle.frames.specs.Ranges.{Acts, ParentOf}
+use Rattle.frames.specs.Ranges.{Acts, ParentOf, ParentCounts}
 use Rattle.semantics.specs.declared.Head.{Head}
 use Rattle.semantics.specs.declared.Refusal.{Refusal}
 use Rattle.semantics.specs.declared.Refusal.the-variants.{NoWorker, MainReturned, ThiefBusy, NoVictim}
@@ -26,39 +26,42 @@ use Rattle.engine.specs.declared.Verdict.the-variants.{Pass, Refuse}
 use Rattle.engine.specs.Promises.{core, verdict, ActsOn, ActsAt, SizesIn}
 
 pub sizes-in : {c : Core} → Ready c → SizesIn (c .head .numbers .workers) (c .deques)
-sizes-in r = record { long = r .long-deques; workers-le = r .workers-le; sizes = r .sizes }
+sizes-in r = record { long = r .long-deques; workers-le = r .workers-le; sizes = r .sizes; absent = r .absent }
 
 -- the frame that worker w executes, in a ready core
-pub acts-at : (c : Core) (w p : ℕ) → Ready c → w < c .head .numbers .workers → ActsOn (c .deques) w p → ActsAt c w p
+pub acts-at : (c : Core) (w n p : ℕ) → Ready c → w < c .head .numbers .workers → ActsOn (c .deques) w n p → ActsAt c w n p
 unfolding bottom
-acts-at c w p r l a =
+acts-at c w n p r l a =
     let w8 : w < maxWorkers = omega (arith, r .workers-le) in
+    let some : 0 < size (c .deques) w = omega (arith, a .has, a .busy) in
     record {
       worker = w8;
+      has = a .has;
       busy = a .busy;
-      most = r .sizes w w8;
+      most = omega (arith, a .has, r .sizes w w8);
       acting = a .acting;
-      within = subst (λ (k : ℕ). k < places) (sym (a .acting)) (r .held w (size (c .deques) w - 1) w8 (omega (arith, a .busy)));
-      room = r .room w w8;
-      root = subst (λ (q : ℕ). frameAt (c .frames) q .root < c .head .numbers .nodes) (sym (a .acting)) (r .root w w8 (a .busy));
-      parent = subst (λ (q : ℕ). ParentOf q (frameAt (c .frames) q)) (sym (a .acting)) (r .parent w w8 (a .busy));
-      path = λ x lx. subst (λ (q : ℕ). PathIn (c .head .numbers .nodes) (c .pool) (c .head .height) (frameAt (c .frames) q .root) x) (sym (a .acting)) (r .path w x w8 (a .busy) lx);
+      within = subst (λ (k : ℕ). k < places) (sym (a .acting)) (r .held w (size (c .deques) w - 1) w8 (omega arith));
+      room = λ h. omega (arith, a .has, r .room w w8 h);
+      root = subst (λ (q : ℕ). frameAt (c .frames) q .root < c .head .numbers .nodes) (sym (a .acting)) (r .root w w8 some);
+      parent = subst (λ (q : ℕ). ParentOf q (frameAt (c .frames) q)) (sym (a .acting)) (r .parent w w8 some);
+      counts = subst (λ (q : ℕ). ParentCounts (c .frames) (frameAt (c .frames) q)) (sym (a .acting)) (r .counts w w8 some);
+      path = λ x lx. subst (λ (q : ℕ). PathIn (c .head .numbers .nodes) (c .pool) (c .head .height) (frameAt (c .frames) q .root) x) (sym (a .acting)) (r .path w x w8 some lx);
     }
 
-module _ (c : Core) (w p : ℕ) (r : Ready c) (a : ActsAt c w p) (f : Frame) (ef : f ≡ frameAt (c .frames) p) where
-  pub acts : Acts (c .deques) (c .frames) w p f
-  acts = record { long-deques = r .long-deques; long-frames = r .long-frames; worker = a .worker; some = a .busy; most = a .most; acting = a .acting; within = a .within; is = ef }
+module _ (c : Core) (w n p : ℕ) (r : Ready c) (a : ActsAt c w n p) (f : Frame) (ef : f ≡ frameAt (c .frames) p) where
+  pub acts : Acts (c .deques) (c .frames) w n p f
+  acts = record { long-deques = r .long-deques; long-frames = r .long-frames; worker = a .worker; has = a .has; some = a .busy; most = a .most; acting = a .acting; within = a .within; is = ef }
 
   pub root-link : Link (c .head .numbers .nodes) (f .root)
   root-link = inl (subst (λ (g : Frame). g .root < c .head .numbers .nodes) (sym ef) (a .root))
 
-  pub spawn-asks : (c .head .numbers .«free_place» ≡ none → ⊥) → Acts (c .deques) (c .frames) w p f × (size (c .deques) w < dequePlaces) × (c .head .numbers .«free_place» < places)
-  spawn-asks n =
-      let l : c .head .numbers .«free_place» < places = elim (r .free-place) [ inl q ↦ q | inr q ↦ absurd (n q) ] in
+  pub spawn-asks : (c .head .numbers .«free_place» ≡ none → ⊥) → Acts (c .deques) (c .frames) w n p f × (n < dequePlaces) × (c .head .numbers .«free_place» < places)
+  spawn-asks o =
+      let l : c .head .numbers .«free_place» < places = elim (r .free-place) [ inl q ↦ q | inr q ↦ absurd (o q) ] in
       (acts, a .room l, l)
 
-  pub return-asks : Acts (c .deques) (c .frames) w p f × ParentOf p f
-  return-asks = (acts, subst (λ (g : Frame). ParentOf p g) (sym ef) (a .parent))
+  pub return-asks : Acts (c .deques) (c .frames) w n p f × ParentOf p f × ParentCounts (c .frames) f
+  return-asks = (acts, subst (λ (g : Frame). ParentOf p g) (sym ef) (a .parent), subst (λ (g : Frame). ParentCounts (c .frames) g) (sym ef) (a .counts))
 
 -- ---- a steal: the thief is idle, and the victim has two frames
 
@@ -87,7 +90,7 @@ module _ (h : Head) (ds fs ws : List ℕ) (w v : ℕ) (ready : Ready (core h ds 
 
 -- ---- a read and a write
 
-module _ (c : Core) (w p : ℕ) (r : Ready c) (a : ActsAt c w p) (root : ℕ) (er : root ≡ frameAt (c .frames) p .root) where
+module _ (c : Core) (w n p : ℕ) (r : Ready c) (a : ActsAt c w n p) (root : ℕ) (er : root ≡ frameAt (c .frames) p .root) where
   pub read-asks : (x : ℕ) → x < c .head .numbers .splitters
       → (4 * c .head .numbers .nodes ≤ length (c .pool)) × (c .head .height ≤ 32) × PathIn (c .head .numbers .nodes) (c .pool) (c .head .height) root x
   read-asks x l = (

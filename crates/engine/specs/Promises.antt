@@ -7,7 +7,7 @@ use lib.ListN.{length}
 use Rattle.pool.specs.Links.{PathIn}
 use Rattle.frames.specs.Widths.{maxWorkers, places, dequePlaces, dequeWords}
 use Rattle.frames.specs.Frames.{frameAt}
-use Rattle.frames.specs.Ranges.{ParentOf}
+use Rattle.frames.specs.Ranges.{ParentOf, ParentCounts}
 use lib.Dec.{eqb, ltb}
 use Rattle.sizes.specs.Sizes.{treeNodes}
 use Rattle.frames.specs.Deques.{size, bottom}
@@ -46,28 +46,32 @@ Leaves h o ds fs ws d = stepResult (headAfter h o) ds fs ws (o .answer) ≡ d
 abbrev pub kindOn : Core → Step → StepResult
 kindOn c st = judged (kindTests c st) c (doneBy c st)
 
--- worker w executes the frame at place p, by the deques alone
-pub record ActsOn (ds : List ℕ) (w p : ℕ) : Type 0 where
-  pub busy : 0 < size ds w
+-- worker w has n frames and executes the one at place p, by the deques alone
+pub record ActsOn (ds : List ℕ) (w n p : ℕ) : Type 0 where
+  pub has : n ≡ size ds w
+  pub busy : 0 < n
   pub acting : p ≡ bottom ds w
 
 -- and what a sound core says of this frame
-pub record ActsAt (c : Core) (w p : ℕ) : Type 0 where
+pub record ActsAt (c : Core) (w n p : ℕ) : Type 0 where
   pub worker : w < maxWorkers
-  pub busy : 0 < size (c .deques) w
-  pub most : size (c .deques) w ≤ dequePlaces
+  pub has : n ≡ size (c .deques) w
+  pub busy : 0 < n
+  pub most : n ≤ dequePlaces
   pub acting : p ≡ bottom (c .deques) w
   pub within : p < places
-  pub room : c .head .numbers .«free_place» < places → size (c .deques) w < dequePlaces
+  pub room : c .head .numbers .«free_place» < places → n < dequePlaces
   pub root : frameAt (c .frames) p .root < c .head .numbers .nodes
   pub parent : ParentOf p (frameAt (c .frames) p)
+  pub counts : ParentCounts (c .frames) (frameAt (c .frames) p)
   pub path : (x : ℕ) → x < c .head .numbers .splitters → PathIn (c .head .numbers .nodes) (c .pool) (c .head .height) (frameAt (c .frames) p .root) x
 
--- deques of so many workers, as long as they may be
+-- deques of so many workers, as long as they may be; a worker that does not exist has an empty one
 pub record SizesIn (workers : ℕ) (ds : List ℕ) : Type 0 where
   pub long : length ds ≡ dequeWords
   pub workers-le : workers ≤ maxWorkers
   pub sizes : (w : ℕ) → w < maxWorkers → size ds w ≤ dequePlaces
+  pub absent : (w : ℕ) → w < maxWorkers → workers ≤ w → size ds w ≡ 0
 
 -- ---- tests
 
@@ -76,9 +80,9 @@ abbrev pub verdict : List (Bool × Refusal) → Verdict
 verdict [] = Pass
 verdict (t ∷ ts) = cond (t .0) (Verdict.Refuse (t .1)) (verdict ts)
 
--- refusals 8, 9 and 10, or the place of the frame that worker w executes
+-- refusals 8, 9 and 10, or the place of the frame that worker w executes and its number of frames
 abbrev pub IsActing : Core → ℕ → Acting → Type 0
-IsActing c w (At p) = (w < c .head .numbers .workers) × (verdict (actingTests c w) ≡ Pass) × ActsOn (c .deques) w p
+IsActing c w (At p n) = (w < c .head .numbers .workers) × (verdict (actingTests c w) ≡ Pass) × ActsOn (c .deques) w n p
 IsActing c w (Acting.Refuse r) = verdict (actingTests c w) ≡ Verdict.Refuse r
 
 -- refusals 1, 2 and 3, of a start with n initial values and a pool of so many whole nodes

@@ -1,6 +1,6 @@
 // The six kinds of steps over the numbers h and the lent words of the deques, the frame table and the pool: each is refused, and
 // changes nothing, or acts. The core is ready (it is sound), so that reads and stores test no index. For a kind that acts on a worker's
-// bottom frame, `.._at` is the step once that frame's place p is known.
+// bottom frame, `.._at` is the step once that frame's place p and the worker's number n of frames are known.
 ghost use mathlib.Core.Path.{_≡_};
 ghost use Rattle.model.specs.declared.Step.the-variants.{Spawn, Return, Steal, Sync, Read, Write};
 ghost use Rattle.semantics.specs.Core.{stepOn};
@@ -55,9 +55,10 @@ fn spawn_at(
     frames: &mut [u32],
     pool: &mut [u32],
     w: u32,
+    n: u32,
     p: u32,
 ) -> Out
-    requires { ⌜ Ready (core h (now deques) (now frames) (now pool)) × ActsAt (core h (now deques) (now frames) (now pool)) w p ⌝ }
+    requires { ⌜ Ready (core h (now deques) (now frames) (now pool)) × ActsAt (core h (now deques) (now frames) (now pool)) w n p ⌝ }
     ensures { λ r. ⌜ Leaves h r (now (deques .exit)) (now (frames .exit)) (now (pool .exit))
         (kindOn (core h (now (deques .entry)) (now (frames .entry)) (now (pool .entry))) (Spawn w)) ⌝ }
 {
@@ -66,7 +67,7 @@ fn spawn_at(
     }
     let f = frame_at(frames, p);
     retain(pool, h.numbers.nodes, f.root);
-    let free_place = spawn_frame(deques, frames, h.numbers.free_place, w, p, f);
+    let free_place = spawn_frame(deques, frames, h.numbers.free_place, w, n, p, f);
     Out {
         free_node: h.numbers.free_node,
         free_place,
@@ -81,9 +82,10 @@ fn return_at(
     frames: &mut [u32],
     pool: &mut [u32],
     w: u32,
+    n: u32,
     p: u32,
 ) -> Out
-    requires { ⌜ Ready (core h (now deques) (now frames) (now pool)) × ActsAt (core h (now deques) (now frames) (now pool)) w p ⌝ }
+    requires { ⌜ Ready (core h (now deques) (now frames) (now pool)) × ActsAt (core h (now deques) (now frames) (now pool)) w n p ⌝ }
     ensures { λ r. ⌜ Leaves h r (now (deques .exit)) (now (frames .exit)) (now (pool .exit))
         (kindOn (core h (now (deques .entry)) (now (frames .entry)) (now (pool .entry))) (Return w)) ⌝ }
 {
@@ -100,7 +102,7 @@ fn return_at(
         f.root,
         h.height,
     );
-    let ended = return_frame(deques, frames, h.numbers.free_place, w, p, f);
+    let ended = return_frame(deques, frames, h.numbers.free_place, w, n, p, f);
     let outcome = ended.outcome;
     Out {
         free_node,
@@ -110,12 +112,20 @@ fn return_at(
     }
 }
 
-fn sync_at(h: Head, deques: &mut [u32], frames: &mut [u32], pool: &mut [u32], w: u32, p: u32) -> Out
-    requires { ⌜ Ready (core h (now deques) (now frames) (now pool)) × ActsAt (core h (now deques) (now frames) (now pool)) w p ⌝ }
+fn sync_at(
+    h: Head,
+    deques: &mut [u32],
+    frames: &mut [u32],
+    pool: &mut [u32],
+    w: u32,
+    n: u32,
+    p: u32,
+) -> Out
+    requires { ⌜ Ready (core h (now deques) (now frames) (now pool)) × ActsAt (core h (now deques) (now frames) (now pool)) w n p ⌝ }
     ensures { λ r. ⌜ Leaves h r (now (deques .exit)) (now (frames .exit)) (now (pool .exit))
         (kindOn (core h (now (deques .entry)) (now (frames .entry)) (now (pool .entry))) (Sync w)) ⌝ }
 {
-    let outcome = sync_frame(deques, frames, w, p, frame_at(frames, p));
+    let outcome = sync_frame(deques, frames, w, n, p, frame_at(frames, p));
     unchanged(h, Answer::Accepted(Done::Waited(outcome)))
 }
 
@@ -125,10 +135,11 @@ fn value_at(
     frames: &mut [u32],
     pool: &mut [u32],
     w: u32,
+    n: u32,
     p: u32,
     x: u32,
 ) -> Out
-    requires { ⌜ Ready (core h (now deques) (now frames) (now pool)) × ActsAt (core h (now deques) (now frames) (now pool)) w p ⌝ }
+    requires { ⌜ Ready (core h (now deques) (now frames) (now pool)) × ActsAt (core h (now deques) (now frames) (now pool)) w n p ⌝ }
     ensures { λ r. ⌜ Leaves h r (now (deques .exit)) (now (frames .exit)) (now (pool .exit))
         (kindOn (core h (now (deques .entry)) (now (frames .entry)) (now (pool .entry))) (Read w x)) ⌝ }
 {
@@ -145,11 +156,12 @@ fn write_at(
     frames: &mut [u32],
     pool: &mut [u32],
     w: u32,
+    n: u32,
     p: u32,
     x: u32,
     v: u32,
 ) -> Out
-    requires { ⌜ Ready (core h (now deques) (now frames) (now pool)) × ActsAt (core h (now deques) (now frames) (now pool)) w p ⌝ }
+    requires { ⌜ Ready (core h (now deques) (now frames) (now pool)) × ActsAt (core h (now deques) (now frames) (now pool)) w n p ⌝ }
     ensures { λ r. ⌜ Leaves h r (now (deques .exit)) (now (frames .exit)) (now (pool .exit))
         (kindOn (core h (now (deques .entry)) (now (frames .entry)) (now (pool .entry))) (Write w x v)) ⌝ }
 {
@@ -160,6 +172,7 @@ fn write_at(
         return refused(h, Refusal::PoolFull);
     }
     let root = root_at(frames, p);
+    set_root(frames, p, h.numbers.free_node);
     let list = write_path(
         pool,
         h.numbers.nodes,
@@ -170,7 +183,6 @@ fn write_at(
         x,
         v,
     );
-    set_root(frames, p, h.numbers.free_node);
     Out {
         free_node: list.first,
         free_place: h.numbers.free_place,
@@ -187,7 +199,7 @@ pub fn step_spawn(h: Head, deques: &mut [u32], frames: &mut [u32], pool: &mut [u
     let acting = acting(h, deques, w);
     match acting {
         Acting::Refuse(refusal) => refused(h, refusal),
-        Acting::At(p) => spawn_at(h, deques, frames, pool, w, p),
+        Acting::At(p, n) => spawn_at(h, deques, frames, pool, w, n, p),
     }
 }
 
@@ -199,7 +211,7 @@ pub fn step_return(h: Head, deques: &mut [u32], frames: &mut [u32], pool: &mut [
     let acting = acting(h, deques, w);
     match acting {
         Acting::Refuse(refusal) => refused(h, refusal),
-        Acting::At(p) => return_at(h, deques, frames, pool, w, p),
+        Acting::At(p, n) => return_at(h, deques, frames, pool, w, n, p),
     }
 }
 
@@ -211,7 +223,7 @@ pub fn step_sync(h: Head, deques: &mut [u32], frames: &mut [u32], pool: &mut [u3
     let acting = acting(h, deques, w);
     match acting {
         Acting::Refuse(refusal) => refused(h, refusal),
-        Acting::At(p) => sync_at(h, deques, frames, pool, w, p),
+        Acting::At(p, n) => sync_at(h, deques, frames, pool, w, n, p),
     }
 }
 
@@ -230,7 +242,7 @@ pub fn step_read(
     let acting = acting(h, deques, w);
     match acting {
         Acting::Refuse(refusal) => refused(h, refusal),
-        Acting::At(p) => value_at(h, deques, frames, pool, w, p, x),
+        Acting::At(p, n) => value_at(h, deques, frames, pool, w, n, p, x),
     }
 }
 
@@ -250,7 +262,7 @@ pub fn step_write(
     let acting = acting(h, deques, w);
     match acting {
         Acting::Refuse(refusal) => refused(h, refusal),
-        Acting::At(p) => write_at(h, deques, frames, pool, w, p, x, v),
+        Acting::At(p, n) => write_at(h, deques, frames, pool, w, n, p, x, v),
     }
 }
 

@@ -33,8 +33,8 @@ pub enum Verdict {
     Refuse(Refusal),
 }
 
-// The place of the frame that a worker executes, or the refusal of its step.
+// The place of the frame that a worker executes and how many frames the worker has, or the refusal of its step.
 pub enum Acting {
-    At(u32),
+    At(u32, u32),
     Refuse(Refusal),
 }

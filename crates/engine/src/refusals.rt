@@ -12,17 +12,18 @@ ghost use Rattle.semantics.specs.Core.{stealTests};
 ghost use Rattle.engine.specs.Promises.{core, verdict, SizesIn, IsActing};
 use crate::Acting;
 use crate::Verdict;
+use frames::MAX_WORKERS;
 use frames::acting_place;
 use frames::size_at;
 use semantics::Head;
 use semantics::Refusal;
 
-// Has every worker an empty deque?
-fn all_idle(workers: u32, deques: &[u32]) -> bool
-    requires { ⌜ (length (now deques) ≡ dequeWords) × (workers ≤ maxWorkers) ⌝ }
-    ensures { λ r. ⌜ r ≡ all workers (λ w. eqb (size (now (deques .entry)) w) 0) ⌝ }
+// Has every worker an empty deque? Those that do not exist have one, so all eight are asked, and the loop's bound takes no register.
+fn all_idle(deques: &[u32]) -> bool
+    requires { ⌜ length (now deques) ≡ dequeWords ⌝ }
+    ensures { λ r. ⌜ r ≡ all maxWorkers (λ w. eqb (size (now (deques .entry)) w) 0) ⌝ }
 {
-    let mut left = workers;
+    let mut left = MAX_WORKERS;
     while left > 0 {
         left -= 1;
         if size_at(deques, left) != 0 {
@@ -32,7 +33,7 @@ fn all_idle(workers: u32, deques: &[u32]) -> bool
     true
 }
 
-// 8, 9 and 10, or the place of the frame that worker w executes.
+// 8, 9 and 10, or the place of the frame that worker w executes, and how many it has.
 pub fn acting(h: Head, deques: &[u32], w: u32) -> Acting
     requires { ⌜ SizesIn (h .numbers .workers) (now deques) ⌝ }
     ensures { λ r. ⌜ IsActing (core h (now (deques .entry)) [] []) w r ⌝ }
@@ -40,10 +41,11 @@ pub fn acting(h: Head, deques: &[u32], w: u32) -> Acting
     if w >= h.numbers.workers {
         return Acting::Refuse(Refusal::NoWorker);
     }
-    if size_at(deques, w) != 0 {
-        return Acting::At(acting_place(deques, w));
+    let n = size_at(deques, w);
+    if n != 0 {
+        return Acting::At(acting_place(deques, w, n), n);
     }
-    if all_idle(h.numbers.workers, deques) {
+    if all_idle(deques) {
         return Acting::Refuse(Refusal::MainReturned);
     }
     Acting::Refuse(Refusal::WorkerIdle)
@@ -62,7 +64,7 @@ fn no_victim(workers: u32, deques: &[u32], v: u32) -> bool
 
 // 8, 9, 11 and 12: of a steal.
 pub fn steal_verdict(h: Head, deques: &[u32], w: u32, v: u32) -> Verdict
-    requires { ⌜ (length (now deques) ≡ dequeWords) × (h .numbers .workers ≤ maxWorkers) ⌝ }
+    requires { ⌜ SizesIn (h .numbers .workers) (now deques) ⌝ }
     ensures { λ r. ⌜ r ≡ verdict (stealTests (core h (now (deques .entry)) [] []) w v) ⌝ }
 {
     if w >= h.numbers.workers {
@@ -74,7 +76,7 @@ pub fn steal_verdict(h: Head, deques: &[u32], w: u32, v: u32) -> Verdict
     if !no_victim(h.numbers.workers, deques, v) {
         return Verdict::Pass;
     }
-    if all_idle(h.numbers.workers, deques) {
+    if all_idle(deques) {
         return Verdict::Refuse(Refusal::MainReturned);
     }
     Verdict::Refuse(Refusal::NoVictim)

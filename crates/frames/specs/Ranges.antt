@@ -10,13 +10,14 @@ use Rattle.frames.specs.Widths.{maxWorkers, places, frameWords, dequePla
 use Rattle.frames.specs.Deques.{size, bottom}
 use Rattle.frames.specs.Frames.{frameAt}
 
--- worker w executes the frame at place p, whose record is f
-pub record Acts (ds fs : List ℕ) (w p : ℕ) (f : Frame) : Type 0 where
+-- worker w has n frames and executes the one at place p, whose record is f
+pub record Acts (ds fs : List ℕ) (w n p : ℕ) (f : Frame) : Type 0 where
   pub long-deques : length ds ≡ dequeWords
   pub long-frames : length fs ≡ frameWords
   pub worker : w < maxWorkers
-  pub some : 0 < size ds w
-  pub most : size ds w ≤ dequePlaces
+  pub has : n ≡ size ds w
+  pub some : 0 < n
+  pub most : n ≤ dequePlaces
   pub acting : p ≡ bottom ds w
   pub within : p < places
   pub is : f ≡ frameAt fs p
@@ -24,3 +25,7 @@ pub record Acts (ds fs : List ℕ) (w p : ℕ) (f : Frame) : Type 0 where
 -- the frame f at place p has a parent, at another place, or none
 abbrev pub ParentOf : ℕ → Frame → Type 0
 ParentOf p f = ((f .parent < places) × (f .parent ≢ p)) ⊎ (f .parent ≡ none)
+
+-- its parent, if it has one, has a live child
+abbrev pub ParentCounts : List ℕ → Frame → Type 0
+ParentCounts fs f = f .parent < places → 0 < frameAt fs (f .parent) .outstanding

@@ -1,8 +1,9 @@
 // The deques: for each worker its length, then places for its frames from the top.
 ghost use mathlib.Core.Path.{_≡_};
-ghost use Prim.Native.Nat.{_+_, _≤_, _<_};
-ghost use lib.ListN.{length, getD, replicate};
-ghost use Rattle.frames.specs.Widths.{maxWorkers, dequePlaces, dequeWords};
+ghost use Prim.Native.Nat.{_+_, _-_, _≤_, _<_};
+ghost use lib.ListN.{length, set, replicate};
+ghost use Rattle.words.specs.Basics.{plus};
+ghost use Rattle.frames.specs.Widths.{maxWorkers, dequePlaces, dequeStride, dequeWords};
 ghost use Rattle.frames.specs.Deques.{size, setSize, place, setPlace, bottom, top, push, pop, shiftUp, dropTop, initDeques};
 use super::DEQUE_STRIDE;
 
@@ -44,41 +45,50 @@ pub fn top_at(deques: &[u32], w: u32) -> u32
     deques[DEQUE_STRIDE * (w as usize) + 1]
 }
 
-// The word n places past `at`.
-fn word_past(words: &[u32], at: usize, n: u32) -> u32
-    requires { ⌜ at + n < length (now words) ⌝ }
-    ensures { λ r. ⌜ r ≡ getD (now (words .entry)) (at + n) 0 ⌝ }
-{
-    words[at + (n as usize)]
-}
-
-// The place of the frame that worker w executes.
-pub fn acting_place(deques: &[u32], w: u32) -> u32
-    requires { ⌜ (length (now deques) ≡ dequeWords) × (w < maxWorkers) × (0 < size (now deques) w) × (size (now deques) w ≤ dequePlaces) ⌝ }
+// The place of the frame that worker w executes, which has n of them.
+pub fn acting_place(deques: &[u32], w: u32, n: u32) -> u32
+    requires { ⌜ (length (now deques) ≡ dequeWords) × (w < maxWorkers) × (n ≡ size (now deques) w) × (0 < n) × (n ≤ dequePlaces) ⌝ }
     ensures { λ r. ⌜ r ≡ bottom (now (deques .entry)) w ⌝ }
 {
     let at = DEQUE_STRIDE * (w as usize);
-    word_past(deques, at, deques[at])
+    let deque = &deques[at..];
+    deque[n as usize]
 }
 
-// A frame more at the bottom.
-pub fn push_on(deques: &mut [u32], w: u32, p: u32)
-    requires { ⌜ (length (now deques) ≡ dequeWords) × (w < maxWorkers) × (size (now deques) w < dequePlaces) ⌝ }
-    ensures { λ _. ⌜ now (deques .exit) ≡ push (now (deques .entry)) w p ⌝ }
+// One deque's words, of which n are frames: a frame more at the bottom.
+fn push_in(deque: &mut [u32], n: u32, p: u32)
+    requires { ⌜ (dequeStride ≤ length (now deque)) × (n < dequePlaces) ⌝ }
+    ensures { λ _. ⌜ now (deque .exit) ≡ set (set (now (deque .entry)) (1 + n) p) 0 (plus n 1) ⌝ }
 {
-    let n = size_at(deques, w);
-    put_place(deques, w, n, p);
-    put_size(deques, w, words::add(n, 1));
+    deque[1 + (n as usize)] = p;
+    deque[0] = words::add(n, 1);
 }
 
 // The bottom frame taken off.
-pub fn pop_off(deques: &mut [u32], w: u32)
-    requires { ⌜ (length (now deques) ≡ dequeWords) × (w < maxWorkers) × (0 < size (now deques) w) × (size (now deques) w ≤ dequePlaces) ⌝ }
+fn pop_in(deque: &mut [u32], n: u32)
+    requires { ⌜ (dequeStride ≤ length (now deque)) × (0 < n) × (n ≤ dequePlaces) ⌝ }
+    ensures { λ _. ⌜ now (deque .exit) ≡ set (set (now (deque .entry)) n 0) 0 (n - 1) ⌝ }
+{
+    deque[n as usize] = 0;
+    deque[0] = n - 1;
+}
+
+// A frame more at the bottom of worker w's deque, which has n.
+pub fn push_on(deques: &mut [u32], w: u32, n: u32, p: u32)
+    requires { ⌜ (length (now deques) ≡ dequeWords) × (w < maxWorkers) × (n ≡ size (now deques) w) × (n < dequePlaces) ⌝ }
+    ensures { λ _. ⌜ now (deques .exit) ≡ push (now (deques .entry)) w p ⌝ }
+{
+    let at = DEQUE_STRIDE * (w as usize);
+    push_in(&mut deques[at..], n, p);
+}
+
+// The bottom frame taken off worker w's deque, which has n.
+pub fn pop_off(deques: &mut [u32], w: u32, n: u32)
+    requires { ⌜ (length (now deques) ≡ dequeWords) × (w < maxWorkers) × (n ≡ size (now deques) w) × (0 < n) × (n ≤ dequePlaces) ⌝ }
     ensures { λ _. ⌜ now (deques .exit) ≡ pop (now (deques .entry)) w ⌝ }
 {
-    let n = size_at(deques, w) - 1;
-    put_place(deques, w, n, 0);
-    put_size(deques, w, n);
+    let at = DEQUE_STRIDE * (w as usize);
+    pop_in(&mut deques[at..], n);
 }
 
 // The first count places take the frame of the next place.
@@ -111,5 +121,5 @@ pub fn init_deques(deques: &mut [u32])
     ensures { λ _. ⌜ now (deques .exit) ≡ initDeques (replicate dequeWords 0) ⌝ }
 {
     words::clear_all(deques);
-    push_on(deques, 0, 0);
+    push_on(deques, 0, 0, 0);
 }

@@ -108,6 +108,14 @@ pub fn root_at(frames: &[u32], p: u32) -> u32
     frames[RECORD_WORDS * (p as usize) + 5]
 }
 
+// Is the frame at place p suspended?
+pub fn suspended_at(frames: &[u32], p: u32) -> u32
+    requires { ⌜ (length (now frames) ≡ frameWords) × (p < places) ⌝ }
+    ensures { λ r. ⌜ r ≡ frameAt (now (frames .entry)) p .suspended ⌝ }
+{
+    frames[RECORD_WORDS * (p as usize) + 4]
+}
+
 // Gives the frame at place p another number of live children.
 pub fn set_outstanding(frames: &mut [u32], p: u32, n: u32)
     requires { ⌜ (length (now frames) ≡ frameWords) × (p < places) ⌝ }

@@ -9,7 +9,7 @@ ghost use Rattle.frames.specs.Frames.{frameAt};
 ghost use Rattle.frames.specs.Deques.{size};
 ghost use Rattle.frames.specs.Steps.{spawn, steal};
 ghost use Rattle.frames.specs.Promises.{table, IsReturn, IsParentAfter, IsSync};
-ghost use Rattle.frames.specs.Ranges.{Acts, ParentOf};
+ghost use Rattle.frames.specs.Ranges.{Acts, ParentOf, ParentCounts};
 use super::Ended;
 use super::Frame;
 use super::NONE;
@@ -17,7 +17,6 @@ use super::Returned;
 use super::Synced;
 use super::deques::pop_off;
 use super::deques::push_on;
-use super::deques::size_at;
 use super::deques::top_at;
 use super::deques::top_off;
 use super::records::child_of;
@@ -26,45 +25,54 @@ use super::records::free_place;
 use super::records::put_frame;
 use super::records::set_outstanding;
 use super::records::set_suspended;
+use super::records::suspended_at;
 
-// A child of worker w's bottom frame, which is f at place p, in the first free place, goes to the bottom of the same deque. Gives the first
+// A child of worker w's bottom frame, the n-th, which is f at place p, in the first free place, goes to the bottom of the same deque. Gives the first
 // free place.
 pub fn spawn_frame(
     deques: &mut [u32],
     frames: &mut [u32],
     free: u32,
     w: u32,
+    n: u32,
     p: u32,
     f: Frame,
 ) -> u32
-    requires { ⌜ Acts (now deques) (now frames) w p f × (size (now deques) w < dequePlaces) × (free < places) ⌝ }
+    requires { ⌜ Acts (now deques) (now frames) w n p f × (n < dequePlaces) × (free < places) ⌝ }
     ensures { λ r. ⌜ table (now (deques .exit)) (now (frames .exit)) r ≡ spawn (table (now (deques .entry)) (now (frames .entry)) free) w ⌝ }
 {
     let next = frame_at(frames, free);
     set_outstanding(frames, p, words::add(f.outstanding, 1));
     put_frame(frames, free, child_of(f, p));
-    push_on(deques, w, free);
+    push_on(deques, w, n, free);
     next.parent
 }
 
-// The parent, which is f at place q, has a live child less; perhaps it resumes.
-fn return_to(deques: &mut [u32], frames: &mut [u32], w: u32, q: u32, f: Frame) -> Returned
-    requires { ⌜ (length (now deques) ≡ dequeWords) × (length (now frames) ≡ frameWords) × (w < maxWorkers) × (q < places) × (size (now deques) w < dequePlaces) × (f ≡ frameAt (now frames) q) ⌝ }
+// The parent, at place q with so many live children, has one less; perhaps it resumes. Worker w has n frames left.
+fn return_to(
+    deques: &mut [u32],
+    frames: &mut [u32],
+    w: u32,
+    n: u32,
+    q: u32,
+    children: u32,
+) -> Returned
+    requires { ⌜ (length (now deques) ≡ dequeWords) × (length (now frames) ≡ frameWords) × (w < maxWorkers) × (q < places) × (n ≡ size (now deques) w) × (children ≡ frameAt (now frames) q .outstanding) × (0 < children) ⌝ }
     ensures { λ r. ⌜ IsParentAfter (now (deques .entry)) (now (frames .entry)) w q (now (deques .exit)) (now (frames .exit)) r ⌝ }
 {
-    let left = words::sub(f.outstanding, 1);
+    let left = children - 1;
     set_outstanding(frames, q, left);
-    if size_at(deques, w) != 0 {
+    if n != 0 {
         return Returned::Continued;
     }
-    if f.suspended != 1 {
+    if suspended_at(frames, q) != 1 {
         return Returned::Idle;
     }
     if left != 0 {
         return Returned::Idle;
     }
     set_suspended(frames, q, 0);
-    push_on(deques, w, q);
+    push_on(deques, w, n, q);
     Returned::Resumed
 }
 
@@ -74,13 +82,14 @@ pub fn return_frame(
     frames: &mut [u32],
     free: u32,
     w: u32,
+    n: u32,
     p: u32,
     f: Frame,
 ) -> Ended
-    requires { ⌜ Acts (now deques) (now frames) w p f × ParentOf p f ⌝ }
+    requires { ⌜ Acts (now deques) (now frames) w n p f × ParentOf p f × ParentCounts (now frames) f ⌝ }
     ensures { λ r. ⌜ IsReturn (table (now (deques .entry)) (now (frames .entry)) free) w (table (now (deques .exit)) (now (frames .exit)) (r .«free_place»)) (r .outcome) ⌝ }
 {
-    pop_off(deques, w);
+    pop_off(deques, w, n);
     put_frame(frames, p, free_place(free));
     let q = f.parent;
     if q == NONE {
@@ -90,7 +99,7 @@ pub fn return_frame(
         };
     }
     let parent = frame_at(frames, q);
-    let outcome = return_to(deques, frames, w, q, parent);
+    let outcome = return_to(deques, frames, w, n - 1, q, parent.outstanding);
     Ended {
         free_place: p,
         outcome,
@@ -104,18 +113,25 @@ pub fn steal_frame(deques: &mut [u32], w: u32, v: u32)
 {
     let p = top_at(deques, v);
     top_off(deques, v);
-    push_on(deques, w, p);
+    push_on(deques, w, 0, p);
 }
 
 // Worker w's bottom frame, which is f at place p, passes, or waits for its children.
-pub fn sync_frame(deques: &mut [u32], frames: &mut [u32], w: u32, p: u32, f: Frame) -> Synced
-    requires { ⌜ Acts (now deques) (now frames) w p f ⌝ }
+pub fn sync_frame(
+    deques: &mut [u32],
+    frames: &mut [u32],
+    w: u32,
+    n: u32,
+    p: u32,
+    f: Frame,
+) -> Synced
+    requires { ⌜ Acts (now deques) (now frames) w n p f ⌝ }
     ensures { λ r. ⌜ IsSync (now (deques .entry)) (now (frames .entry)) w (now (deques .exit)) (now (frames .exit)) r ⌝ }
 {
     if f.outstanding == 0 {
         return Synced::Passed;
     }
     set_suspended(frames, p, 1);
-    pop_off(deques, w);
+    pop_off(deques, w, n);
     Synced::Suspended
 }

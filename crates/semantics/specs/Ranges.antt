@@ -10,7 +10,7 @@ use Rattle.sizes.specs.Sizes.{height}
 use Rattle.pool.specs.Links.{Link, LinksIn, PathIn}
 use Rattle.frames.specs.Widths.{maxWorkers, places, frameWords, dequePlaces, dequeWords}
 use Rattle.frames.specs.Deques.{size, place, bottom}
-use Rattle.frames.specs.Ranges.{ParentOf}
+use Rattle.frames.specs.Ranges.{ParentOf, ParentCounts}
 use Rattle.soundness.specs.Soundness.{sound, freeCount}
 use Rattle.semantics.specs.Core.{Core, actingIn}
 
@@ -34,9 +34,11 @@ pub record Ready (c : Core) : Type 0 where
   pub free-node : Link (c .head .numbers .nodes) (c .head .numbers .«free_node»)
   pub free-place : (c .head .numbers .«free_place» < places) ⊎ (c .head .numbers .«free_place» ≡ none)
   pub sizes : (w : ℕ) → w < maxWorkers → size (c .deques) w ≤ dequePlaces
+  pub absent : (w : ℕ) → w < maxWorkers → c .head .numbers .workers ≤ w → size (c .deques) w ≡ 0
   pub held : (w k : ℕ) → w < maxWorkers → k < size (c .deques) w → place (c .deques) w k < places
   -- a place is free, so fewer than 64 frames live
   pub room : (w : ℕ) → w < maxWorkers → c .head .numbers .«free_place» < places → size (c .deques) w < dequePlaces
   pub root : (w : ℕ) → w < maxWorkers → 0 < size (c .deques) w → actingIn c w .root < c .head .numbers .nodes
   pub parent : (w : ℕ) → w < maxWorkers → 0 < size (c .deques) w → ParentOf (bottom (c .deques) w) (actingIn c w)
+  pub counts : (w : ℕ) → w < maxWorkers → 0 < size (c .deques) w → ParentCounts (c .frames) (actingIn c w)
   pub path : (w x : ℕ) → w < maxWorkers → 0 < size (c .deques) w → x < c .head .numbers .splitters → PathIn (c .head .numbers .nodes) (c .pool) (c .head .height) (actingIn c w .root) x

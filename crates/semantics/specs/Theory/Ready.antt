@@ -1,16 +1,16 @@
 -- What a sound core gives to code that indexes the deques, the frame table and the pool without a test.
-use mathlib.Core.Path.{_≡_, sym, ap, _∙_, subst}
+use mathlib.Core.Path.{_≡_, refl, sym, ap, _∙_, subst}
 use mathlib.Core.Logic.{_⊎_, inl, inr}
-use mathlib.Core.Bool.{cond}
+use mathlib.Core.Bool.{Bool, true, cond}
 use mathlib.Core.List.{List, [], _∷_}
 use Prim.Native.Nat.{ℕ, suc, _-_, _≤_, _<_}
 use native.Mathlib.Omega.{arith}
 use native.Mathlib.Decide.{ℕ-discrete}
 use lib.ListN.{length}
 use borrow.Author.Tests.{eq-eqb}
-use Rattle.words.specs.Basics.{none, Chain, below, δ, count}
+use Rattle.words.specs.Basics.{none, Chain, below, δ, count, howMany}
 use Rattle.words.specs.Chains.{chain-start}
-use Rattle.words.specs.Counting.{δ-same, δ-other, δ-le, count-cons, sum-ge}
+use Rattle.words.specs.Counting.{hit, δ-same, δ-other, δ-le, count-cons, sum-ge}
 use Rattle.words.specs.Tallies.{and-of}
 use Rattle.words.specs.Tests.{ltb-of}
 use Rattle.sizes.specs.Sizes.{height, width, treeNodes}
@@ -23,10 +23,10 @@ use Rattle.pool.specs.Theory.LiveLinks.{live-links, live-free, live-path}
 use Rattle.frames.specs.Widths.{places, dequePlaces}
 use Rattle.frames.specs.Frames.{frameAt}
 use Rattle.frames.specs.Deques.{size, place, bottom, dequeList}
-use Rattle.frames.specs.Ranges.{ParentOf}
+use Rattle.frames.specs.Ranges.{ParentOf, ParentCounts}
 use Rattle.frames.specs.Theory.Lists.{list-length}
 use Rattle.frames.specs.Theory.Places.{nextFree}
-use Rattle.soundness.specs.Soundness.{lives, rootsBelow, liveRoots, freeNodes}
+use Rattle.soundness.specs.Soundness.{lives, isChild, rootsBelow, liveRoots, freeNodes}
 use Rattle.semantics.specs.Core.{Core, actingIn}
 use Rattle.semantics.specs.Entries.{numbersOf, stateOf}
 use Rattle.soundness.specs.Theory.FreeLists.{once-short}
@@ -42,6 +42,10 @@ unfolding treeNodes
 tree-positive n p = omega (arith, sum-ge (suc (height n)) 0 (width n) (omega arith), width-pos n 0 p)
 
 -- ---- frames and deques
+
+-- a number that counts p
+counted : (n p : ℕ) (f : ℕ → Bool) {k : ℕ} → p < n → f p ≡ true → k ≡ howMany n f → 0 < k
+counted n p f b t e = omega (arith, e, sum-ge n p (λ d. cond (f d) 1 0) b, hit t)
 
 module _ {workers first : ℕ} {ds fs : List ℕ} (F : FramesFacts workers first ds fs) (few : workers ≤ 8) where
   -- a frame stands at most once in a deque, and only if it lives
@@ -87,6 +91,15 @@ module _ {workers first : ℕ} {ds fs : List ℕ} (F : FramesFacts workers first
     | no e ↦ inl (F .parents p b l e .0, λ q. omega (arith, F .parents p b l e .2, ap (λ z. frameAt fs z .depth) q))
   ]
 
+  -- the parent of a live frame lives, and has it as a child
+  live-counts : (p : ℕ) → p < 64 → Lives fs p → ParentCounts fs (frameAt fs p)
+  live-counts p b l h = elim (ℕ-discrete (frameAt fs p .depth) 0) [
+    | yes e ↦ elim (F .one-main) [ inl n ↦ absurd (n .0 p b l) | inr m ↦ absurd (omega (arith, h, ap (λ q. frameAt fs q .parent) (m .only p b l e), m .orphan)) ]
+    | no e ↦ (let q = frameAt fs p .parent in
+        let r = F .parents p b l e in
+        counted 64 p (isChild fs q) b (and-of (eq-eqb (frameAt fs p .live) 1 l) (eq-eqb q q refl)) (F .outstanding q (r .0) (r .1)))
+  ]
+
 -- a live frame's root is one of the roots
 root-counted : (fs : List ℕ) (c p : ℕ) → p < c → Lives fs p → 0 < count (frameAt fs p .root) (rootsBelow fs c)
 root-counted fs c p b l =
@@ -130,10 +143,12 @@ module _ (c : Core) (K : Kept c) where
         free-node = live-free N (height n) n small (height-covers n) trees;
         free-place = chain-start places (nextFree (c .frames)) (c .head .numbers .«free_place») (F .places .gs) (F .places .chain);
         sizes = F .within;
+        absent = F .absent;
         held = λ w k b h. F .hold-live w b k h .0;
         room = λ w b h. deque-room F few h w b;
         root = λ w b h. trees .roots (actingIn c w .root) (acting-root w b h) .inside;
         parent = λ w b h. (let r = bottom-lives F few w b h in live-parent F few (bottom (c .deques) w) (r .0) (r .1));
+        counts = λ w b h. (let r = bottom-lives F few w b h in live-counts F few (bottom (c .deques) w) (r .0) (r .1));
         path = λ w x b h i.
             subst (λ (t : ℕ). PathIn N (c .pool) t (actingIn c w .root) x) (sym (K .height-is))
             (live-path N (height n) n small (height-covers n) trees (actingIn c w .root) x (acting-root w b h) i);

@@ -31,13 +31,13 @@ release-requires c κs =
     let f = frame-of (c .before .before) in
     let s = start-of f in
     let r = s .pre .0 in
-    (r .links, r .nodes-positive, r .free-node, root-link _ _ _ r (s .pre .1) _ (f .frame-at .ensures))
+    (r .links, r .nodes-positive, r .free-node, root-link _ _ _ _ r (s .pre .1) _ (f .frame-at .ensures))
 
 return-frame-requires : tie.Need-return-frame-requires
 return-frame-requires c κs =
     let f = frame-of (c .before .before .before .before .before .before .before) in
     let s = start-of f in
-    return-asks _ _ _ (s .pre .0) (s .pre .1) _ (f .frame-at .ensures)
+    return-asks _ _ _ _ (s .pre .0) (s .pre .1) _ (f .frame-at .ensures)
 
 same-length-2 : tie.Need-same-length-2
 same-length-2 c = search needs

@@ -26,14 +26,14 @@ retain-requires : tie.Need-retain-requires
 retain-requires c κs =
     let f = c .before in
     let s = start-of (else-of f) in
-    (s .pre .0 .links .room, root-link _ _ _ (s .pre .0) (s .pre .1) _ (f .frame-at .ensures))
+    (s .pre .0 .links .room, root-link _ _ _ _ (s .pre .0) (s .pre .1) _ (f .frame-at .ensures))
 
 spawn-frame-requires : tie.Need-spawn-frame-requires
 spawn-frame-requires c κs =
     let f = c .before .before .before .before .before .before in
     let e = else-of f in
     let s = start-of e in
-    spawn-asks _ _ _ (s .pre .0) (s .pre .1) _ (f .frame-at .ensures) (e .if1 .left)
+    spawn-asks _ _ _ _ (s .pre .0) (s .pre .1) _ (f .frame-at .ensures) (e .if1 .left)
 
 add-requires : tie.Need-add-requires
 add-requires c κs = search needs

@@ -23,7 +23,7 @@ read-at-requires : tie.Need-read-at-requires
 read-at-requires c κs =
     let e = c .before .before .before in
     let s = start-of e in
-    read-asks _ _ _ (s .pre .0) (s .pre .1) _ (c .root-at .ensures) (s .args .x) (e .if1 .left)
+    read-asks _ _ _ _ (s .pre .0) (s .pre .1) _ (c .root-at .ensures) (s .args .x) (e .if1 .left)
 
 unchanged-requires : tie.Need-unchanged-requires
 unchanged-requires c κs = search needs

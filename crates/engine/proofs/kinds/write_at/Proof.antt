@@ -11,6 +11,9 @@ start-of e = e .before .before .before .before .before
 abbrev within-of : tie.Else2 → tie.Else1
 within-of e = e .before .before
 
+abbrev root-of : tie.After-set-root → tie.After-root-at
+root-of f = f .before .before
+
 refused-requires : tie.Need-refused-requires
 refused-requires c κs = search needs
 
@@ -31,14 +34,14 @@ returns-2 c =
 root-at-requires : tie.Need-root-at-requires
 root-at-requires c κs = search needs
 
-write-path-requires : tie.Need-write-path-requires
-write-path-requires c κs =
-    let root = c .before in
-    let s = start-of (within-of (root .before .before)) in
-    write-asks _ _ _ (s .pre .0) (s .pre .1) _ (root .root-at .ensures)
-
 set-root-requires : tie.Need-set-root-requires
 set-root-requires c κs = search needs
+
+write-path-requires : tie.Need-write-path-requires
+write-path-requires c κs =
+    let root = root-of (c .before .before .before) in
+    let s = start-of (within-of (root .before .before)) in
+    write-asks _ _ _ _ (s .pre .0) (s .pre .1) _ (root .root-at .ensures)
 
 same-length : tie.Need-same-length
 same-length c = search needs
@@ -48,9 +51,9 @@ same-length-2 c = search needs
 
 returns-3 : tie.Need-returns-3
 returns-3 c =
-    let stored = c .before .before in
-    let written = stored .before .before .before .before in
-    let root = written .before .before in
+    let written = c .before .before in
+    let stored = written .before .before .before .before in
+    let root = root-of stored in
     let room = root .before .before in
     let e = within-of room in
     let s = start-of e in
@@ -65,8 +68,8 @@ write-at-spec =
     refused-requires-2
     returns-2
     root-at-requires
-    write-path-requires
     set-root-requires
+    write-path-requires
     same-length
     same-length-2
     returns-3)

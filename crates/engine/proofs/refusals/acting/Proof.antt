@@ -4,7 +4,7 @@ use Prim.Native.Nat.{_<_}
 use native.Mathlib.Omega.{arith}
 use Rattle.frames.specs.Widths.{maxWorkers}
 use Rattle.frames.specs.Deques.{size}
-use Rattle.engine.proofs.Laws.{acting-no-worker, acting-passes, acting-main-returned, acting-idle}
+use Rattle.engine.proofs.Laws.{idles-is, acting-no-worker, acting-passes, acting-main-returned, acting-idle}
 use borrow.Author.Needs.{needs}
 use Rattle.engine.proofs.refusals.acting.Statement.{statement}
 use Rattle.engine.proofs.refusals.acting.Tie as tie
@@ -28,16 +28,14 @@ acting-place-requires c κs =
     let e = n .before in
     let s = left-of e in
     let l : s .args .w < maxWorkers = omega (arith, s .pre .workers-le) in
-    let busy : 0 < size (s .args .deques .now) (s .args .w) = omega (arith, n .size-at .ensures, c .if2 .taken) in
-    (s .pre .long, l, busy, s .pre .sizes (s .args .w) l)
+    (s .pre .long, l, n .size-at .ensures, omega (arith, c .if2 .taken), omega (arith, n .size-at .ensures, s .pre .sizes (s .args .w) l))
 
 returns-2 : tie.Need-returns-2
 returns-2 c =
     let n = c .before .before in
     let e = n .before in
     let s = left-of e in
-    let busy : 0 < size (s .args .deques .now) (s .args .w) = omega (arith, n .size-at .ensures, c .before .if2 .taken) in
-    (e .if1 .left, acting-passes (s .args .h) _ _ _ (e .if1 .left) (n .size-at .ensures) (c .before .if2 .taken), record { busy = busy; acting = c .acting-place .ensures })
+    (e .if1 .left, acting-passes (s .args .h) _ _ _ (e .if1 .left) (n .size-at .ensures) (c .before .if2 .taken), record { has = n .size-at .ensures; busy = omega (arith, c .before .if2 .taken); acting = c .acting-place .ensures })
 
 all-idle-requires : tie.Need-all-idle-requires
 all-idle-requires c κs = search needs
@@ -46,14 +44,16 @@ returns-3 : tie.Need-returns-3
 returns-3 c =
     let i = c .before in
     let e = i .before .before .before in
-    acting-main-returned (left-of e .args .h) _ _ (e .if1 .left) (sym (i .all-idle .ensures) ∙ c .if3 .taken)
+    let s = left-of e in
+    acting-main-returned (s .args .h) _ _ (e .if1 .left) (sym (idles-is (s .args .h) _ (s .pre)) ∙ sym (i .all-idle .ensures) ∙ c .if3 .taken)
 
 returns-4 : tie.Need-returns-4
 returns-4 c =
     let i = c .before in
     let n = i .before .before in
     let e = n .before in
-    acting-idle (left-of e .args .h) _ _ _ (e .if1 .left) (n .size-at .ensures) (i .before .if2 .left) (sym (i .all-idle .ensures) ∙ c .if3 .left)
+    let s = left-of e in
+    acting-idle (s .args .h) _ _ _ (e .if1 .left) (n .size-at .ensures) (i .before .if2 .left) (sym (idles-is (s .args .h) _ (s .pre)) ∙ sym (i .all-idle .ensures) ∙ c .if3 .left)
 
 pub acting-spec : {M : Type 1} → statement M
 acting-spec =

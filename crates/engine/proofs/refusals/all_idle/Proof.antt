@@ -6,16 +6,17 @@ use native.Mathlib.Omega.{arith}
 use borrow.Author.Needs.{needs}
 use borrow.Author.Tests.{eq-eqb, ne-eqb}
 use Rattle.words.specs.Basics.{all}
+use Rattle.frames.specs.Widths.{maxWorkers}
 use Rattle.frames.specs.Deques.{size}
 use Rattle.engine.proofs.Laws.{all-less, all-not, all-none}
 use Rattle.engine.proofs.refusals.all_idle.Statement.{statement}
 use Rattle.engine.proofs.refusals.all_idle.Tie as tie
 
 abbrev Inv-loop : tie.InvT-loop
-Inv-loop workers deques left₀ left = (all left (λ w. eqb (size deques w) 0) ≡ all workers (λ w. eqb (size deques w) 0)) × (left ≤ workers)
+Inv-loop deques left₀ left = (all left (λ w. eqb (size deques w) 0) ≡ all maxWorkers (λ w. eqb (size deques w) 0)) × (left ≤ maxWorkers)
 
 abbrev μ-loop : tie.MeasureT-loop
-μ-loop workers deques left₀ left = left
+μ-loop deques left₀ left = left
 
 returns : tie.Need-returns Inv-loop μ-loop
 returns c =
@@ -38,7 +39,7 @@ all-idle-spec =
     μ-loop
     (λ c. (refl, omega arith))
     (λ c. search needs)
-    (λ c κs. (c .before .before .before .pre .0, omega arith))
+    (λ c κs. (c .before .before .before .pre, omega arith))
     returns
     (λ c. omega arith)
     loop-again

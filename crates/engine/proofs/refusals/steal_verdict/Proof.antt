@@ -2,7 +2,7 @@
 use borrow.Author.Needs.{needs}
 use borrow.Author.Tests.{not-true, not-false}
 use mathlib.Core.Path.{sym, _∙_}
-use Rattle.engine.proofs.Laws.{steal-no-worker, steal-busy, steal-passes, steal-main-returned, steal-no-victim}
+use Rattle.engine.proofs.Laws.{idles-is, steal-no-worker, steal-busy, steal-passes, steal-main-returned, steal-no-victim}
 use Rattle.engine.proofs.refusals.steal_verdict.Statement.{statement}
 use Rattle.engine.proofs.refusals.steal_verdict.Tie as tie
 
@@ -29,7 +29,7 @@ returns-4 c =
     let at-size-at = at-if2 .before in
     let at-if1 = at-size-at .before in
     let start = at-if1 .before .before .before in
-    steal-main-returned (start .args .h) _ _ _ (at-if1 .if1 .left) _ (at-size-at .size-at .ensures) (at-if2 .if2 .left) _ (at-no-victim .no-victim .ensures) (sym (at-all-idle .all-idle .ensures) ∙ c .if4 .taken)
+    steal-main-returned (start .args .h) _ _ _ (at-if1 .if1 .left) _ (at-size-at .size-at .ensures) (at-if2 .if2 .left) _ (at-no-victim .no-victim .ensures) (sym (idles-is (start .args .h) _ (start .pre)) ∙ sym (at-all-idle .all-idle .ensures) ∙ c .if4 .taken)
 
 returns-5 : tie.Need-returns-5
 returns-5 c =
@@ -40,7 +40,7 @@ returns-5 c =
     let at-size-at = at-if2 .before in
     let at-if1 = at-size-at .before in
     let start = at-if1 .before .before .before in
-    steal-no-victim (start .args .h) _ _ _ (at-if1 .if1 .left) _ (at-size-at .size-at .ensures) (at-if2 .if2 .left) _ (at-no-victim .no-victim .ensures) (not-false _ (at-if3 .if3 .left)) (sym (at-all-idle .all-idle .ensures) ∙ c .if4 .left)
+    steal-no-victim (start .args .h) _ _ _ (at-if1 .if1 .left) _ (at-size-at .size-at .ensures) (at-if2 .if2 .left) _ (at-no-victim .no-victim .ensures) (not-false _ (at-if3 .if3 .left)) (sym (idles-is (start .args .h) _ (start .pre)) ∙ sym (at-all-idle .all-idle .ensures) ∙ c .if4 .left)
 
 pub steal-verdict-spec : {M : Type 1} → statement M
 steal-verdict-spec = tie.close (tie.spec returns (λ c κs. search needs) returns-2 (λ c κs. search needs) returns-3 (λ c κs. search needs) returns-4 returns-5)

@@ -1,21 +1,32 @@
--- The bottom frame's place: one index past the worker's length, `bottom-is` of `specs.Theory.Sizes`.
-use mathlib.Core.Path.{refl, _∙_}
-use native.Mathlib.Omega.{arith}
+-- The bottom frame's place: n words past the worker's length, `bottom-is` of `specs.Theory.Sizes`.
+use mathlib.Core.Path.{ap, _∙_}
+use mathlib.Core.List.{List}
+use Prim.Native.Nat.{ℕ, _*_}
+use lib.ListN.{getD}
+use lib.Seq.{getD-drop}
 use borrow.Author.Needs.{needs}
-use Rattle.frames.specs.Deques.{size}
-use Rattle.frames.specs.Theory.Sizes.{bottom-is}
+use Rattle.frames.specs.Widths.{dequeStride}
+use Rattle.frames.specs.Theory.Sizes.{rest-is, bottom-is}
 use Rattle.frames.proofs.deques.acting_place.Statement.{statement}
 use Rattle.frames.proofs.deques.acting_place.Tie as tie
 
-word-past-requires : tie.Need-word-past-requires
-unfolding size
-word-past-requires c κs = omega arith
-
 returns : tie.Need-returns
-unfolding size
 returns c =
-    let s = c .before .before .before in
-    c .word-past .ensures ∙ bottom-is (s .args .deques .now) (s .args .w) _ refl (omega arith)
+    let s = c .before .before in
+    let ds = s .args .deques .now in
+    let w = s .args .w in
+    let n = s .args .n in
+    ap (λ (l : List ℕ). getD l n 0) (rest-is (dequeStride * w) ds) ∙ getD-drop (dequeStride * w) ds n 0 ∙ bottom-is ds w n (s .pre .2) (s .pre .3)
 
 pub acting-place-spec : {M : Type 1} → statement M
-acting-place-spec = tie.close (tie.spec (λ c. search needs) (λ c. search needs) (λ c. search needs) word-past-requires returns)
+acting-place-spec =
+    tie.close
+    (tie.spec
+    (λ c. search needs)
+    (λ c. search needs)
+    (λ c. search needs)
+    (λ c. search needs)
+    (λ c. search needs)
+    (λ c. search needs)
+    (λ c. search needs)
+    returns)

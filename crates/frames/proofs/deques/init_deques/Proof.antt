@@ -13,7 +13,7 @@ push-on-requires : tie.Need-push-on-requires
 unfolding size
 push-on-requires c κs =
     let z = c .before .before .before in
-    (z .clear-all .kept .0 ∙ start-of z .pre, omega arith, rw (z .clear-all .ensures, start-of z .pre) (omega arith))
+    (z .clear-all .kept .0 ∙ start-of z .pre, omega arith, rw (z .clear-all .ensures, start-of z .pre), omega arith)
 
 returns : tie.Need-returns
 unfolding initDeques

@@ -1,17 +1,24 @@
--- A place and the length are stored, as the definition has them (`pushed` of `proofs.Ends`).
+-- The worker's part of the words is stored to (`pushed` of `proofs.Ends`).
 use borrow.Author.Needs.{needs}
 use Rattle.frames.proofs.Ends.{pushed}
 use Rattle.frames.proofs.deques.push_on.Statement.{statement}
 use Rattle.frames.proofs.deques.push_on.Tie as tie
 
-abbrev placed-of : tie.After-add → tie.After-put-place
-placed-of a = a .before .before .before .before
-
 returns : tie.Need-returns
 returns c =
-    let s = c .before .before in
-    let p = placed-of (s .before) in
-    pushed _ _ _ _ _ (p .before .before .size-at .ensures) _ _ (p .put-place .ensures) (s .before .add .ensures) (s .put-size .ensures)
+    let d = c .before .before in
+    let s = d .before .before .before in
+    pushed (s .args .deques .now) (s .args .w) (s .args .n) (s .pre .2) _ (s .args .p) (d .push-in .ensures)
 
 pub push-on-spec : {M : Type 1} → statement M
-push-on-spec = tie.close (tie.spec (λ c κs. search needs) (λ c κs. search needs) (λ c κs. search needs) (λ c κs. search needs) (λ c. search needs) returns)
+push-on-spec =
+    tie.close
+    (tie.spec
+    (λ c. search needs)
+    (λ c. search needs)
+    (λ c. search needs)
+    (λ c. search needs)
+    (λ c. search needs)
+    (λ c κs. search needs)
+    (λ c. search needs)
+    returns)

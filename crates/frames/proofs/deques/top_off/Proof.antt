@@ -15,7 +15,7 @@ returns c =
     let s = c .before .before in
     let p = placed-of s in
     let m = moved-of p in
-    dropped _ _ _ _ _ (m .before .before .size-at .ensures) _ (m .move-up .ensures) (p .put-place .ensures) (s .put-size .ensures)
+    dropped _ _ _ (m .before .before .size-at .ensures) _ _ _ (m .move-up .ensures) (p .put-place .ensures) (s .put-size .ensures)
 
 pub top-off-spec : {M : Type 1} → statement M
 top-off-spec =

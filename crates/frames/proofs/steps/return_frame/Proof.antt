@@ -1,11 +1,15 @@
 -- The frame leaves its deque and its place, and the parent loses a child. The two ways out are in `proofs.Ends`.
 -- Below, the places that the answers speak of, each by its way from the next.
-use mathlib.Core.Path.{_∙_}
+use mathlib.Core.Path.{sym, ap, _∙_}
+use mathlib.Core.List.{List}
+use Prim.Native.Nat.{ℕ, _-_}
 use native.Mathlib.Omega.{arith}
 use borrow.Author.Needs.{needs}
+use Rattle.frames.specs.declared.Frame.{Frame}
+use Rattle.frames.specs.Deques.{size}
 use Rattle.frames.specs.Theory.Sizes.{length-pop, size-pop}
 use Rattle.frames.specs.Theory.Records.{length-setFrame}
-use Rattle.frames.proofs.Ends.{one-of, finished, returned-to}
+use Rattle.frames.proofs.Ends.{one-of, parent-counts, finished, returned-to}
 use Rattle.frames.proofs.steps.return_frame.Statement.{statement}
 use Rattle.frames.proofs.steps.return_frame.Tie as tie
 
@@ -41,14 +45,16 @@ return-to-requires c κs =
     let e = child-of q in
     let f = freed-of e in
     let d = popped-of f in
-    let r = start-of d .pre in
+    let s = start-of d in
+    let r = s .pre in
     let a = r .0 in (
       rw (d .pop-off .ensures) (length-pop _ _ ∙ a .long-deques),
       rw (f .put-frame .ensures) (length-setFrame _ _ _ ∙ a .long-frames),
       a .worker,
       one-of (r .1) (e .if1 .left) .0,
-      rw (d .pop-off .ensures) (size-pop _ _ (a .long-deques) (a .worker) (a .most) (a .some)),
-      q .frame-at .ensures,
+      ap (λ k. k - 1) (a .has) ∙ sym (ap (λ (l : List ℕ). size l (s .args .w)) (d .pop-off .ensures) ∙ size-pop _ _ (a .long-deques) (a .worker)),
+      ap (λ (g : Frame). g .outstanding) (q .frame-at .ensures),
+      rw (q .frame-at .ensures, f .put-frame .ensures) (parent-counts _ _ (s .args .f) _ (r .2) (one-of (r .1) (e .if1 .left))),
     )
 
 returns-2 : tie.Need-returns-2
@@ -72,6 +78,7 @@ return-frame-spec =
     (λ c. search needs)
     returns
     frame-at-requires
+    (λ c. search needs)
     return-to-requires
     (λ c. search needs)
     (λ c. search needs)
