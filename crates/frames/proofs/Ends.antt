@@ -25,7 +25,7 @@ use Rattle.frames.specs.Theory.Records.{frame-set-same, frame-set-other,
 -- ---- a deque: n is its length before
 
 module _ (ds : List ℕ) (w n : ℕ) (en : n ≡ size ds w) where
-  -- its own words after the two stores are `part`
+  -- its part of the words, from the worker's length on, is `part` after two stores
   pub pushed : (part : List ℕ) (p : ℕ) → part ≡ set (set (take (length ds - dequeStride * w) (drop (dequeStride * w) ds)) (1 + n) p) 0 (plus n 1)
       → take (dequeStride * w) ds ++ (part ++ drop (length ds - dequeStride * w) (drop (dequeStride * w) ds)) ≡ push ds w p
   unfolding push setPlace setSize
@@ -57,7 +57,7 @@ pub parent-counts : (fs : List ℕ) (p : ℕ) (f g : Frame) → ParentCounts fs 
 parent-counts fs p f g h o = rw (frame-set-other fs p (f .parent) g (o .1)) (h (o .0))
 
 module _ (ds fs : List ℕ) (w : ℕ) where
-  -- ---- the parent, of which f is the record, at place q: n live children are left, and s frames are on the worker's deque
+  -- ---- the parent, at place q: it has c live children, of which n are left, and s frames are on the worker's deque
   module _ (q n c s : ℕ) (fs₁ : List ℕ) (ec : c ≡ frameAt fs q .outstanding) (en : n ≡ c - 1)
       (e₁ : fs₁ ≡ setFrame fs q (withOutstanding (frameAt fs q) n)) (es : s ≡ size ds w) where
     stored : fs₁ ≡ setFrame fs q (withoutChild (frameAt fs q))

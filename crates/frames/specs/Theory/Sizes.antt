@@ -1,4 +1,4 @@
--- The bottom frame by one index; a worker's length, and the length of the words, after a frame is taken off.
+-- One deque as a part of the words; the bottom frame by one index; a worker's length, and the length of the words, after a frame is taken off.
 use mathlib.Core.Path.{_≡_, refl, sym, ap, _∙_}
 use mathlib.Core.List.{List, [], _∷_, _++_, append-nil}
 use Prim.Native.Nat.{ℕ, zero, suc, _+_, _-_, _*_, _≤_, _<_}
