@@ -1,7 +1,7 @@
 -- A turn and the end of the loops.
 use mathlib.Core.Path.{_≡_, refl, sym, ap, _∙_}
 use mathlib.Core.Logic.{_≢_}
-use mathlib.Core.Bool.{Bool, true, false, cond, _&&_, and-false}
+use mathlib.Core.Bool.{Bool, true, false, cond, _&&_, _||_, and-false}
 use mathlib.Core.List.{List}
 use Prim.Native.Nat.{ℕ, zero, suc, _+_, _-_, _≤_, _<_}
 use native.Mathlib.Numerals.{add-one, sub-one}
@@ -9,9 +9,9 @@ use native.Mathlib.Omega.{arith}
 use lib.Dec.{eqb, leb, ltb}
 use lib.ListN.{length, getD}
 use lib.Seq.{set-out}
-use borrow.Author.Tests.{leb-true, ltb-true, lt-ltb, le-ltb, eqb-true, eq-eqb, ne-eqb}
+use borrow.Author.Tests.{leb-true, le-leb, lt-leb, ltb-true, lt-ltb, le-ltb, eqb-true, eq-eqb, ne-eqb}
 use Rattle.words.specs.Basics.{none, all, howMany}
-use Rattle.words.specs.Counting.{all-at}
+use Rattle.words.specs.Counting.{all-at, all-of}
 use Rattle.words.specs.Tallies.{same-tests}
 use Rattle.words.specs.Tests.{both}
 use Rattle.frames.specs.Widths.{maxWorkers, places, dequePlaces}
@@ -19,7 +19,7 @@ use Rattle.frames.specs.declared.Frame.{Frame}
 use Rattle.frames.specs.Frames.{frameAt}
 use Rattle.frames.specs.Deques.{size, place}
 use Rattle.soundness.specs.Soundness.{framesSound}
-use Rattle.frame_check.specs.Algorithm.{childStep, childCount, dequeCount, bump, tally, childIn, tallyChildren, tallyDeque, tallyDeques, dequeFits, dequeSound, isFlat, mainAt, mains, liveAt, lives}
+use Rattle.frame_check.specs.Algorithm.{childStep, childCount, dequeCount, bump, tally, childIn, tallyChildren, tallyDeque, tallyDeques, zeroPast, dequeFits, dequeSound, isFlat, mainAt, mains, liveAt, lives}
 use Rattle.frame_check.specs.Algorithm.{liveSound, freeSound, placeTallied, placeChecked, next, chainFrom, zeros, checkFrames}
 use Rattle.frame_check.specs.Theory.Theorem.{check-frames}
 
@@ -29,6 +29,21 @@ at-end F {n} {k} a b e = let d : k ≡ n = omega arith in e ∙ ap F d
 
 pub all-turn : (k : ℕ) (f : ℕ → Bool) {b t : Bool} → b ≡ all k f → t ≡ f k → b && t ≡ all (k + 1) f
 all-turn k f e h = rw (add-one, e, h)
+
+-- from place n on: below it nothing is asked
+pub past-start : (ds : List ℕ) (w n : ℕ) → true ≡ all n (zeroPast ds w n)
+past-start ds w n = sym (all-of n (zeroPast ds w n) (λ i b. rw (lt-ltb i n b)))
+
+pub past-turn : (ds : List ℕ) (w n k : ℕ) {b t : Bool} → n ≤ k → b ≡ all k (zeroPast ds w n) → t ≡ eqb (place ds w k) 0 → b && t ≡ all (k + 1) (zeroPast ds w n)
+past-turn ds w n k h e d = all-turn k (zeroPast ds w n) e (rw (le-ltb k n h) d)
+
+-- a deque with more frames than places, and any other
+pub fits-over : (workers : ℕ) (ds : List ℕ) (w : ℕ) {n : ℕ} → n ≡ size ds w → dequePlaces < n → false ≡ dequeFits workers ds w
+fits-over workers ds w e h = rw (← e, lt-leb _ dequePlaces h)
+
+pub fits-within : (workers : ℕ) (ds : List ℕ) (w : ℕ) {n : ℕ} → n ≡ size ds w → n ≤ dequePlaces → {b : Bool} → b ≡ all dequePlaces (zeroPast ds w n)
+    → (ltb w workers || eqb n 0) && b ≡ dequeFits workers ds w
+fits-within workers ds w e h d = rw (← e, le-leb _ dequePlaces h, d)
 
 pub howMany-turn : (k : ℕ) (f : ℕ → Bool) {n t : ℕ} → n ≡ howMany k f → t ≡ cond (f k) 1 0 → n + t ≡ howMany (k + 1) f
 howMany-turn k f e h = rw (add-one, e, h)
