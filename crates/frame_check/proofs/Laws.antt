@@ -1,7 +1,7 @@
 -- A turn and the end of the loops.
 use mathlib.Core.Path.{_≡_, refl, sym, ap, _∙_}
-use mathlib.Core.Logic.{_≢_, inl, inr}
-use mathlib.Core.Bool.{Bool, true, false, cond, _&&_, _||_, and-false}
+use mathlib.Core.Logic.{_≢_}
+use mathlib.Core.Bool.{Bool, true, false, cond, _&&_, and-false}
 use mathlib.Core.List.{List}
 use Prim.Native.Nat.{ℕ, zero, suc, _+_, _-_, _≤_, _<_}
 use native.Mathlib.Numerals.{add-one, sub-one}
@@ -9,18 +9,17 @@ use native.Mathlib.Omega.{arith}
 use lib.Dec.{eqb, leb, ltb}
 use lib.ListN.{length, getD}
 use lib.Seq.{set-out}
-use borrow.Author.Tests.{leb-true, le-leb, lt-leb, ltb-true, lt-ltb, le-ltb, eqb-true, eq-eqb, ne-eqb}
+use borrow.Author.Tests.{leb-true, ltb-true, lt-ltb, le-ltb, eqb-true, eq-eqb, ne-eqb}
 use Rattle.words.specs.Basics.{none, all, howMany}
-use native.Mathlib.Decide.{ℕ-discrete, decLt}
-use Rattle.words.specs.Counting.{all-at, all-of, hit}
+use Rattle.words.specs.Counting.{all-at}
 use Rattle.words.specs.Tallies.{same-tests}
-use Rattle.words.specs.Tests.{decided, both}
+use Rattle.words.specs.Tests.{both}
 use Rattle.frames.specs.Widths.{maxWorkers, places, dequePlaces}
 use Rattle.frames.specs.declared.Frame.{Frame}
 use Rattle.frames.specs.Frames.{frameAt}
 use Rattle.frames.specs.Deques.{size, place}
 use Rattle.soundness.specs.Soundness.{framesSound}
-use Rattle.frame_check.specs.Algorithm.{childStep, childCount, dequeCount, bump, tally, childIn, tallyChildren, tallyDeque, tallyDeques, zeroPast, dequeFits, dequeSound, isFlat, mainAt, mains, liveAt, lives}
+use Rattle.frame_check.specs.Algorithm.{childStep, childCount, dequeCount, bump, tally, childIn, tallyChildren, tallyDeque, tallyDeques, dequeFits, dequeSound, isFlat, mainAt, mains, liveAt, lives}
 use Rattle.frame_check.specs.Algorithm.{liveSound, freeSound, placeTallied, placeChecked, next, chainFrom, zeros, checkFrames}
 use Rattle.frame_check.specs.Theory.Theorem.{check-frames}
 
@@ -30,21 +29,6 @@ at-end F {n} {k} a b e = let d : k ≡ n = omega arith in e ∙ ap F d
 
 pub all-turn : (k : ℕ) (f : ℕ → Bool) {b t : Bool} → b ≡ all k f → t ≡ f k → b && t ≡ all (k + 1) f
 all-turn k f e h = rw (add-one, e, h)
-
--- from place n on: below it nothing is asked
-pub past-start : (ds : List ℕ) (w n : ℕ) → true ≡ all n (zeroPast ds w n)
-past-start ds w n = sym (all-of n (zeroPast ds w n) (λ i b. rw (lt-ltb i n b)))
-
-pub past-turn : (ds : List ℕ) (w n k : ℕ) {b t : Bool} → n ≤ k → b ≡ all k (zeroPast ds w n) → t ≡ eqb (place ds w k) 0 → b && t ≡ all (k + 1) (zeroPast ds w n)
-past-turn ds w n k h e d = all-turn k (zeroPast ds w n) e (rw (le-ltb k n h) d)
-
--- a deque with more frames than places, and any other
-pub fits-over : (workers : ℕ) (ds : List ℕ) (w : ℕ) {n : ℕ} → n ≡ size ds w → dequePlaces < n → false ≡ dequeFits workers ds w
-fits-over workers ds w e h = rw (← e, lt-leb _ dequePlaces h)
-
-pub fits-within : (workers : ℕ) (ds : List ℕ) (w : ℕ) {n : ℕ} → n ≡ size ds w → n ≤ dequePlaces → {b : Bool} → b ≡ all dequePlaces (zeroPast ds w n)
-    → (ltb w workers || eqb n 0) && b ≡ dequeFits workers ds w
-fits-within workers ds w e h d = rw (← e, le-leb _ dequePlaces h, d)
 
 pub howMany-turn : (k : ℕ) (f : ℕ → Bool) {n t : ℕ} → n ≡ howMany k f → t ≡ cond (f k) 1 0 → n + t ≡ howMany (k + 1) f
 howMany-turn k f e h = rw (add-one, e, h)
@@ -91,50 +75,6 @@ pass-end fs ts P a b = (
   at-end (λ k. howMany k (mainAt fs)) a b (P .main-is),
   at-end (λ k. howMany k (liveAt fs)) a b (P .live-is),
 )
-
--- ---- the live places, left of which `left` are to come from p on
-module _ (n : ℕ) (f : ℕ → Bool) where
-  upto : (m p : ℕ) → p ≤ m → howMany p f ≤ howMany m f
-  upto zero p h = let e : p ≡ 0 = omega arith in omega (arith, ap (λ k. howMany k f) e)
-  upto (suc m) p h = elim (ℕ-discrete p (suc m)) [
-    | yes e ↦ omega (arith, ap (λ k. howMany k f) e)
-    | no e ↦ omega (arith, upto m p (omega arith))
-  ]
-
-  pub all-left : (left : ℕ) → left ≡ howMany n f → howMany 0 f + left ≡ howMany n f
-  all-left left e = omega arith
-
-  pub more-places : (p left : ℕ) → howMany p f + left ≡ howMany n f → 0 < left → p ≤ n → p < n
-  more-places p left e h b = elim (ℕ-discrete p n) [
-    | yes d ↦ absurd (omega (arith, ap (λ k. howMany k f) d))
-    | no d ↦ omega arith
-  ]
-
-  pub one-left : (p left : ℕ) → howMany p f + left ≡ howMany n f → p < n → cond (f p) 1 0 ≤ left
-  one-left p left e b = omega (arith, upto n (suc p) (omega arith))
-
-  pub fewer-left : (p left t : ℕ) → howMany p f + left ≡ howMany n f → t ≡ cond (f p) 1 0 → t ≤ left → howMany (p + 1) f + (left - t) ≡ howMany n f
-  fewer-left p left t e d h = rw add-one (omega (arith, e, d))
-
-  -- where it fails nothing is asked
-  pub none-left : (g : ℕ → Bool) → ((i : ℕ) → f i ≡ false → g i ≡ true) → (p left : ℕ) → howMany p f + left ≡ howMany n f → left ≤ 0 → true ≡ all p g → true ≡ all n g
-  none-left g h p left e z a = sym (all-of n g (λ i b. elim (decLt i p) [
-    | yes l ↦ all-at p g (sym a) i l
-    | no l ↦ elim (decided (f i)) [ inl t ↦ absurd (omega (arith, upto n (suc i) (omega arith), upto i p (omega arith), hit t)) | inr t ↦ h i t ]
-  ]))
-
-pub dead-sound : (fs ts : List ℕ) (i : ℕ) → liveAt fs i ≡ false → placeTallied fs ts i ≡ true
-dead-sound fs ts i e = rw e
-
--- the next place
-pub next-fits : {p : ℕ} → p < places → p + 1 < 4294967296
-next-fits h = omega arith
-
-pub next-less : {p : ℕ} → p < places → places - (p + 1) < places - p
-next-less h = omega arith
-
-pub next-le : {p : ℕ} → p < places → p + 1 ≤ places
-next-le h = omega arith
 
 -- ---- along the chain
 module _ (fs : List ℕ) where

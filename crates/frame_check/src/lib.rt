@@ -27,5 +27,5 @@ pub fn check_frames(workers: u32, first: u32, deques: &[u32], frames: &[u32]) ->
     let census = tallies::tally_children(&mut tallies, frames);
     let placed = deques::tally_deques(&mut tallies, deques, frames);
     let chained = places::follow_free(frames, words::sub(PLACES, census.live), first);
-    (placed & chained) & ((census.mains <= 1) & places::places_sound(frames, &tallies, census.live))
+    (placed & chained) & ((census.mains <= 1) & places::places_sound(frames, &tallies))
 }
