@@ -41,10 +41,10 @@ pub fn spawn_frame(
     requires { ⌜ Acts (now deques) (now frames) w n p f × (n < dequePlaces) × (free < places) ⌝ }
     ensures { λ r. ⌜ table (now (deques .exit)) (now (frames .exit)) r ≡ spawn (table (now (deques .entry)) (now (frames .entry)) free) w ⌝ }
 {
-    push_on(deques, w, n, free);
     let next = frame_at(frames, free);
     set_outstanding(frames, p, words::add(f.outstanding, 1));
     put_frame(frames, free, child_of(f, p));
+    push_on(deques, w, n, free);
     next.parent
 }
 
