@@ -13,6 +13,7 @@ use Rattle.soundness.specs.declared.Numbers.{Numbers}
 use Rattle.soundness.specs.declared.Checked.{Checked}
 use Rattle.soundness.specs.declared.Checked.the-variants.{NoRoom, Sound}
 use Rattle.soundness.specs.Soundness.{numbersSound, framesSound, poolSound, liveRoots, sound, freeCount, checked, cleared}
+use Rattle.frame_check.specs.declared.FramesChecked.{FramesChecked}
 use Rattle.pool_check.specs.declared.PoolChecked.{PoolChecked}
 use Rattle.pool_check.specs.declared.PoolChecked.the-variants.{Bad, Good}
 use Rattle.pool_check.specs.Answer.{poolChecked}
@@ -21,9 +22,10 @@ use Rattle.soundness.specs.Numbers.{numbersIn, numberWords, setFreeNode, setFre
 use Rattle.semantics.specs.declared.Head.{Head}
 use Rattle.semantics.specs.declared.Refusal.the-variants.{Tape}
 use Rattle.semantics.specs.Answers.{refusalNumber}
-use Rattle.semantics.specs.Entries.{State, headOf, coreOf, TapeResult, tapeDone, tapeChecked, tapeWith, unfitTape, recordsResult, runOn, recordsOf}
-use Rattle.semantics.specs.Promises.{parts, IsTape}
+use Rattle.semantics.specs.Entries.{State, headOf, coreOf, TapeResult, tapeDone, tapeChecked, tapeWith, unfitTape, recordsResult, recordsFrom, runOn, recordsOf}
+use Rattle.semantics.specs.Promises.{parts, Fits, IsTape}
 use Rattle.semantics.specs.Ranges.{Kept}
+use Rattle.semantics.specs.Theory.Fitting.{state-back}
 use Rattle.semantics.specs.Theory.WorkSlice.{checked-room, no-room-keeps}
 use Rattle.semantics.specs.Theory.Kept.{kept-start}
 use Rattle.engine.specs.Promises.{core, renewed, checkNumber, freeIn}
@@ -59,30 +61,49 @@ good : (p : Bool) (m free : ℕ) → Good free ≡ cond p (Good m) Bad → Sound
 good true m free e = let q : free ≡ m = cc in ap Sound q
 good false m free e = let z : _≡_ {A = ℕ} 0 1 = cc in absurd (omega arith)
 
-pub tables-no : (b n f : Bool) → b ≡ n → b ≡ false → false ≡ n && f
-tables-no b n f e z = rw (← e, z)
+-- by whether the tables are sound
+tables-bad : (b : Bool) (live : ℕ) → FramesChecked.Bad ≡ cond b (FramesChecked.Good live) FramesChecked.Bad → b ≡ false
+tables-bad true live e = let z : _≡_ {A = ℕ} 0 1 = cc in absurd (omega arith)
+tables-bad false live e = refl
 
-pub tables-yes : (b n f r : Bool) → b ≡ n → b ≡ true → r ≡ f → r ≡ n && f
-tables-yes b n f r e z er = rw (← e, z) er
+tables-good : (b : Bool) (live live′ : ℕ) → FramesChecked.Good live′ ≡ cond b (FramesChecked.Good live) FramesChecked.Bad → (b ≡ true) × (live′ ≡ live)
+tables-good true live live′ e = (refl, cc)
+tables-good false live live′ e = let z : _≡_ {A = ℕ} 0 1 = cc in absurd (omega arith)
+
+pub tables-no : (live : ℕ) (b n f : Bool) → b ≡ n → b ≡ false → FramesChecked.Bad ≡ cond (n && f) (FramesChecked.Good live) FramesChecked.Bad
+tables-no live b n f e z = rw (← e, z)
+
+pub tables-yes : (live : ℕ) (b n f : Bool) (r : FramesChecked) → b ≡ n → b ≡ true → r ≡ cond f (FramesChecked.Good live) FramesChecked.Bad
+    → r ≡ cond (n && f) (FramesChecked.Good live) FramesChecked.Bad
+tables-yes live b n f r e z er = rw (← e, z) er
+
+pub live-is : (s : Numbers) (ds fs ws : List ℕ) {live live′ : ℕ} {b : FramesChecked}
+    → b ≡ cond (numbersSound s ws && framesSound (s .workers) (s .«free_place») ds fs) (FramesChecked.Good live) FramesChecked.Bad → b ≡ FramesChecked.Good live′ → live′ ≡ live
+live-is s ds fs ws {live} {live′} eb t = tables-good (numbersSound s ws && framesSound (s .workers) (s .«free_place») ds fs) live live′ (sym t ∙ eb) .1
 
 module _ (s : Numbers) (ds fs ws ks : List ℕ) where
   pub no-room : length ks < s .nodes → Checks s ds fs ws ks ks NoRoom
   unfolding checked cleared
   no-room l = (rw (lt-leb (s .nodes) (length ks) l), rw (lt-leb (s .nodes) (length ks) l))
 
-  module _ (room : s .nodes ≤ length ks) (b : Bool) (eb : b ≡ (numbersSound s ws && framesSound (s .workers) (s .«free_place») ds fs)) (ks′ : List ℕ) where
-    pub tables-unsound : b ≡ false → ks′ ≡ cleared (s .nodes) ks → Checks s ds fs ws ks ks′ Checked.Unsound
+  -- the tables are sound
+  abbrev tables : Bool
+  tables = numbersSound s ws && framesSound (s .workers) (s .«free_place») ds fs
+
+  -- what the check of the tables answered
+  module _ (room : s .nodes ≤ length ks) (live : ℕ) (b : FramesChecked) (eb : b ≡ cond tables (FramesChecked.Good live) FramesChecked.Bad) (ks′ : List ℕ) where
+    pub tables-unsound : b ≡ FramesChecked.Bad → ks′ ≡ cleared (s .nodes) ks → Checks s ds fs ws ks ks′ Checked.Unsound
     unfolding sound
     tables-unsound f ek =
-        let u : sound s ds fs ws ≡ false = unsound-first (numbersSound s ws) (framesSound (s .workers) (s .«free_place») ds fs) _ (sym eb ∙ f) in
+        let u : sound s ds fs ws ≡ false = unsound-first (numbersSound s ws) (framesSound (s .workers) (s .«free_place») ds fs) _ (tables-bad tables live (sym f ∙ eb)) in
         (ek, sym (checked-room s ds fs ws ks (le-leb (s .nodes) (length ks) room) ∙ ap (λ t. cond t (Sound (freeCount s ws)) Checked.Unsound) u))
 
-    module _ (t : b ≡ true) (a : PoolChecked) (ea : (ks′ ≡ cleared (s .nodes) ks) × (a ≡ poolChecked (s .splitters) (s .nodes) (s .«free_node») fs ws ks)) where
+    module _ (live′ : ℕ) (t : b ≡ FramesChecked.Good live′) (a : PoolChecked) (ea : (ks′ ≡ cleared (s .nodes) ks) × (a ≡ poolChecked (s .splitters) (s .nodes) (s .«free_node») fs ws ks)) where
       abbrev trees : Bool
       trees = poolSound (s .splitters) (s .nodes) ws (s .«free_node») (liveRoots fs)
 
       sound-tables : (numbersSound s ws ≡ true) × (framesSound (s .workers) (s .«free_place») ds fs ≡ true)
-      sound-tables = both (numbersSound s ws) (framesSound (s .workers) (s .«free_place») ds fs) (sym eb ∙ t)
+      sound-tables = both (numbersSound s ws) (framesSound (s .workers) (s .«free_place») ds fs) (tables-good tables live live′ (sym t ∙ eb) .0)
 
       sound-is : sound s ds fs ws ≡ trees
       unfolding sound
@@ -129,6 +150,10 @@ by-result : (o : TapeResult) (ns ds fs ws ks rs : List ℕ) (r : ℕ) → result
 by-result o ns ds fs ws ks rs r e =
     record { result = ap (λ q. q .result) e; state = ap (λ q. q .state) e; pool = ap (λ q. q .pool) e; work = ap (λ q. q .work) e; answers = ap (λ q. q .answers) e }
 
+no-records : (bytes : List ℕ) → length bytes ≡ 0 → recordsOf bytes ≡ []
+unfolding recordsFrom
+no-records bytes z = rw z
+
 module _ (ns ds fs ws ks bytes rs : List ℕ) (b : Bool) (eb : b ≡ unfitTape bytes rs) where
   abbrev s : State
   s = parts ns ds fs
@@ -155,6 +180,16 @@ module _ (ns ds fs ws ks bytes rs : List ℕ) (b : Bool) (eb : b ≡ unfitTape b
 
     pub tape-refused : (r : ℕ) → r ≡ checkNumber k → 0 < r → IsTape (tapeWith (parts ns ds fs) ws ks bytes rs) ns ds fs ws ks′ rs r
     tape-refused r er l = by-result _ ns ds fs ws ks′ rs r (by-check (result s ws ks′ rs r) (refused-by k refl r er l))
+
+    -- a tape of no records: the check is all
+    empty-by : length bytes ≡ 0 → Fits s → (j : Checked) → k ≡ j → (r : ℕ) → r ≡ checkNumber k → result s ws ks′ rs r ≡ tapeChecked k s ws ks bytes rs
+    unfolding runOn
+    empty-by z F NoRoom e r er = refused-by NoRoom e r er (omega (arith, er, ap checkNumber e))
+    empty-by z F Checked.Unsound e r er = refused-by Checked.Unsound e r er (omega (arith, er, ap checkNumber e))
+    empty-by z F (Sound free) e r er = rw (er, e, checks .0, no-records bytes z) (ap (λ (q : State). result q ws (cleared (numbersIn ns .nodes) ks) rs 0) (sym (state-back s ws free F)))
+
+    pub tape-empty : length bytes ≡ 0 → Fits (parts ns ds fs) → (r : ℕ) → r ≡ checkNumber k → IsTape (tapeWith (parts ns ds fs) ws ks bytes rs) ns ds fs ws ks′ rs r
+    tape-empty z F r er = by-result _ ns ds fs ws ks′ rs r (by-check (result s ws ks′ rs r) (empty-by z F k refl r er))
 
     pub tape-done : (r free : ℕ) (h h′ : Head) (ns′ ds′ fs′ ws′ rs′ : List ℕ) → r ≡ checkNumber k → r ≡ 0 → free ≡ freeIn k → h ≡ headOf n free
         → (recordsResult (core h′ ds′ fs′ ws′) rs′ ≡ runOn (recordsResult (core h ds fs ws) rs) 0 (recordsOf bytes))

@@ -1,9 +1,12 @@
 // Soundness, checked once a call: numbers first, then frames and deques, then the pool.
 ghost use mathlib.Core.Path.{_≡_};
-ghost use mathlib.Core.Bool.{_&&_};
+ghost use mathlib.Core.Bool.{cond, _&&_};
 ghost use lib.ListN.{length};
-ghost use Rattle.frames.specs.Widths.{frameWords, dequeWords};
-ghost use Rattle.soundness.specs.Soundness.{numbersSound, framesSound, checked, cleared};
+ghost use Rattle.words.specs.Basics.{howMany};
+ghost use Rattle.frames.specs.Widths.{places, frameWords, dequeWords};
+ghost use Rattle.soundness.specs.Soundness.{lives, numbersSound, framesSound, checked, cleared};
+ghost use Rattle.frame_check.specs.declared.FramesChecked.the-variants.{Bad, Good};
+use frame_check::FramesChecked;
 use frame_check::check_frames;
 use pool_check::PoolChecked;
 use pool_check::check_pool;
@@ -21,13 +24,13 @@ fn check_numbers(numbers: Numbers, pool: &[u32]) -> bool
 }
 
 // All but the pool.
-fn check_tables(numbers: Numbers, deques: &[u32], frames: &[u32], pool: &[u32]) -> bool
+fn check_tables(numbers: Numbers, deques: &[u32], frames: &[u32], pool: &[u32]) -> FramesChecked
     requires { ⌜ (length (now deques) ≡ dequeWords) × (length (now frames) ≡ frameWords) ⌝ }
-    ensures { λ r. ⌜ r ≡ (numbersSound numbers (now (pool .entry))
-        && framesSound (numbers .workers) (numbers .«free_place») (now (deques .entry)) (now (frames .entry))) ⌝ }
+    ensures { λ r. ⌜ r ≡ cond (numbersSound numbers (now (pool .entry))
+        && framesSound (numbers .workers) (numbers .«free_place») (now (deques .entry)) (now (frames .entry))) (Good (howMany places (lives (now (frames .entry))))) Bad ⌝ }
 {
     if !check_numbers(numbers, pool) {
-        return false;
+        return FramesChecked::Bad;
     }
     check_frames(numbers.workers, numbers.free_place, deques, frames)
 }
@@ -48,14 +51,15 @@ pub fn check(
     if (nodes as usize) > work.len() {
         return Checked::NoRoom;
     }
-    if !check_tables(numbers, deques, frames, pool) {
+    let FramesChecked::Good(live) = check_tables(numbers, deques, frames, pool) else {
         clear(work, nodes);
         return Checked::Unsound;
-    }
+    };
     let answer = check_pool(
         numbers.splitters,
         nodes,
         numbers.free_node,
+        live,
         frames,
         pool,
         work,

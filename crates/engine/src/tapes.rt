@@ -73,6 +73,10 @@ pub fn tape_on(
         return refusal_number(Refusal::Tape);
     }
     let first = numbers_in(numbers);
+    if bytes.len() == 0 {
+        let only = check(first, deques, frames, pool, work);
+        return check_number(only);
+    }
     let checked = check(first, deques, frames, pool, work);
     let refused = check_number(checked);
     if refused != 0 {

@@ -1,7 +1,7 @@
 -- A turn and the end of the loops.
 use mathlib.Core.Path.{_≡_, refl, sym, ap, _∙_}
-use mathlib.Core.Logic.{_≢_}
-use mathlib.Core.Bool.{Bool, true, false, cond, _&&_, and-false}
+use mathlib.Core.Logic.{_≢_, inl, inr}
+use mathlib.Core.Bool.{Bool, true, false, cond, _&&_, _||_, and-false}
 use mathlib.Core.List.{List}
 use Prim.Native.Nat.{ℕ, zero, suc, _+_, _-_, _≤_, _<_}
 use native.Mathlib.Numerals.{add-one, sub-one}
@@ -9,18 +9,20 @@ use native.Mathlib.Omega.{arith}
 use lib.Dec.{eqb, leb, ltb}
 use lib.ListN.{length, getD}
 use lib.Seq.{set-out}
-use borrow.Author.Tests.{leb-true, ltb-true, lt-ltb, le-ltb, eqb-true, eq-eqb, ne-eqb}
+use borrow.Author.Tests.{leb-true, le-leb, lt-leb, ltb-true, lt-ltb, le-ltb, eqb-true, eq-eqb, ne-eqb}
 use Rattle.words.specs.Basics.{none, all, howMany}
-use Rattle.words.specs.Counting.{all-at}
+use Rattle.words.specs.Counting.{all-at, all-of}
 use Rattle.words.specs.Tallies.{same-tests}
-use Rattle.words.specs.Tests.{both}
+use Rattle.words.specs.Tests.{decided, both}
 use Rattle.frames.specs.Widths.{maxWorkers, places, dequePlaces}
 use Rattle.frames.specs.declared.Frame.{Frame}
 use Rattle.frames.specs.Frames.{frameAt}
 use Rattle.frames.specs.Deques.{size, place}
 use Rattle.soundness.specs.Soundness.{framesSound}
-use Rattle.frame_check.specs.Algorithm.{childStep, childCount, dequeCount, bump, tally, childIn, tallyChildren, tallyDeque, tallyDeques, dequeFits, dequeSound, isFlat, mainAt, mains, liveAt, lives}
+use Rattle.frame_check.specs.Algorithm.{childStep, childCount, dequeCount, bump, tally, childIn, tallyChildren, tallyDeque, tallyDeques, zeroPast, dequeFits, dequeSound, isFlat, mainAt, mains, liveAt, lives}
 use Rattle.frame_check.specs.Algorithm.{liveSound, freeSound, placeTallied, placeChecked, next, chainFrom, zeros, checkFrames}
+use Rattle.frame_check.specs.declared.FramesChecked.{FramesChecked}
+use Rattle.frame_check.specs.declared.FramesChecked.the-variants.{Bad, Good}
 use Rattle.frame_check.specs.Theory.Theorem.{check-frames}
 
 -- a loop that counts up to n ends at n
@@ -29,6 +31,21 @@ at-end F {n} {k} a b e = let d : k ≡ n = omega arith in e ∙ ap F d
 
 pub all-turn : (k : ℕ) (f : ℕ → Bool) {b t : Bool} → b ≡ all k f → t ≡ f k → b && t ≡ all (k + 1) f
 all-turn k f e h = rw (add-one, e, h)
+
+-- from place n on: below it nothing is asked
+pub past-start : (ds : List ℕ) (w n : ℕ) → true ≡ all n (zeroPast ds w n)
+past-start ds w n = sym (all-of n (zeroPast ds w n) (λ i b. rw (lt-ltb i n b)))
+
+pub past-turn : (ds : List ℕ) (w n k : ℕ) {b t : Bool} → n ≤ k → b ≡ all k (zeroPast ds w n) → t ≡ eqb (place ds w k) 0 → b && t ≡ all (k + 1) (zeroPast ds w n)
+past-turn ds w n k h e d = all-turn k (zeroPast ds w n) e (rw (le-ltb k n h) d)
+
+-- a deque with more frames than places, and any other
+pub fits-over : (workers : ℕ) (ds : List ℕ) (w : ℕ) {n : ℕ} → n ≡ size ds w → dequePlaces < n → false ≡ dequeFits workers ds w
+fits-over workers ds w e h = rw (← e, lt-leb _ dequePlaces h)
+
+pub fits-within : (workers : ℕ) (ds : List ℕ) (w : ℕ) {n : ℕ} → n ≡ size ds w → n ≤ dequePlaces → {b : Bool} → b ≡ all dequePlaces (zeroPast ds w n)
+    → (ltb w workers || eqb n 0) && b ≡ dequeFits workers ds w
+fits-within workers ds w e h d = rw (← e, le-leb _ dequePlaces h, d)
 
 pub howMany-turn : (k : ℕ) (f : ℕ → Bool) {n t : ℕ} → n ≡ howMany k f → t ≡ cond (f k) 1 0 → n + t ≡ howMany (k + 1) f
 howMany-turn k f e h = rw (add-one, e, h)
@@ -75,6 +92,19 @@ pass-end fs ts P a b = (
   at-end (λ k. howMany k (mainAt fs)) a b (P .main-is),
   at-end (λ k. howMany k (liveAt fs)) a b (P .live-is),
 )
+
+pub dead-sound : (fs ts : List ℕ) (i : ℕ) → liveAt fs i ≡ false → placeTallied fs ts i ≡ true
+dead-sound fs ts i e = rw e
+
+-- the next place
+pub next-fits : {p : ℕ} → p < places → p + 1 < 4294967296
+next-fits h = omega arith
+
+pub next-less : {p : ℕ} → p < places → places - (p + 1) < places - p
+next-less h = omega arith
+
+pub next-le : {p : ℕ} → p < places → p + 1 ≤ places
+next-le h = omega arith
 
 -- ---- along the chain
 module _ (fs : List ℕ) where
@@ -138,3 +168,11 @@ module _ (workers first : ℕ) (ds fs : List ℕ) where
 -- deques that fit are as long as they may be
 pub fit-sizes : (workers : ℕ) (ds : List ℕ) → all maxWorkers (dequeFits workers ds) ≡ true → (w : ℕ) → w < maxWorkers → size ds w ≤ dequePlaces
 fit-sizes workers ds e w h = leb-true (size ds w) dequePlaces (both (leb (size ds w) dequePlaces) _ (all-at maxWorkers (dequeFits workers ds) e w h) .0)
+
+-- ---- what the check finds
+
+pub not-found : (live : ℕ) {b : Bool} → false ≡ b → Bad ≡ cond b (Good live) Bad
+not-found live e = rw (← e)
+
+pub is-found : {live live′ : ℕ} {s b : Bool} {r : FramesChecked} → r ≡ cond s (Good live) Bad → s ≡ b → live ≡ live′ → r ≡ cond b (Good live′) Bad
+is-found e d l = rw (← d, ← l) e

@@ -16,15 +16,32 @@ use frames::frame_or_zero;
 use frames::place_at;
 use frames::size_at;
 
-// The places past the first n are zero.
-fn rest_zero(deques: &[u32], w: u32, n: u32) -> bool
+// All places are zero. Most deques are empty, and a loop of a fixed length is the faster one.
+fn all_zero(deques: &[u32], w: u32) -> bool
     requires { ⌜ (length (now deques) ≡ dequeWords) × (w < maxWorkers) ⌝ }
-    ensures { λ r. ⌜ r ≡ all dequePlaces (zeroPast (now (deques .entry)) w n) ⌝ }
+    ensures { λ r. ⌜ r ≡ all dequePlaces (zeroPast (now (deques .entry)) w 0) ⌝ }
 {
     let mut sound = true;
     let mut k: u32 = 0;
     while k < DEQUE_PLACES {
-        sound = sound & ((k < n) | (place_at(deques, w, k) == 0));
+        sound = sound & (place_at(deques, w, k) == 0);
+        k += 1;
+    }
+    sound
+}
+
+// The places past the first n are zero.
+fn rest_zero(deques: &[u32], w: u32, n: u32) -> bool
+    requires { ⌜ (length (now deques) ≡ dequeWords) × (w < maxWorkers) × (n ≤ dequePlaces) ⌝ }
+    ensures { λ r. ⌜ r ≡ all dequePlaces (zeroPast (now (deques .entry)) w n) ⌝ }
+{
+    if n == 0 {
+        return all_zero(deques, w);
+    }
+    let mut sound = true;
+    let mut k = n;
+    while k < DEQUE_PLACES {
+        sound = sound & (place_at(deques, w, k) == 0);
         k += 1;
     }
     sound
@@ -36,7 +53,10 @@ fn deque_fits(workers: u32, deques: &[u32], w: u32) -> bool
     ensures { λ r. ⌜ r ≡ dequeFits workers (now (deques .entry)) w ⌝ }
 {
     let n = size_at(deques, w);
-    (n <= DEQUE_PLACES) & (((w < workers) | (n == 0)) & rest_zero(deques, w, n))
+    if n > DEQUE_PLACES {
+        return false;
+    }
+    ((w < workers) | (n == 0)) & rest_zero(deques, w, n)
 }
 
 pub fn deques_fit(workers: u32, deques: &[u32]) -> bool

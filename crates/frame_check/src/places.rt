@@ -3,8 +3,9 @@ ghost use mathlib.Core.Path.{_≡_};
 ghost use Prim.Native.Nat.{_<_};
 ghost use lib.ListN.{length, getD};
 ghost use Rattle.frames.specs.Widths.{places, frameWords};
+ghost use mathlib.Core.Bool.{cond};
 ghost use Rattle.words.specs.Basics.{all};
-ghost use Rattle.frame_check.specs.Algorithm.{parentSound, placedSound, liveSound, freeSound, placeTallied, chainFrom};
+ghost use Rattle.frame_check.specs.Algorithm.{parentSound, placedSound, liveSound, freeSound, placeTallied, liveAt, lives, chainFrom};
 use super::tallies::DEQUE_STEP;
 use frames::Frame;
 use frames::NONE;
@@ -53,17 +54,29 @@ fn place_sound(frames: &[u32], tallies: &[u32], p: u32) -> bool
     )
 }
 
-pub fn places_sound(frames: &[u32], tallies: &[u32]) -> bool
-    requires { ⌜ (length (now frames) ≡ frameWords) × (length (now tallies) ≡ places) ⌝ }
+// 1 where a frame lives, else 0.
+fn live_in(frames: &[u32], p: u32) -> u32
+    requires { ⌜ (length (now frames) ≡ frameWords) × (p < places) ⌝ }
+    ensures { λ r. ⌜ r ≡ cond (liveAt (now (frames .entry)) p) 1 0 ⌝ }
+{
+    if frame_at(frames, p).live == 1 { 1 } else { 0 }
+}
+
+// The places of all live frames, which are so many.
+pub fn places_sound(frames: &[u32], tallies: &[u32], live: u32) -> bool
+    requires { ⌜ (length (now frames) ≡ frameWords) × (length (now tallies) ≡ places) × (live ≡ lives (now frames)) ⌝ }
     ensures { λ r. ⌜ r ≡ all places (placeTallied (now (frames .entry)) (now (tallies .entry))) ⌝ }
 {
-    let mut sound = true;
+    let mut left = live;
     let mut p: u32 = 0;
-    while p < PLACES {
-        sound = sound & place_sound(frames, tallies, p);
+    while left > 0 {
+        if !place_sound(frames, tallies, p) {
+            return false;
+        }
+        left -= live_in(frames, p);
         p += 1;
     }
-    sound
+    true
 }
 
 // A free place: zero but for the link.

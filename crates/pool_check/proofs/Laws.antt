@@ -12,14 +12,18 @@ use borrow.Author.Tests.{eq-eqb, ne-eqb, eqb-false, lt-ltb, le-ltb, le-leb, lt-l
 use lib.Dec.{eqb, leb, ltb}
 use lib.ListN.{length, getD, set}
 use lib.Pow.{shl-exact}
-use Rattle.words.specs.Basics.{none, all}
+use Rattle.words.specs.Basics.{none, all, howMany}
+use Rattle.words.specs.Counting.{hit, miss}
+use Rattle.words.specs.Loops.{upto, all-left, not-past, fewer-left}
 use Rattle.sizes.specs.Sizes.{height}
 use Rattle.words.specs.Tests.{decided}
 use Rattle.pool.specs.Pool.{refcount, left, right, value}
-use Rattle.soundness.specs.Soundness.{isFree}
+use Rattle.frames.specs.declared.Frame.{Frame}
+use Rattle.frames.specs.Frames.{frameAt}
+use Rattle.soundness.specs.Soundness.{lives, isFree}
 use Rattle.pool_check.specs.declared.PoolChecked.{PoolChecked}
 use Rattle.pool_check.specs.declared.PoolChecked.the-variants.{Bad, Good}
-use Rattle.pool_check.specs.Theory.Ways.{onLeft, visit-off, visit-again, visit-shapeless, visit-below, below-leaf, below-left, below-end, below-right, settle-off, settle-on, run-out, run-off, run-on}
+use Rattle.pool_check.specs.Theory.Ways.{onLeft, visit-off, visit-again, visit-shapeless, visit-below, below-leaf, below-left, below-end, below-right, place-live, place-free, settle-off, settle-on, run-out, run-off, run-on}
 use Rattle.pool_check.specs.Answer.{inBounds}
 use Rattle.pool_check.specs.Algorithm.{mark, links, counted, fresh, stamp, shaped, stamped, linked, visit, below, onward, Met, visitPlace, visitPlaces, nodeRight, unvisited, vacant, chainFrom, settle, runCheck}
 
@@ -139,28 +143,83 @@ module _ (N : ℕ) (ws : List ℕ) (level k i : ℕ) (w : List ℕ) (pos : 0 < l
       walk-right =
           rw (← ap (λ p. p .0) on-left, ej, rest) (sym (below-right N ws (level - 1) k i w (ap (λ p. p .1) on-left) (λ q. z (rest ∙ q))) ∙ from-level)
 
--- ---- the places
+-- ---- the m places
 
-module _ (n h N : ℕ) (fs ws w₀ : List ℕ) where
-  pub places-next : (p : ℕ) (w : List ℕ) → visitPlaces n h N fs ws p w₀ ≡ (w, true) → visitPlaces n h N fs ws (p + 1) w₀ ≡ visitPlace n h N fs ws p w
+module _ (m n h N : ℕ) (fs ws w₀ : List ℕ) where
+  abbrev pub visited : ℕ → List ℕ × Bool
+  visited p = visitPlaces n h N fs ws p w₀
+
+  next-place : (p : ℕ) (w : List ℕ) → visited p ≡ (w, true) → visited (suc p) ≡ visitPlace n h N fs ws p w
   unfolding visitPlaces
-  places-next p w e = rw (add-one, e)
-
-  pub places-none : visitPlaces n h N fs ws 0 w₀ ≡ (w₀, true)
-  unfolding visitPlaces
-  places-none = refl
-
-  pub places-done : (p : ℕ) (w : List ℕ) → p ≡ 64 → visitPlaces n h N fs ws p w₀ ≡ (w, true) → (w, true) ≡ visitPlaces n h N fs ws 64 w₀
-  places-done p w b e = sym e ∙ ap (λ (q : ℕ). visitPlaces n h N fs ws q w₀) b
-
-  places-stay : (d p : ℕ) (w : List ℕ) → visitPlaces n h N fs ws p w₀ ≡ (w, false) → visitPlaces n h N fs ws (p + d) w₀ ≡ (w, false)
-  unfolding visitPlaces
-  places-stay zero p w e = rw add-zero e
-  places-stay (suc d) p w e = rw (add-suc, places-stay d p w e)
+  next-place p w e = rw e
 
   -- a failure is final
-  pub places-fail : (p : ℕ) (w : List ℕ) → p ≤ 64 → visitPlaces n h N fs ws p w₀ ≡ (w, false) → visitPlaces n h N fs ws 64 w₀ ≡ (w, false)
-  places-fail p w b e = ap (λ (q : ℕ). visitPlaces n h N fs ws q w₀) (omega arith) ∙ places-stay (64 - p) p w e
+  failed-place : (d p : ℕ) (w : List ℕ) → visited p ≡ (w, false) → visited (p + d) ≡ (w, false)
+  unfolding visitPlaces
+  failed-place zero p w e = rw add-zero e
+  failed-place (suc d) p w e = rw (add-suc, failed-place d p w e)
+
+  -- from p on no frame lives
+  dead-places : (d p : ℕ) (w : List ℕ) → visited p ≡ (w, true) → howMany p (lives fs) ≡ howMany (p + d) (lives fs) → visited (p + d) ≡ (w, true)
+  dead-places zero p w e s = rw add-zero e
+  dead-places (suc d) p w e s = rw add-suc (elim (decided (lives fs (p + d))) [
+    | inl t ↦ absurd (omega (arith, count, upto (p + d) (lives fs) (p + d) p (omega arith), hit t))
+    | inr t ↦ next-place (p + d) w (dead-places d p w e (omega (arith, count, miss t))) ∙ place-free n h N fs ws (p + d) w t
+  ])
+    where
+      count : howMany p (lives fs) ≡ howMany (p + d) (lives fs) + cond (lives fs (p + d)) 1 0
+      count = rw add-suc at s
+
+  -- the trees of the places below p are visited, and `left` live frames are to come
+  pub record Visited (p left : ℕ) (w : List ℕ) : Type 0 where
+    pub done : visited p ≡ (w, true)
+    pub more : howMany p (lives fs) + left ≡ howMany m (lives fs)
+    pub within : p ≤ m
+
+  pub visited-none : (live : ℕ) → live ≡ howMany m (lives fs) → Visited 0 live w₀
+  unfolding visitPlaces
+  visited-none live e = record { done = refl; more = all-left m (lives fs) live e; within = omega arith }
+
+  module _ (p left : ℕ) (w : List ℕ) (v : Visited p left w) where
+    pub visited-all : left ≤ 0 → (w, true) ≡ visited m
+    visited-all z = let e : p + (m - p) ≡ m = omega (arith, v .within) in
+        sym (ap (λ (q : ℕ). visited q) (sym e) ∙ dead-places (m - p) p w (v .done) (omega (arith, v .more, ap (λ q. howMany q (lives fs)) e)))
+
+    pub inside-places : 0 < left → p < m
+    inside-places some = not-past m (lives fs) p left (v .more) some (v .within)
+
+    module _ (some : 0 < left) (f : Frame) (e : f ≡ frameAt fs p) where
+      live-is : {b : Bool} → eqb (f .live) 1 ≡ b → lives fs p ≡ b
+      live-is t = ap (λ (g : Frame). eqb (g .live) 1) (sym e) ∙ t
+
+      pub visited-dead : (f .live ≡ 1 → ⊥) → Visited (p + 1) left w
+      visited-dead u =
+          let t : lives fs p ≡ false = live-is (ne-eqb (f .live) 1 u) in
+          record {
+            done = rw add-one (next-place p w (v .done) ∙ place-free n h N fs ws p w t);
+            more = omega (arith, fewer-left m (lives fs) p left 0 (v .more) (sym (miss t)) (omega arith));
+            within = omega (arith, inside-places some);
+          }
+
+      module _ (u : f .live ≡ 1) (w′ : List ℕ) (b : Bool) (is : (w′ ≡ visit N ws h n (f .root) w .0) × (b ≡ visit N ws h n (f .root) w .1)) where
+        visited-next : visited (suc p) ≡ (w′, b)
+        visited-next =
+            next-place p w (v .done)
+            ∙ place-live n h N fs ws p w (live-is (eq-eqb (f .live) 1 u))
+            ∙ ap (λ (g : Frame). visit N ws h n (g .root) w) (sym e)
+            ∙ pair _ is
+
+        pub visited-live : b ≡ true → Visited (p + 1) (left - 1) w′
+        visited-live t = record {
+          done = rw add-one (visited-next ∙ ap (λ q. (w′, q)) t);
+          more = fewer-left m (lives fs) p left 1 (v .more) (sym (hit (live-is (eq-eqb (f .live) 1 u)))) some;
+          within = omega (arith, inside-places some);
+        }
+
+        pub visited-fails : b ≡ false → (w′, false) ≡ visited m
+        visited-fails t =
+            let e : suc p + (m - suc p) ≡ m = omega (arith, inside-places some) in
+            sym (ap (λ (q : ℕ). visited q) (sym e) ∙ failed-place (m - suc p) (suc p) w′ (visited-next ∙ ap (λ q. (w′, q)) t))
 
 -- ---- the nodes
 

@@ -2,10 +2,11 @@
 // A contract is an equation with a definition of specs/, on all inputs; only the functions below run_check require room for the
 // nodes, which run_check tests first.
 ghost use mathlib.Core.Path.{_≡_};
-ghost use Rattle.frames.specs.Widths.{frameWords};
+ghost use Rattle.words.specs.Basics.{howMany};
+ghost use Rattle.frames.specs.Widths.{places, frameWords};
 ghost use Prim.Native.Nat.{_*_, _≤_};
 ghost use lib.ListN.{length};
-ghost use Rattle.soundness.specs.Soundness.{cleared};
+ghost use Rattle.soundness.specs.Soundness.{lives, cleared};
 ghost use Rattle.pool_check.specs.Answer.{poolChecked};
 ghost use Rattle.pool_check.specs.Algorithm.{settle, runCheck};
 
@@ -45,11 +46,12 @@ fn run_check(
     n: u32,
     nodes: u32,
     first: u32,
+    live: u32,
     frames: &[u32],
     pool: &[u32],
     work: &mut [u32],
 ) -> PoolChecked
-    requires { ⌜ length (now frames) ≡ frameWords ⌝ }
+    requires { ⌜ (length (now frames) ≡ frameWords) × (live ≡ howMany places (lives (now frames))) ⌝ }
     ensures { λ r. ⌜ (now (work .exit) ≡ runCheck n nodes first (now (frames .entry)) (now (pool .entry)) (now (work .entry)) .0)
         × (r ≡ runCheck n nodes first (now (frames .entry)) (now (pool .entry)) (now (work .entry)) .1) ⌝ }
 {
@@ -65,7 +67,7 @@ fn run_check(
     if (nodes as usize) > work.len() {
         return PoolChecked::Bad;
     }
-    if !visit_places(frames, pool, work, n, sizes::height_of(n), nodes) {
+    if !visit_places(frames, pool, work, n, sizes::height_of(n), nodes, live) {
         return PoolChecked::Bad;
     }
     settle(pool, work, nodes, first)
@@ -77,16 +79,17 @@ pub fn check_pool(
     n: u32,
     nodes: u32,
     first: u32,
+    live: u32,
     frames: &[u32],
     pool: &[u32],
     work: &mut [u32],
 ) -> PoolChecked
-    requires { ⌜ length (now frames) ≡ frameWords ⌝ }
+    requires { ⌜ (length (now frames) ≡ frameWords) × (live ≡ howMany places (lives (now frames))) ⌝ }
     ensures { λ r. ⌜ (now (work .exit) ≡ cleared nodes (now (work .entry)))
         × (r ≡ poolChecked n nodes first (now (frames .entry)) (now (pool .entry)) (now (work .entry))) ⌝ }
 {
     clear(work, nodes);
-    let answer = run_check(n, nodes, first, frames, pool, work);
+    let answer = run_check(n, nodes, first, live, frames, pool, work);
     clear(work, nodes);
     answer
 }

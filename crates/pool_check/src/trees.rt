@@ -1,9 +1,12 @@
 // The live frames' trees are visited: each node reached is stamped, and the links to it are counted.
 ghost use mathlib.Core.Path.{_≡_};
-ghost use Rattle.frames.specs.Widths.{frameWords};
+ghost use Rattle.words.specs.Basics.{howMany};
+ghost use Rattle.frames.specs.Widths.{places, frameWords};
+ghost use Rattle.soundness.specs.Soundness.{lives};
 ghost use Prim.Native.Nat.{_+_, _*_, _^_, _≤_, _<_, min};
 ghost use lib.ListN.{length};
-ghost use Rattle.pool_check.specs.Algorithm.{shaped, visit, below, Met, Roomy, visitPlace, visitPlaces};
+ghost use Rattle.pool_check.specs.Algorithm.{shaped, visit, below, Met, Roomy, visitPlaces};
+use frames::frame_at;
 use pool::NONE;
 
 // What comes of a link to a node: it must not be, it is done, or the node is visited for the first time and has children.
@@ -103,28 +106,7 @@ fn visit(pool: &[u32], work: &mut [u32], nodes: u32, level: u32, k: u32, i: u32)
     walk(pool, work, nodes, level, k, i)
 }
 
-// The tree of the frame at place p, if it lives.
-fn visit_place(
-    frames: &[u32],
-    pool: &[u32],
-    work: &mut [u32],
-    n: u32,
-    height: u32,
-    nodes: u32,
-    p: u32,
-) -> bool
-    requires { ⌜ Roomy nodes (now pool) (now work) height n × (length (now frames) ≡ frameWords) ⌝ }
-    ensures { λ r. ⌜ (now (work .exit) ≡ visitPlace n height nodes (now (frames .entry)) (now (pool .entry)) p (now (work .entry)) .0)
-        × (r ≡ visitPlace n height nodes (now (frames .entry)) (now (pool .entry)) p (now (work .entry)) .1) ⌝ }
-{
-    let f = frames::frame_or_zero(frames, p);
-    if f.live != 1 {
-        return true;
-    }
-    visit(pool, work, nodes, height, n, f.root)
-}
-
-// The trees of all live frames.
+// The trees of the live frames, which are so many.
 pub fn visit_places(
     frames: &[u32],
     pool: &[u32],
@@ -132,17 +114,24 @@ pub fn visit_places(
     n: u32,
     height: u32,
     nodes: u32,
+    live: u32,
 ) -> bool
-    requires { ⌜ Roomy nodes (now pool) (now work) height n × (length (now frames) ≡ frameWords) ⌝ }
-    ensures { λ r. ⌜ (now (work .exit) ≡ visitPlaces n height nodes (now (frames .entry)) (now (pool .entry)) 64 (now (work .entry)) .0)
-        × (r ≡ visitPlaces n height nodes (now (frames .entry)) (now (pool .entry)) 64 (now (work .entry)) .1) ⌝ }
+    requires { ⌜ Roomy nodes (now pool) (now work) height n × (length (now frames) ≡ frameWords) × (live ≡ howMany places (lives (now frames))) ⌝ }
+    ensures { λ r. ⌜ (now (work .exit) ≡ visitPlaces n height nodes (now (frames .entry)) (now (pool .entry)) places (now (work .entry)) .0)
+        × (r ≡ visitPlaces n height nodes (now (frames .entry)) (now (pool .entry)) places (now (work .entry)) .1) ⌝ }
 {
+    let mut left = live;
     let mut p: u32 = 0;
-    while p < 64 {
-        if !visit_place(frames, pool, work, n, height, nodes, p) {
+    while left > 0 {
+        let f = frame_at(frames, p);
+        p += 1;
+        if f.live != 1 {
+            continue;
+        }
+        if !visit(pool, work, nodes, height, n, f.root) {
             return false;
         }
-        p += 1;
+        left -= 1;
     }
     true
 }

@@ -1,14 +1,17 @@
 -- Both ways out are laws over the definitions: a deque does not fit, or everything is looked at.
 use borrow.Author.Tests.{not-true, not-false}
 use mathlib.Core.Path.{sym, _∙_}
-use Rattle.frame_check.proofs.Laws.{unfit, fit, fit-sizes}
+use Rattle.frame_check.proofs.Laws.{unfit, fit, fit-sizes, not-found, is-found}
 use borrow.Author.Needs.{needs}
 use Rattle.frame_check.proofs.check_frames.Statement.{statement}
 use Rattle.frame_check.proofs.check_frames.Tie as tie
 
 -- the places passed, from the last back
+abbrev places-of : tie.After-found → tie.After-places-sound
+places-of c = c .before .before
+
 abbrev chain-of : tie.After-places-sound → tie.After-follow-free
-chain-of c = c .before .before .before
+chain-of c = c .before .before
 
 abbrev deques-of : tie.After-sub → tie.After-tally-deques
 deques-of c = c .before .before
@@ -32,7 +35,7 @@ deques-fit-requires c κs = search needs
 returns : tie.Need-returns
 returns c =
     let a = start-of (c .before) .args in
-    unfit (a .workers) (a .first) (a .deques .now) (a .frames .now) (sym (c .before .deques-fit .ensures) ∙ not-true _ (c .if1 .taken))
+    not-found _ (unfit (a .workers) (a .first) (a .deques .now) (a .frames .now) (sym (c .before .deques-fit .ensures) ∙ not-true _ (c .if1 .taken)))
 
 slice-aggregate-tally-children : tie.Need-slice-aggregate-tally-children
 slice-aggregate-tally-children c = search needs
@@ -61,15 +64,21 @@ slice-aggregate-places-sound c = search needs
 places-sound-requires : tie.Need-places-sound-requires
 places-sound-requires c κs = search needs
 
+found-requires : tie.Need-found-requires
+found-requires c κs = search needs
+
 returns-2 : tie.Need-returns-2
 returns-2 c =
-    let h = chain-of c in
+    let l = places-of c in
+    let h = chain-of l in
     let m = h .before in
     let d = deques-of m in
     let k = children-of d in
     let t = else-of k in
     let a = start-of (fits-of t) .args in
-    fit (a .workers) (a .first) (a .deques .now) (a .frames .now)
+    is-found
+    (c .found .ensures)
+    (fit (a .workers) (a .first) (a .deques .now) (a .frames .now)
     (sym (fits-of t .deques-fit .ensures) ∙ not-false _ (t .if1 .left))
     (d .tally-deques .ensures .1)
     (h .follow-free .ensures)
@@ -78,7 +87,8 @@ returns-2 c =
     (k .tally-children .ensures .1)
     (k .tally-children .ensures .0)
     (d .tally-deques .ensures .0)
-    (c .places-sound .ensures)
+    (l .places-sound .ensures))
+    (k .tally-children .ensures .2)
 
 pub check-frames-spec : {M : Type 1} → statement M
 check-frames-spec =
@@ -94,4 +104,5 @@ check-frames-spec =
     follow-free-requires
     slice-aggregate-places-sound
     places-sound-requires
+    found-requires
     returns-2)

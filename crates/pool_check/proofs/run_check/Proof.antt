@@ -20,7 +20,7 @@ returns-4 c = parts (out-work _ _ _ _ _ _ (c .if4 .taken))
 visit-places-requires : tie.Need-visit-places-requires
 visit-places-requires c κs =
     let s = c .before .before .before .before .before .before .before .before .before in
-    (record { pool = omega arith; work = omega arith; level = omega (arith, c .height-of .ensures, height-le (s .args .n) 8 (omega arith)); part = omega arith }, s .pre)
+    (record { pool = omega arith; work = omega arith; level = omega (arith, c .height-of .ensures, height-le (s .args .n) 8 (omega arith)); part = omega arith }, s .pre .0, s .pre .1)
 
 returns-5 : tie.Need-returns-5
 returns-5 c =

@@ -1,40 +1,70 @@
 -- Refused by 5, by the tables, by the pool, or sound: the ways out are in `proofs.Checks`.
 use borrow.Author.Needs.{needs}
-use borrow.Author.Tests.{not-true, not-false}
-use Rattle.engine.proofs.Checks.{no-room, tables-unsound, pool-unsound, all-sound}
+use Rattle.engine.proofs.Checks.{no-room, tables-unsound, live-is, pool-unsound, all-sound}
 use Rattle.engine.proofs.checking.check.Statement.{statement}
 use Rattle.engine.proofs.checking.check.Tie as tie
+
+-- the places passed, from the last back
+abbrev start-of : tie.Else1 → tie.Start
+start-of c = c .before .before .before .before .before
+
+abbrev room-of : tie.After-check-tables → tie.Else1
+room-of c = c .before
+
+-- the tables are sound
+abbrev tables-of : tie.After-live → tie.After-check-tables
+tables-of c = c .before .before
+
+abbrev live-of : tie.After-check-pool → tie.After-live
+live-of c = c .before .before .before
 
 returns : tie.Need-returns
 returns c = no-room (c .before .before .before .before .before .args .numbers) _ _ _ _ (c .if1 .taken)
 
 returns-2 : tie.Need-returns-2
 returns-2 c =
-    let at-clear = c .before .before in
-    let at-if2 = at-clear .before .before in
-    let at-check-tables = at-if2 .before in
-    let at-if1 = at-check-tables .before in
-    let start = at-if1 .before .before .before .before .before in
-    tables-unsound (start .args .numbers) _ _ _ _ (at-if1 .if1 .left) _ (at-check-tables .check-tables .ensures) _ (not-true _ (at-if2 .if2 .taken)) (at-clear .clear .ensures)
+    let k = c .before .before in
+    let d = k .before .before in
+    let t = d .before .before in
+    tables-unsound (start-of (room-of t) .args .numbers) _ _ _ _ (room-of t .if1 .left) _ _ (t .check-tables .ensures) _ (d .enum-told .given .1) (k .clear .ensures)
+
+check-pool-requires : tie.Need-check-pool-requires
+check-pool-requires c κs =
+    let l = c .before .before in
+    let t = tables-of l in
+    (start-of (room-of t) .pre .1, live-is (start-of (room-of t) .args .numbers) _ _ _ (t .check-tables .ensures) (l .live .given .1))
 
 returns-3 : tie.Need-returns-3
 returns-3 c =
-    let at-check-pool = c .before .before .before .before in
-    let at-if2 = at-check-pool .before .before in
-    let at-check-tables = at-if2 .before in
-    let at-if1 = at-check-tables .before in
-    let start = at-if1 .before .before .before .before .before in
-    pool-unsound (start .args .numbers) _ _ _ _ (at-if1 .if1 .left) _ (at-check-tables .check-tables .ensures) _ (not-false _ (at-if2 .if2 .left)) _ (at-check-pool .check-pool .ensures) (c .enum-told .given .1)
+    let p = c .before .before .before .before in
+    let l = live-of p in
+    let t = tables-of l in
+    pool-unsound (start-of (room-of t) .args .numbers) _ _ _ _ (room-of t .if1 .left) _ _ (t .check-tables .ensures) _ _ (l .live .given .1) _ (p .check-pool .ensures) (c .enum-told2 .given .1)
 
 returns-4 : tie.Need-returns-4
 returns-4 c =
-    let at-answer = c .before in
-    let at-check-pool = at-answer .before .before .before .before in
-    let at-if2 = at-check-pool .before .before in
-    let at-check-tables = at-if2 .before in
-    let at-if1 = at-check-tables .before in
-    let start = at-if1 .before .before .before .before .before in
-    all-sound (start .args .numbers) _ _ _ _ (at-if1 .if1 .left) _ (at-check-tables .check-tables .ensures) _ (not-false _ (at-if2 .if2 .left)) _ (at-check-pool .check-pool .ensures) _ (at-answer .answer .given .1)
+    let a = c .before in
+    let p = a .before .before .before .before in
+    let l = live-of p in
+    let t = tables-of l in
+    all-sound (start-of (room-of t) .args .numbers) _ _ _ _ (room-of t .if1 .left) _ _ (t .check-tables .ensures) _ _ (l .live .given .1) _ (p .check-pool .ensures) _ (a .answer .given .1)
 
 pub check-spec : {M : Type 1} → statement M
-check-spec = tie.close (tie.spec (λ c. search needs) returns (λ c κs. search needs) (λ c κs. search needs) (λ c. search needs) returns-2 (λ c κs. search needs) (λ c. search needs) (λ c. search needs) (λ c. search needs) returns-3 (λ c. search needs) returns-4)
+check-spec =
+    tie.close
+    (tie.spec
+    (λ c. search needs)
+    returns
+    (λ c κs. search needs)
+    (λ c. search needs)
+    (λ c. search needs)
+    (λ c κs. search needs)
+    (λ c. search needs)
+    returns-2
+    check-pool-requires
+    (λ c. search needs)
+    (λ c. search needs)
+    (λ c. search needs)
+    returns-3
+    (λ c. search needs)
+    returns-4)
