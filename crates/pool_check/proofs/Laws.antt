@@ -25,7 +25,7 @@ use Rattle.pool_check.specs.declared.PoolChecked.{PoolChecked}
 use Rattle.pool_check.specs.declared.PoolChecked.the-variants.{Bad, Good}
 use Rattle.pool_check.specs.Theory.Ways.{onLeft, visit-off, visit-again, visit-shapeless, visit-below, below-leaf, below-left, below-end, below-right, place-live, place-free, settle-off, settle-on, run-out, run-off, run-on}
 use Rattle.pool_check.specs.Answer.{inBounds}
-use Rattle.pool_check.specs.Algorithm.{mark, links, counted, fresh, stamp, shaped, stamped, linked, visit, below, onward, Met, visitPlace, visitPlaces, nodeRight, unvisited, vacant, chainFrom, settle, runCheck}
+use Rattle.pool_check.specs.Algorithm.{mark, links, counted, fresh, stamp, shaped, stamped, linked, visit, below, onward, Met, Roomy, visitPlace, visitPlaces, nodeRight, unvisited, vacant, chainFrom, settle, runCheck}
 
 -- the two parts of an equation of pairs, and back
 pub parts : {A : Type 0} {p q : List ℕ × A} → p ≡ q → (p .0 ≡ q .0) × (p .1 ≡ q .1)
@@ -91,6 +91,10 @@ module _ (N : ℕ) (ws : List ℕ) (l k i : ℕ) (w w' : List ℕ) (r : ℕ) (m 
   pub met-below : r ≡ 2 → visit N ws l k i w ≡ below N ws l k i w'
   met-below e = m .is ∙ ap (λ q. onward q w' (below N ws l k i)) e
 
+  -- a leaf has nothing below it
+  pub met-no-more : l ≡ 0 → r ≡ 2 → ⊥
+  met-no-more z e = omega (arith, m .first e .1)
+
   -- no first visit: the answer says it
   pub met-answer : (r ≡ 2 → ⊥) → visit N ws l k i w ≡ (w', eqb r 1)
   met-answer done = elim (ℕ-discrete r 0) [
@@ -117,7 +121,7 @@ module _ (N : ℕ) (ws : List ℕ) (level k i : ℕ) (w : List ℕ) (pos : 0 < l
     walk-refused e = failing w₁ (met-no N ws (level - 1) part a w w₁ r m e)
 
     module _ {w₂ : List ℕ} {b : Bool} (e : r ≡ 2) (v : (w₂ ≡ below N ws (level - 1) part a w₁ .0) × (b ≡ below N ws (level - 1) part a w₁ .1)) where
-      walked : visit N ws (level - 1) part a w ≡ (w₂, b)
+      pub walked : visit N ws (level - 1) part a w ≡ (w₂, b)
       walked = met-below N ws (level - 1) part a w w₁ r m e ∙ pair _ v
 
       pub walk-fails : not b ≡ true → (w₂, false) ≡ below N ws level k i w
@@ -142,6 +146,24 @@ module _ (N : ℕ) (ws : List ℕ) (level k i : ℕ) (w : List ℕ) (pos : 0 < l
       pub walk-right : visit N ws (level - 1) (k - part) j w₂ ≡ below N ws level k i w
       walk-right =
           rw (← ap (λ p. p .0) on-left, ej, rest) (sym (below-right N ws (level - 1) k i w (ap (λ p. p .1) on-left) (λ q. z (rest ∙ q))) ∙ from-level)
+
+-- the walk has come down to node i', and has the same to do as at the start
+pub record Down (N : ℕ) (ws : List ℕ) (level k i : ℕ) (w : List ℕ) (level' k' i' : ℕ) (w' : List ℕ) : Type 0 where
+  pub same : below N ws level' k' i' w' ≡ below N ws level k i w
+  pub size : length w' ≡ length w
+  pub node : i' < N
+  pub some : 0 < level'
+  pub most : level' ≤ level
+  pub part : k' ≤ 256
+
+module _ {N : ℕ} {ws : List ℕ} {level k i : ℕ} {w : List ℕ} {level' k' i' : ℕ} {w' : List ℕ} (d : Down N ws level k i w level' k' i' w') where
+  -- at level 1 the leaves are left
+  pub down-leaves : level' ≤ 1 → {w₂ : List ℕ} {b : Bool} → (w₂ ≡ below N ws 1 k' i' w' .0) × (b ≡ below N ws 1 k' i' w' .1) → (w₂, b) ≡ below N ws level k i w
+  down-leaves h v = let e : 1 ≡ level' = omega arith in sym (pair _ v) ∙ ap (λ q. below N ws q k' i' w') e ∙ d .same
+
+  -- room for a call from there
+  pub down-room : Roomy N ws w level k → (w₁ : List ℕ) → length w₁ ≡ length w → (l p : ℕ) → l ≤ level' → p ≤ k' → Roomy N ws w₁ l p
+  down-room r w₁ e l p hl hp = record { pool = r .pool; work = omega (arith, r); level = omega (arith, r); part = omega arith }
 
 -- ---- the m places
 

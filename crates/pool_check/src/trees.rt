@@ -62,35 +62,65 @@ fn left_part(k: u32, l: u32) -> u32
     if k < half { k } else { half }
 }
 
-// What is below node i, which is visited for the first time, at this level over k splitters.
-fn walk(pool: &[u32], work: &mut [u32], nodes: u32, level: u32, k: u32, i: u32) -> bool
-    requires { ⌜ Roomy nodes (now pool) (now work) level k × (i < nodes) × (0 < level) ⌝ }
-    ensures { λ r. ⌜ (now (work .exit) ≡ below nodes (now (pool .entry)) level k i (now (work .entry)) .0)
-        × (r ≡ below nodes (now (pool .entry)) level k i (now (work .entry)) .1) ⌝ }
+// The leaves below node i, which is visited for the first time, at level 1 over k splitters.
+fn leaves(pool: &[u32], work: &mut [u32], nodes: u32, k: u32, i: u32) -> bool
+    requires { ⌜ Roomy nodes (now pool) (now work) 1 k × (i < nodes) ⌝ }
+    ensures { λ r. ⌜ (now (work .exit) ≡ below nodes (now (pool .entry)) 1 k i (now (work .entry)) .0)
+        × (r ≡ below nodes (now (pool .entry)) 1 k i (now (work .entry)) .1) ⌝ }
 {
     let at = 4 * (i as usize);
-    let l = level - 1;
-    let part = left_part(k, l);
-    let left = pool[at + 1];
-    let met = meet(pool, work, nodes, l, part, left);
-    if met == REFUSED {
+    let part = left_part(k, 0);
+    if meet(pool, work, nodes, 0, part, pool[at + 1]) == REFUSED {
         return false;
-    }
-    if met == FIRST {
-        if !walk(pool, work, nodes, l, part, left) {
-            return false;
-        }
     }
     let right = pool[at + 2];
     let rest = k - part;
     if rest == 0 {
         return right == NONE;
     }
-    let met_right = meet(pool, work, nodes, l, rest, right);
-    if met_right != FIRST {
-        return met_right == DONE;
+    meet(pool, work, nodes, 0, rest, right) == DONE
+}
+
+// What is below node i, which is visited for the first time, at this level over k splitters.
+fn walk(pool: &[u32], work: &mut [u32], nodes: u32, level: u32, k: u32, i: u32) -> bool
+    requires { ⌜ Roomy nodes (now pool) (now work) level k × (i < nodes) × (0 < level) ⌝ }
+    ensures { λ r. ⌜ (now (work .exit) ≡ below nodes (now (pool .entry)) level k i (now (work .entry)) .0)
+        × (r ≡ below nodes (now (pool .entry)) level k i (now (work .entry)) .1) ⌝ }
+{
+    let mut level = level;
+    let mut k = k;
+    let mut i = i;
+    while level > 1 {
+        let at = 4 * (i as usize);
+        level -= 1;
+        let part = left_part(k, level);
+        let left = pool[at + 1];
+        let met = meet(pool, work, nodes, level, part, left);
+        if met == REFUSED {
+            return false;
+        }
+        if met == FIRST {
+            let fine = if level == 1 {
+                leaves(pool, work, nodes, part, left)
+            } else {
+                walk(pool, work, nodes, level, part, left)
+            };
+            if !fine {
+                return false;
+            }
+        }
+        let right = pool[at + 2];
+        k = k - part;
+        if k == 0 {
+            return right == NONE;
+        }
+        let met_right = meet(pool, work, nodes, level, k, right);
+        if met_right != FIRST {
+            return met_right == DONE;
+        }
+        i = right;
     }
-    walk(pool, work, nodes, l, rest, right)
+    leaves(pool, work, nodes, k, i)
 }
 
 // A link to node i, which is to be the root of a tree of this level over k splitters.
