@@ -1,4 +1,4 @@
--- The promises of the functions over the deques and the frame table, where one equation does not say them.
+-- The promises of the functions over the deques and the frame table, where one equation does not say them. Definitions only.
 use mathlib.Core.Path.{_≡_}
 use mathlib.Core.List.{List}
 use Prim.Native.Nat.{ℕ}

@@ -1,4 +1,4 @@
--- What the functions that index without a test know of the words that are lent to them.
+-- What the functions that index without a test know of the words that are lent to them. Definitions only.
 use mathlib.Core.Path.{_≡_}
 use mathlib.Core.Logic.{_≢_, _⊎_}
 use mathlib.Core.List.{List}

@@ -1,20 +1,28 @@
 -- Document 01's "Soundness" on small states, computed: a few sound ones, and for each sentence changes of a sound one after which
 -- this sentence alone is false.
-use mathlib.Core.Path.{_≡_, refl}
-use mathlib.Core.Bool.{cond}
+use mathlib.Core.Path.{_≡_, refl, sym, ap, _∙_}
+use mathlib.Core.Bool.{Bool, true, cond, _||_, _&&_}
+use mathlib.Core.Logic.{inl, inr}
 use mathlib.Core.List.{List, [], _∷_, map}
-use Prim.Native.Nat.{ℕ, _+_, _*_}
+use Prim.Native.Nat.{ℕ, zero, suc, _+_, _*_}
 use Prim.Native.String.{String}
-use lib.ListN.{getD, set, replicate}
-use Rattle.words.specs.Basics.{none, δ, count}
+use native.Mathlib.Omega.{arith}
+use lib.ListN.{getD, set, drop, replicate}
+use lib.Seq.{getD-drop}
+use lib.Dec.{eqb, leb, ltb}
+use Rattle.words.specs.Basics.{none, all, δ, count, below}
+use Rattle.words.specs.Tests.{decided}
+use Rattle.words.specs.Counting.{all-of}
 use Rattle.sizes.specs.Sizes.{height, width, treeNodes}
 use Rattle.pool.specs.Pool.{refcount, left, right, value, setNode, initLevel, initInner, initLeaves, initFree, initPool}
+use Rattle.frames.specs.Widths.{maxWorkers, places, dequePlaces, dequeStride}
+use Rattle.frames.specs.declared.Frame.{Frame}
 use Rattle.frames.specs.Frames.{frameAt, setFrame, initPlaces, initFrames}
 use Rattle.frames.specs.Deques.{size, setSize, place, setPlace, bottom, top, push, pop, shiftUp, dropTop, initDeques}
 use Rattle.frames.specs.Steps.{Table, spawn, steal, sync}
 use Rattle.soundness.specs.Numbers.{numbersIn}
 use Rattle.soundness.specs.Soundness.{oneMain, parentsLive, countsRight, placedOnce, holdLive, absentEmpty, restZero, linked, onlyBelow, placesFree, treeAt, nodesAt, rootsBelow}
-use Rattle.soundness.specs.Soundness.{Sentence, words, holds, numberSentences, sentences}
+use Rattle.soundness.specs.Soundness.{Sentence, says, words, holds, numberSentences, freePlaces, sentences}
 
 -- ---- sound states
 
@@ -35,8 +43,18 @@ with holders freeNode t =
       pool = set (initPool (replicate 24 7) 2 5 (10 ∷ 20 ∷ []) .0) 0 holders;
     }
 
+-- c free places in rising order, the second being p
+rising : ℕ → ℕ → List ℕ
+rising zero p = []
+rising (suc c) p = 0 ∷ cond (eqb c 0) none p ∷ 0 ∷ 0 ∷ 0 ∷ 0 ∷ rising c (suc p)
+
 table : Table
-table = record { deques = initDeques (replicate 520 0); frames = initFrames (replicate 384 0); «free_place» = 1 }
+table = record { deques = 1 ∷ replicate 519 0; frames = 1 ∷ none ∷ 0 ∷ 0 ∷ 0 ∷ 0 ∷ rising 63 2; «free_place» = 1 }
+
+-- the tables at a start
+table-first : (initDeques (replicate 520 0) ≡ table .deques) × (initFrames (replicate 384 0) ≡ table .frames)
+unfolding table rising initDeques push setSize setPlace size initFrames initPlaces setFrame
+table-first = (refl, refl)
 
 -- Main alone, on worker 0's deque: the start. Node 0 is the root, 1 and 2 are its leaves, 3 and 4 are free
 start : State
@@ -60,11 +78,14 @@ grown = with 3 3 (steal (spawn (spawn table 0) 0) 1 0)
 
 -- Main has returned: no frame, and n nodes free in a lent pool of n
 ended : ℕ → State
-ended n = record { numbers = 2 ∷ 2 ∷ n ∷ 0 ∷ 0 ∷ []; deques = replicate 520 0; frames = initPlaces 64 (replicate 384 0) 0; pool = initFree n (replicate (4 * n) 0) 0 }
+ended n = record { numbers = 2 ∷ 2 ∷ n ∷ 0 ∷ 0 ∷ []; deques = replicate 520 0; frames = rising 64 1; pool = initFree n (replicate (4 * n) 0) 0 }
 
 -- three splitters: node 0, under it 1 and 2, the leaves 3, 4 under 1 and 5 under 2, which has no right half; 6 is free
 three : State
 three = record { numbers = 2 ∷ 3 ∷ 7 ∷ 6 ∷ 1 ∷ []; deques = table .deques; frames = table .frames; pool = initPool (replicate 28 7) 3 7 (10 ∷ 20 ∷ 30 ∷ []) .0 }
+
+sounds : List State
+sounds = start ∷ stolen ∷ waiting ∷ stacked ∷ grown ∷ ended 5 ∷ three ∷ []
 
 -- ---- changes
 
@@ -259,27 +280,117 @@ failing (s ∷ ss) = cond (holds s) (failing ss) (words s ∷ failing ss)
 failingIn : State → List String
 failingIn s = failing (sentences (numbersIn (s .numbers)) (s .deques) (s .frames) (s .pool))
 
+-- ---- the same in fewer steps
+
+-- "deque places past a deque's frames are zero": c words, the first in place k, of a deque with n frames
+abbrev restFrom : ℕ → ℕ → ℕ → List ℕ → Bool
+restFrom zero k n xs = true
+restFrom (suc c) k n [] = true
+restFrom (suc c) k n (x ∷ xs) = (ltb k n || eqb x 0) && restFrom c (suc k) n xs
+
+abbrev restQuick : List ℕ → Bool
+restQuick ds = all maxWorkers (λ w. let d : List ℕ = drop (dequeStride * w) ds in leb (getD d 0 0) dequePlaces && restFrom dequePlaces 0 (getD d 0 0) (drop 1 d))
+
+all-first : (n : ℕ) (f : ℕ → Bool) → all (suc n) f ≡ f 0 && all n (λ k. f (suc k))
+all-first zero f = elim (decided (f 0)) [ inl e ↦ rw e refl | inr e ↦ rw e refl ]
+all-first (suc n) f = elim (decided (f 0)) [
+  | inl e ↦ ap (λ b. b && f (suc n)) (all-first n f) ∙ rw e refl
+  | inr e ↦ ap (λ b. b && f (suc n)) (all-first n f) ∙ rw e refl
+]
+
+rest-from : (c k n : ℕ) (xs : List ℕ) → all c (λ j. ltb (k + j) n || eqb (getD xs j 0) 0) ≡ restFrom c k n xs
+rest-from zero k n xs = refl
+rest-from (suc c) k n [] = all-of (suc c) (λ j. ltb (k + j) n || eqb 0 0) (λ j h. elim (decided (ltb (k + j) n)) [ inl e ↦ rw e refl | inr e ↦ rw e refl ])
+rest-from (suc c) k n (x ∷ xs) =
+    all-first c (λ j. ltb (k + j) n || eqb (getD (x ∷ xs) j 0) 0)
+    ∙ (λ i. (ltb (now i) n || eqb x 0) && all c (λ j. ltb (later j i) n || eqb (getD xs j 0) 0))
+    ∙ ap (λ b. (ltb k n || eqb x 0) && b) (rest-from c (suc k) n xs)
+  where
+    now : k + 0 ≡ k
+    now = omega arith
+
+    later : (j : ℕ) → k + suc j ≡ suc k + j
+    later j = omega arith
+
+rest-quick : (ds : List ℕ) → restZero ds ≡ restQuick ds
+unfolding restZero size place
+rest-quick ds = (λ i. all maxWorkers (λ w. leb (first w i) dequePlaces && all dequePlaces (λ k. ltb k (first w i) || eqb (at w k i) 0)))
+    ∙ (λ i. all maxWorkers (λ w. let d : List ℕ = drop (dequeStride * w) ds in leb (getD d 0 0) dequePlaces && from d i))
+  where
+    first : (w : ℕ) → getD ds (dequeStride * w) 0 ≡ getD (drop (dequeStride * w) ds) 0 0
+    first w = ap (λ z. getD ds z 0) (omega arith) ∙ sym (getD-drop (dequeStride * w) ds 0 0)
+
+    at : (w k : ℕ) → getD ds (dequeStride * w + (1 + k)) 0 ≡ getD (drop 1 (drop (dequeStride * w) ds)) k 0
+    at w k = sym (getD-drop (dequeStride * w) ds (1 + k) 0) ∙ sym (getD-drop 1 (drop (dequeStride * w) ds) k 0)
+
+    zero-plus : (k : ℕ) → k ≡ 0 + k
+    zero-plus k = omega arith
+
+    from : (d : List ℕ) → all dequePlaces (λ k. ltb k (getD d 0 0) || eqb (getD (drop 1 d) k 0) 0) ≡ restFrom dequePlaces 0 (getD d 0 0) (drop 1 d)
+    from d = (λ i. all dequePlaces (λ k. ltb (zero-plus k i) (getD d 0 0) || eqb (getD (drop 1 d) k 0) 0)) ∙ rest-from dequePlaces 0 (getD d 0 0) (drop 1 d)
+
+-- "Free frame places lie once on theirs, all but the link to the next being zero": the chain followed once, each record read once
+abbrev freeQuick : List ℕ → ℕ → Bool
+freeQuick fs first =
+    let c : List ℕ = freePlaces fs first in
+    below places c && all places (λ p.
+    let f : Frame = frameAt fs p in
+    (eqb (f .live) 1 && eqb (count p c) 0) ||
+    ((eqb (f .live) 0 && (eqb (f .depth) 0 && (eqb (f .outstanding) 0 && (eqb (f .suspended) 0 && eqb (f .root) 0)))) && eqb (count p c) 1))
+
+free-quick : (fs : List ℕ) (first : ℕ) → placesFree fs first ≡ freeQuick fs first
+unfolding placesFree
+free-quick fs first = refl
+
+-- with another test for the sentence k
+abbrev tested : ℕ → Bool → List Sentence → List Sentence
+tested k b [] = []
+tested zero b (s ∷ ss) = says (words s) b ∷ ss
+tested (suc k) b (s ∷ ss) = s ∷ tested k b ss
+
+abbrev testedBy : Bool → Bool → State → List Sentence
+testedBy rest free s = tested 13 rest (tested 16 free (sentences (numbersIn (s .numbers)) (s .deques) (s .frames) (s .pool)))
+
+quickIn : State → List String
+quickIn s = failing (testedBy (restQuick (s .deques)) (freeQuick (s .frames) (numbersIn (s .numbers) .«free_place»)) s)
+
+quick : (s : State) → failingIn s ≡ quickIn s
+unfolding failingIn quickIn
+quick s i = failing (testedBy (rest-quick (s .deques) i) (free-quick (s .frames) (numbersIn (s .numbers) .«free_place») i) s)
+
+-- ---- the tables
+
 found : Row → List (List String)
 found r = map failingIn (r .states)
 
 said : Row → List (List String)
 said r = map (λ s. r .sentence ∷ []) (r .states)
 
-computed : map failingIn (start ∷ stolen ∷ waiting ∷ stacked ∷ grown ∷ ended 5 ∷ three ∷ []) ≡ map (λ s. []) (start ∷ stolen ∷ waiting ∷ stacked ∷ grown ∷ ended 5 ∷ three ∷ [])
-unfolding table start stolen waiting stacked grown ended three with setNumber setDeques setField setPool changed _but_ _alone_ failing failingIn found said bottom top pop shiftUp dropTop spawn steal sync initPool initFree initLeaves initInner initLevel setNode height width treeNodes initDeques push setSize setPlace size place initFrames initPlaces setFrame frameAt rootsBelow oneMain parentsLive countsRight placedOnce holdLive absentEmpty restZero linked onlyBelow placesFree treeAt nodesAt refcount left right value δ count
-computed = refl
+foundQuick : Row → List (List String)
+foundQuick r = map quickIn (r .states)
+
+-- all of them at once, for what the states have in common is computed once then
+at-once : _≡_ {A = List (List String) × List (List (List String)) × List (List (List String)) × List (List (List String))}
+    (map quickIn sounds, map foundQuick numberRows, map foundQuick frameRows, map foundQuick poolRows)
+    (map (λ s. []) sounds, map said numberRows, map said frameRows, map said poolRows)
+unfolding foundQuick quickIn rising table start stolen waiting stacked grown ended three with setNumber setDeques setField setPool changed _but_ _alone_ sounds numberRows frameRows poolRows failing said bottom top pop shiftUp dropTop spawn steal sync initPool initFree initLeaves initInner initLevel setNode height width treeNodes push setSize setPlace size place setFrame frameAt rootsBelow oneMain parentsLive countsRight placedOnce holdLive absentEmpty linked onlyBelow treeAt nodesAt refcount left right value δ count
+at-once = refl
+
+quickly : (ts : List Row) → map foundQuick ts ≡ map said ts → map found ts ≡ map said ts
+unfolding found foundQuick
+quickly ts e = (λ i. map (λ (r : Row). map (λ s. quick s i) (r .states)) ts) ∙ e
+
+computed : map failingIn sounds ≡ map (λ s. []) sounds
+computed = (λ i. map (λ s. quick s i) sounds) ∙ ap (λ t. t .0) at-once
 
 numbers-computed : map found numberRows ≡ map said numberRows
-unfolding table start stolen waiting stacked grown ended three with setNumber setDeques setField setPool changed _but_ _alone_ numberRows failing failingIn found said bottom top pop shiftUp dropTop spawn steal sync initPool initFree initLeaves initInner initLevel setNode height width treeNodes initDeques push setSize setPlace size place initFrames initPlaces setFrame frameAt rootsBelow oneMain parentsLive countsRight placedOnce holdLive absentEmpty restZero linked onlyBelow placesFree treeAt nodesAt refcount left right value δ count
-numbers-computed = refl
+numbers-computed = quickly numberRows (ap (λ t. t .1) at-once)
 
 frames-computed : map found frameRows ≡ map said frameRows
-unfolding table start stolen waiting stacked grown ended three with setNumber setDeques setField setPool changed _but_ _alone_ frameRows failing failingIn found said bottom top pop shiftUp dropTop spawn steal sync initPool initFree initLeaves initInner initLevel setNode height width treeNodes initDeques push setSize setPlace size place initFrames initPlaces setFrame frameAt rootsBelow oneMain parentsLive countsRight placedOnce holdLive absentEmpty restZero linked onlyBelow placesFree treeAt nodesAt refcount left right value δ count
-frames-computed = refl
+frames-computed = quickly frameRows (ap (λ t. t .2) at-once)
 
 pools-computed : map found poolRows ≡ map said poolRows
-unfolding table start stolen waiting stacked grown ended three with setNumber setDeques setField setPool changed _but_ _alone_ poolRows failing failingIn found said bottom top pop shiftUp dropTop spawn steal sync initPool initFree initLeaves initInner initLevel setNode height width treeNodes initDeques push setSize setPlace size place initFrames initPlaces setFrame frameAt rootsBelow oneMain parentsLive countsRight placedOnce holdLive absentEmpty restZero linked onlyBelow placesFree treeAt nodesAt refcount left right value δ count
-pools-computed = refl
+pools-computed = quickly poolRows (ap (λ t. t .3) at-once)
 
 -- the two that need many nodes, 521 (which is T(257)) and 16,385: of the numbers' sentences this one alone is false; the sentences
 -- on trees are not computed

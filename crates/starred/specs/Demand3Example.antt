@@ -1,41 +1,55 @@
 -- Demand 3 is not empty: its hypotheses hold of document 01's example, entered as one tape.
-use mathlib.Core.Path.{_≡_, refl, sym, subst}
+use mathlib.Core.Path.{_≡_, refl, sym, ap, _∙_, subst}
+use mathlib.Core.Bool.{cond}
 use mathlib.Core.List.{List·Memᴰ as In, List·Memᴰ·head as here, List·Memᴰ·tail as there}
-use mathlib.Core.List.{List, [], _∷_}
+use mathlib.Core.List.{List, [], _∷_, _++_}
+use Prim.Native.Nat.{ℕ}
 use native.Mathlib.Omega.{arith}
 use lib.ListN.{replicate}
-use Rattle.words.specs.Basics.{joined, δ, count}
+use lib.Dec.{eqb}
+use Rattle.words.specs.Basics.{joined}
 use Rattle.sizes.specs.Sizes.{height, width, treeNodes, bit}
 use Rattle.pool.specs.Pool.{refcount, left, right, value, setNode, setRefcount, side, child, sibling, leafOf, readAt, retain, release, pathNode, copyPath, write, initLevel, initInner, initLeaves, initFree, initPool}
-use Rattle.frames.specs.Frames.{frameAt, setFrame, initPlaces, initFrames}
-use Rattle.frames.specs.Deques.{size, setSize, place, setPlace, bottom, top, push, pop, shiftUp, dropTop, initDeques}
+use Rattle.frames.specs.Frames.{frameAt, setFrame}
+use Rattle.frames.specs.Deques.{size, setSize, place, setPlace, bottom, top, push, pop, shiftUp, dropTop}
 use Rattle.frames.specs.Steps.{spawn, return, returned, steal, sync, synced}
-use Rattle.soundness.specs.Soundness.{oneMain, parentsLive, countsRight, placedOnce, holdLive, absentEmpty, restZero, linked, onlyBelow, placesFree, framesSound, treeAt, nodesAt, poolSound, numbersSound, rootsBelow, sound, checked, cleared}
+use Rattle.soundness.specs.Soundness.{cleared}
 use Rattle.model.specs.Record.{recordOf, decodeAt}
 use Rattle.semantics.specs.Core.{spawnOn, returnOn, stealOn, syncOn, readOn, writeOn, stepOn}
-use Rattle.semantics.specs.Entries.{startOn, startWith, recordsFrom, runOn, tapeOn, tapeWith}
-use Rattle.semantics.specs.Calls.{Start, startResult, HostCall, tape, afterStart, exchanges, answersIn}
+use Rattle.semantics.specs.Entries.{startOn, startWith, recordsOf, recordsFrom, runOn, TapeResult}
+use Rattle.semantics.specs.Calls.{Start, startResult, HostCall, tape, afterStart, exchangesFrom, exchanges, answersIn}
 use Rattle.semantics.specs.Demands.{MainReturned, Demand3}
 use Rattle.semantics.specs.Theory.StartedRuns.{demand3}
 use Rattle.starred.specs.Tapes.{spawns, returns, steals, syncs, reads, writes, anyParts, anyPool, five}
+use Rattle.starred.specs.Quick.{quickTape, tape-quick}
 
 -- "2 workers, 5 splitters, 20 nodes, values 10 20 30 40 50"
 abbrev pub example : Start
 example = record { parts = anyParts; workers = 2; values = five; pool = anyPool 20 }
 
 -- "worker 0 spawns; 1 steals from 0; 1 writes 99 to splitter 4; 0 reads 4; 1 syncs; 1 reads 4; 0 returns; 0 reads 4; 0 returns"
+abbrev pub exampleBytes : List ℕ
+exampleBytes = joined (spawns 0 ∷ steals 1 0 ∷ writes 1 4 99 ∷ reads 0 4 ∷ syncs 1 ∷ reads 1 4 ∷ returns 0 ∷ reads 0 4 ∷ returns 0 ∷ [])
+
 pub exampleCalls : List HostCall
-exampleCalls =
-    tape (joined (spawns 0 ∷ steals 1 0 ∷ writes 1 4 99 ∷ reads 0 4 ∷ syncs 1 ∷ reads 1 4 ∷ returns 0 ∷ reads 0 4 ∷ returns 0 ∷ [])) (replicate 20 5) (replicate 18 9) ∷ []
+exampleCalls = tape exampleBytes (replicate 20 5) (replicate 18 9) ∷ []
 
 started : startResult example .result ≡ 0
 unfolding startOn startWith treeNodes height width
 started = refl
 
+abbrev answersOf : TapeResult → List (ℕ × ℕ)
+answersOf o = answersIn (cond (eqb (o .result) 0) (exchangesFrom (o .answers) 0 (recordsOf exampleBytes)) [] ++ [])
+
+-- without the check
+quickly : answersOf (quickTape example exampleBytes (replicate 20 5) (replicate 18 9)) ≡ (101, 1) ∷ (103, 0) ∷ (106, 5) ∷ (105, 50) ∷ (104, 1) ∷ (10, 0) ∷ (102, 2) ∷ (105, 99) ∷ (102, 3) ∷ []
+unfolding startOn startWith runOn recordsFrom recordOf decodeAt spawnOn returnOn stealOn syncOn readOn writeOn stepOn spawn return returned steal sync synced shiftUp dropTop pop top bottom side child sibling bit leafOf readAt retain release setRefcount pathNode copyPath write initPool initFree initLeaves initInner initLevel setNode height width treeNodes push setSize setPlace size place setFrame frameAt cleared refcount left right value
+quickly = refl
+
 -- the lines of the example
 pub answered : answersIn (exchanges (afterStart example) exampleCalls) ≡ (101, 1) ∷ (103, 0) ∷ (106, 5) ∷ (105, 50) ∷ (104, 1) ∷ (10, 0) ∷ (102, 2) ∷ (105, 99) ∷ (102, 3) ∷ []
-unfolding exampleCalls startOn startWith tapeOn tapeWith runOn recordsFrom recordOf decodeAt spawnOn returnOn stealOn syncOn readOn writeOn stepOn spawn return returned steal sync synced shiftUp dropTop pop top bottom side child sibling bit leafOf readAt retain release setRefcount pathNode copyPath write initPool initFree initLeaves initInner initLevel setNode height width treeNodes initDeques push setSize setPlace size place initFrames initPlaces setFrame frameAt checked cleared sound numbersSound rootsBelow framesSound oneMain parentsLive countsRight placedOnce holdLive absentEmpty restZero linked onlyBelow placesFree poolSound treeAt nodesAt refcount left right value δ count
-answered = refl
+unfolding exampleCalls
+answered = ap answersOf (tape-quick example exampleBytes (replicate 20 5) (replicate 18 9)) ∙ quickly
 
 main-returned : MainReturned example exampleCalls
 main-returned = subst (In (102, 3)) (sym answered) (there (there (there (there (there (there (there (there (here refl)))))))))

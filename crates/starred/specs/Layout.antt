@@ -1,22 +1,21 @@
 -- The words of the state and of the pool after short runs: how nodes and frame places are numbered, taken and freed.
-use mathlib.Core.Path.{_≡_, refl}
-use mathlib.Core.Bool.{cond}
+use mathlib.Core.Path.{_≡_, refl, _∙_}
 use mathlib.Core.List.{List, [], _∷_, _++_, map}
-use Prim.Native.Nat.{ℕ, zero, suc, _+_, _-_, _*_}
+use Prim.Native.Nat.{ℕ, _+_, _*_}
 use lib.ListN.{length, replicate}
-use lib.Dec.{eqb}
-use Rattle.words.specs.Basics.{none, joined, δ, count}
+use Rattle.words.specs.Basics.{none, joined}
 use Rattle.sizes.specs.Sizes.{height, width, treeNodes, bit}
 use Rattle.pool.specs.Pool.{refcount, left, right, value, setNode, setRefcount, side, child, sibling, leafOf, readAt, retain, release, pathNode, copyPath, write, initLevel, initInner, initLeaves, initFree, initPool}
-use Rattle.frames.specs.Frames.{frameAt, setFrame, initPlaces, initFrames}
-use Rattle.frames.specs.Deques.{size, setSize, place, setPlace, bottom, top, push, pop, shiftUp, dropTop, initDeques}
+use Rattle.frames.specs.Frames.{frameAt, setFrame}
+use Rattle.frames.specs.Deques.{size, setSize, place, setPlace, bottom, top, push, pop, shiftUp, dropTop}
 use Rattle.frames.specs.Steps.{spawn, return, returned, steal, sync, synced}
-use Rattle.soundness.specs.Soundness.{oneMain, parentsLive, countsRight, placedOnce, holdLive, absentEmpty, restZero, linked, onlyBelow, placesFree, framesSound, treeAt, nodesAt, poolSound, numbersSound, rootsBelow, sound, checked, cleared}
+use Rattle.soundness.specs.Soundness.{cleared}
 use Rattle.model.specs.Record.{recordOf, decodeAt}
 use Rattle.semantics.specs.Core.{spawnOn, returnOn, stealOn, syncOn, readOn, writeOn, stepOn}
-use Rattle.semantics.specs.Entries.{State, wholeNodes, startOn, startWith, recordsFrom, runOn, TapeResult, tapeOn, tapeWith}
+use Rattle.semantics.specs.Entries.{State, wholeNodes, startOn, startWith, recordsFrom, runOn, TapeResult}
 use Rattle.semantics.specs.Calls.{Start, afterStart, tapeResult}
-use Rattle.starred.specs.Tapes.{spawns, returns, steals, syncs, writes, anyParts}
+use Rattle.starred.specs.Tapes.{spawns, returns, steals, syncs, writes, anyParts, deques, live, free, frames}
+use Rattle.starred.specs.Quick.{quickTape, tape-quick}
 
 -- a start, and the records of a tape
 pub record Run : Type 0 where
@@ -32,39 +31,20 @@ pub record After : Type 0 where
 abbrev afterOf : TapeResult → After
 afterOf t = record { answers = t .answers; state = t .state; pool = t .pool }
 
+abbrev works : Run → List ℕ
+works r = replicate (wholeNodes (r .start .pool)) 5
+
+abbrev replies : Run → List ℕ
+replies r = replicate (2 * length (r .records)) 9
+
 -- the parts and the pool hold other words before the start; the pool has three words more than its nodes
 abbrev after : Run → After
-after r = afterOf (tapeResult (afterStart (r .start)) (joined (r .records)) (replicate (wholeNodes (r .start .pool)) 5) (replicate (2 * length (r .records)) 9))
+after r = afterOf (tapeResult (afterStart (r .start)) (joined (r .records)) (works r) (replies r))
 
 abbrev runs : ℕ → List ℕ → ℕ → List (List ℕ) → Run
 runs workers values nodes records = record { start = record { parts = anyParts; workers = workers; values = values; pool = replicate (4 * nodes + 3) 7 }; records = records }
 
--- ---- words
-
--- a deque's length and its frames from the top; "deque places past a deque's frames are zero"
-abbrev deque : List ℕ → List ℕ
-deque ps = length ps ∷ (ps ++ replicate (64 - length ps) 0)
-
--- of workers 0 and 1; the others have none
-abbrev deques : List ℕ → List ℕ → List ℕ
-deques ps qs = deque ps ++ (deque qs ++ replicate 390 0)
-
--- live, parent, depth, outstanding, suspended, root
-abbrev live : ℕ → ℕ → ℕ → ℕ → ℕ → List ℕ
-live parent depth outstanding suspended root = 1 ∷ parent ∷ depth ∷ outstanding ∷ suspended ∷ root ∷ []
-
--- "Free frame places .., all but the link to the next being zero"
-abbrev free : ℕ → List ℕ
-free next = 0 ∷ next ∷ 0 ∷ 0 ∷ 0 ∷ 0 ∷ []
-
--- c free places in rising order, the second being p
-abbrev rising : ℕ → ℕ → List ℕ
-rising zero p = []
-rising (suc c) p = free (cond (eqb c 0) none p) ++ rising c (suc p)
-
--- the first places, then the rest, free in rising order
-abbrev frames : List (List ℕ) → List ℕ
-frames fs = joined fs ++ rising (64 - length fs) (suc (length fs))
+-- ---- nodes
 
 abbrev leaf : ℕ → ℕ → List ℕ
 leaf holders v = holders ∷ none ∷ none ∷ v ∷ []
@@ -158,6 +138,10 @@ layoutTable =
     )
     ∷ []
 
+-- without the check
+quickly : map (λ (row : Run × After). afterOf (quickTape (row .0 .start) (joined (row .0 .records)) (works (row .0)) (replies (row .0)))) layoutTable ≡ map (λ (row : Run × After). row .1) layoutTable
+unfolding layoutTable startOn startWith runOn recordsFrom recordOf decodeAt spawnOn returnOn stealOn syncOn readOn writeOn stepOn spawn return returned steal sync synced shiftUp dropTop pop top bottom side child sibling bit leafOf readAt retain release setRefcount pathNode copyPath write initPool initFree initLeaves initInner initLevel setNode height width treeNodes push setSize setPlace size place setFrame frameAt cleared refcount left right value
+quickly = refl
+
 pub layout : map (λ (row : Run × After). after (row .0)) layoutTable ≡ map (λ (row : Run × After). row .1) layoutTable
-unfolding layoutTable startOn startWith tapeOn tapeWith runOn recordsFrom recordOf decodeAt spawnOn returnOn stealOn syncOn readOn writeOn stepOn spawn return returned steal sync synced shiftUp dropTop pop top bottom side child sibling bit leafOf readAt retain release setRefcount pathNode copyPath write initPool initFree initLeaves initInner initLevel setNode height width treeNodes initDeques push setSize setPlace size place initFrames initPlaces setFrame frameAt checked cleared sound numbersSound rootsBelow framesSound oneMain parentsLive countsRight placedOnce holdLive absentEmpty restZero linked onlyBelow placesFree poolSound treeAt nodesAt refcount left right value δ count
-layout = refl
+layout = (λ i. map (λ (row : Run × After). afterOf (tape-quick (row .0 .start) (joined (row .0 .records)) (works (row .0)) (replies (row .0)) i)) layoutTable) ∙ quickly

@@ -1,6 +1,8 @@
 -- Starred: document 01's starred edges, one table. RefusedCalls, RefusedRecords: every refusal at its condition, and their order. Layout: the
--- words of state and pool after short runs. Demand3Example: demand 3 of document 01's tape. Tapes: what the tables are written with.
+-- words of state and pool after short runs. Demand3Example: demand 3 of document 01's tape. Tapes: what the tables are written with. Quick: the
+-- entries without the check, for states that demand 2 shows to be sound.
 pub mod Tapes
+pub mod Quick
 pub mod Starred
 pub mod RefusedCalls
 pub mod RefusedRecords

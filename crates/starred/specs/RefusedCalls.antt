@@ -1,25 +1,26 @@
 -- Refusals 1 to 6, and the entries' own, 99: each at its condition and beside its nearest accepted neighbour, the order in which
 -- they are checked, and what they leave. Two tables, a theorem each: starts, and tapes and steps. (1 to 3 are a start's, 4 a tape's, 5
 -- and 6 of tapes and steps.)
-use mathlib.Core.Path.{_≡_, refl}
-use mathlib.Core.Bool.{Bool, true, cond, _&&_}
+use mathlib.Core.Path.{_≡_, refl, sym, ap, _∙_}
+use mathlib.Core.Bool.{Bool, true, false, cond, _&&_}
 use mathlib.Core.List.{List, [], _∷_, _++_, map}
 use Prim.Native.Nat.{ℕ, _*_}
 use lib.ListN.{replicate}
 use lib.Dec.{eqb}
 use Rattle.words.specs.Basics.{same, δ, count}
-use Rattle.sizes.specs.Sizes.{height, width, treeNodes, bit}
-use Rattle.pool.specs.Pool.{refcount, left, right, value, setNode, setRefcount, side, child, sibling, leafOf, readAt, retain, release, pathNode, copyPath, write, initLevel, initInner, initLeaves, initFree, initPool}
-use Rattle.frames.specs.Frames.{frameAt, setFrame, initPlaces, initFrames}
-use Rattle.frames.specs.Deques.{size, setSize, place, setPlace, bottom, top, push, pop, shiftUp, dropTop, initDeques}
-use Rattle.frames.specs.Steps.{spawn, return, returned, steal, sync, synced}
-use Rattle.soundness.specs.Soundness.{oneMain, parentsLive, countsRight, placedOnce, holdLive, absentEmpty, restZero, linked, onlyBelow, placesFree, framesSound, treeAt, nodesAt, poolSound, numbersSound, rootsBelow, sound, checked, cleared}
+use Rattle.sizes.specs.Sizes.{height, width, treeNodes}
+use Rattle.pool.specs.Pool.{refcount, left, right, value, setNode, leafOf, readAt, initLevel, initInner, initLeaves, initFree, initPool}
+use Rattle.frames.specs.Frames.{frameAt}
+use Rattle.frames.specs.Deques.{size, place, bottom}
+use Rattle.soundness.specs.Soundness.{oneMain, parentsLive, countsRight, placedOnce, holdLive, absentEmpty, restZero, linked, onlyBelow, placesFree, framesSound, treeAt, nodesAt, poolSound, numbersSound, rootsBelow, sound, cleared}
 use Rattle.model.specs.Record.{recordOf, decodeAt}
-use Rattle.semantics.specs.Core.{spawnOn, returnOn, stealOn, syncOn, readOn, writeOn, stepOn}
-use Rattle.semantics.specs.Entries.{State, zeros, StartResult, startOn, startWith, outsideOn, outsideWith, recordsFrom, runOn, tapeOn, tapeWith}
+use Rattle.semantics.specs.Core.{readOn, stepOn}
+use Rattle.semantics.specs.Answers.{wordsIn}
+use Rattle.semantics.specs.Entries.{State, zeros, isSound, StartResult, startOn, startWith, OutsideResult, recordsFrom, runOn, TapeResult}
 use Rattle.semantics.specs.Calls.{Start, startResult, HostCall, outside, tape, StateAndPool, afterStart, afterCall}
 use Rattle.semantics.specs.Demands.{answersAfter, callResult, workAfter}
 use Rattle.starred.specs.Tapes.{reads, anyParts, wordsOf}
+use Rattle.starred.specs.Quick.{tapeBy, outsideBy, tape-by, outside-by, quickStart, start-quick, after-sound}
 
 -- ---- starts
 
@@ -99,9 +100,39 @@ start-refusals = refl
 
 -- ---- tapes and steps
 
+-- what a call finds
+pub data Before : Type 0 where
+  -- after a start: 2 workers, one splitter of value 1, 2 nodes, in a pool of 9 words
+  started : Before
+  -- the same but for the numbers
+  withNumbers : List ℕ → Before
+  -- the same but for the first free place: 2, where it is 1
+  unsound : Before
+  -- parts of these lengths, with words that are not sound
+  lengths : ℕ → ℕ → ℕ → Before
+  -- a state of zeros and no pool
+  nothing : Before
+
+abbrev begun : Start
+begun = record { parts = anyParts; workers = 2; values = 1 ∷ []; pool = replicate 9 7 }
+
+abbrev numbered : StateAndPool → List ℕ → StateAndPool
+numbered h ks = record { state = record { numbers = ks; deques = h .state .deques; frames = h .state .frames }; pool = h .pool }
+
+-- after the start h
+abbrev foundIn : StateAndPool → Before → StateAndPool
+foundIn h started = h
+foundIn h (withNumbers ks) = numbered h ks
+foundIn h unsound = numbered h (2 ∷ 1 ∷ 2 ∷ 1 ∷ 2 ∷ [])
+foundIn h (lengths ns ds fs) = record { state = sizes ns ds fs; pool = replicate 9 7 }
+foundIn h nothing = record { state = zeros; pool = [] }
+
+abbrev found : Before → StateAndPool
+found b = foundIn (afterStart begun) b
+
 -- a call, its result (of a step the first answer word), and the answer words and the work slice after it
 pub record CallRow : Type 0 where
-  pub before : StateAndPool
+  pub before : Before
   pub call : HostCall
   pub result : ℕ
   pub answers : List ℕ
@@ -126,31 +157,16 @@ callSeen h c =
 abbrev callSaid : CallRow → CallSeen
 callSaid r = record { result = r .result; answers = r .answers; work = r .work; same-words = true }
 
--- 2 workers, one splitter of value 1, 2 nodes, in a pool of 9 words
-abbrev started : StateAndPool
-started = afterStart (record { parts = anyParts; workers = 2; values = 1 ∷ []; pool = replicate 9 7 })
-
--- the same but for the numbers; 1 is the first free place, 2 and 7 are not
-abbrev withNumbers : List ℕ → StateAndPool
-withNumbers ks = record { state = record { numbers = ks; deques = started .state .deques; frames = started .state .frames }; pool = started .pool }
-
-abbrev unsound : StateAndPool
-unsound = withNumbers (2 ∷ 1 ∷ 2 ∷ 1 ∷ 2 ∷ [])
-
--- parts of these lengths, with words that are not sound
-abbrev lengths : ℕ → ℕ → ℕ → StateAndPool
-lengths ns ds fs = record { state = sizes ns ds fs; pool = replicate 9 7 }
-
 -- a tape of these bytes with k words of work and m answer words: 5 and 9 before it
-abbrev plays : StateAndPool → List ℕ → ℕ → ℕ → (result : ℕ) (answers work : List ℕ) → CallRow
+abbrev plays : Before → List ℕ → ℕ → ℕ → (result : ℕ) (answers work : List ℕ) → CallRow
 plays h bs k m r as′ ks = record { before = h; call = tape bs (replicate k 5) (replicate m 9); result = r; answers = as′; work = ks }
 
 -- a tape that leaves answer words and work as they were
-abbrev refuses : StateAndPool → List ℕ → ℕ → ℕ → ℕ → CallRow
+abbrev refuses : Before → List ℕ → ℕ → ℕ → ℕ → CallRow
 refuses h bs k m r = plays h bs k m r (replicate m 9) (replicate k 5)
 
 -- a step from outside: a read of splitter 0 by worker 0, or one with the kind 0
-abbrev steps : StateAndPool → ℕ → ℕ → (result : ℕ) (work : List ℕ) → CallRow
+abbrev steps : Before → ℕ → ℕ → (result : ℕ) (work : List ℕ) → CallRow
 steps h kind k r ks = record { before = h; call = outside kind 0 0 0 (replicate k 5); result = r; answers = []; work = ks }
 
 abbrev oneRead : List ℕ
@@ -180,7 +196,7 @@ callTable =
     ∷ plays unsound [] 3 3 6 (9 ∷ 9 ∷ 9 ∷ []) (0 ∷ 0 ∷ 5 ∷ [])
     ∷ steps unsound 5 3 6 (0 ∷ 0 ∷ 5 ∷ [])
     -- a state of zeros is not sound; it records no node
-    ∷ steps (record { state = zeros; pool = [] }) 5 1 6 (5 ∷ [])
+    ∷ steps nothing 5 1 6 (5 ∷ [])
     -- 4 before 5 and 6; 5 before 6
     ∷ refuses started (oneRead ++ (0 ∷ [])) 1 3 4
     ∷ refuses unsound (oneRead ++ (0 ∷ [])) 3 3 4
@@ -210,6 +226,59 @@ callTable =
     ∷ steps (withNumbers (2 ∷ 1 ∷ 2 ∷ 1 ∷ [])) 0 3 99 (5 ∷ 5 ∷ 5 ∷ [])
     ∷ []
 
-pub call-refusals : map (λ (row : CallRow). callSeen (row .before) (row .call)) callTable ≡ map callSaid callTable
-unfolding callTable startOn startWith tapeOn tapeWith outsideOn outsideWith runOn recordsFrom recordOf decodeAt spawnOn returnOn stealOn syncOn readOn writeOn stepOn spawn return returned steal sync synced shiftUp dropTop pop top bottom side child sibling bit leafOf readAt retain release setRefcount pathNode copyPath write initPool initFree initLeaves initInner initLevel setNode height width treeNodes initDeques push setSize setPlace size place initFrames initPlaces setFrame frameAt checked cleared sound numbersSound rootsBelow framesSound oneMain parentsLive countsRight placedOnce holdLive absentEmpty restZero linked onlyBelow placesFree poolSound treeAt nodesAt refcount left right value δ count
-call-refusals = refl
+-- given whether state and pool are sound
+abbrev told : StateAndPool → (result : ℕ) (answers work : List ℕ) → State → List ℕ → CallSeen
+told h r as′ work s ws = record { result = r; answers = as′; work = work; same-words = same (wordsOf s) (wordsOf (h .state)) && same ws (h .pool) }
+
+abbrev stepTold : StateAndPool → OutsideResult → CallSeen
+stepTold h o = told h (wordsIn (o .result) .0) [] (o .work) (o .state) (o .pool)
+
+abbrev tapeTold : StateAndPool → TapeResult → CallSeen
+tapeTold h o = told h (o .result) (o .answers) (o .work) (o .state) (o .pool)
+
+abbrev seenBy : Bool → StateAndPool → HostCall → CallSeen
+seenBy v h (outside kind worker field value work) = let o : OutsideResult = outsideBy v h kind worker field value work in stepTold h o
+seenBy v h (tape bytes work answers) = let o : TapeResult = tapeBy v h bytes work answers in tapeTold h o
+
+seen-by : {v : Bool} (h : StateAndPool) (c : HostCall) → isSound (h .state) (h .pool) ≡ v → callSeen h c ≡ seenBy v h c
+seen-by h (outside kind worker field value work) e = ap (stepTold h) (outside-by h kind worker field value work e)
+seen-by h (tape bytes work answers) e = ap (tapeTold h) (tape-by h bytes work answers e)
+
+begins : startResult begun .result ≡ 0
+unfolding startOn startWith treeNodes height width
+begins = refl
+
+found-quick : (b : Before) → found b ≡ foundIn (quickStart begun) b
+found-quick b = ap (λ h. foundIn h b) (start-quick begun begins)
+
+-- whether state and pool are sound; of those whose lengths are refused it does not matter
+abbrev soundAs : Before → Bool
+soundAs started = true
+soundAs (withNumbers ks) = isSound (foundIn (quickStart begun) (withNumbers ks) .state) (quickStart begun .pool)
+soundAs unsound = false
+soundAs (lengths ns ds fs) = isSound (sizes ns ds fs) (replicate 9 7)
+soundAs nothing = isSound zeros []
+
+not-sound : isSound (foundIn (quickStart begun) unsound .state) (quickStart begun .pool) ≡ false
+unfolding sound numbersSound framesSound oneMain parentsLive countsRight placedOnce holdLive absentEmpty restZero linked onlyBelow placesFree size place frameAt height width treeNodes initPool initFree initLeaves initInner initLevel setNode δ count
+not-sound = refl
+
+sound-as : (b : Before) → isSound (foundIn (quickStart begun) b .state) (foundIn (quickStart begun) b .pool) ≡ soundAs b
+sound-as started = ap (λ (h : StateAndPool). isSound (h .state) (h .pool)) (sym (start-quick begun begins)) ∙ after-sound begun [] begins
+sound-as (withNumbers ks) = refl
+sound-as unsound = not-sound
+sound-as (lengths ns ds fs) = refl
+sound-as nothing = refl
+
+abbrev rowQuick : CallRow → CallSeen
+rowQuick r = seenBy (soundAs (r .before)) (foundIn (quickStart begun) (r .before)) (r .call)
+
+row-quick : (r : CallRow) → callSeen (found (r .before)) (r .call) ≡ rowQuick r
+row-quick r = ap (λ h. callSeen h (r .call)) (found-quick (r .before)) ∙ seen-by (foundIn (quickStart begun) (r .before)) (r .call) (sound-as (r .before))
+
+calls-quickly : map rowQuick callTable ≡ map callSaid callTable
+unfolding callTable runOn recordsFrom recordOf decodeAt readOn stepOn bottom readAt leafOf initPool initFree initLeaves initInner initLevel setNode height width treeNodes size place frameAt cleared sound numbersSound rootsBelow framesSound oneMain parentsLive countsRight placedOnce holdLive absentEmpty restZero linked onlyBelow placesFree poolSound treeAt nodesAt refcount left right value δ count
+calls-quickly = refl
+
+pub call-refusals : map (λ (row : CallRow). callSeen (found (row .before)) (row .call)) callTable ≡ map callSaid callTable
+call-refusals = (λ i. map (λ (row : CallRow). row-quick row i) callTable) ∙ calls-quickly

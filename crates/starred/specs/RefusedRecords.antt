@@ -5,25 +5,29 @@
 -- writes), but for 11 with 12 and 15 with 16; 7 and 16, for a write has no unused field. By the frames: 8 and 11 or 14, for a worker
 -- that does not exist has no frame; 10 and 14, for an idle worker has none; 9 and 11, 13 or 14, for no frame lives once Main has
 -- returned; 9 and 16, for all nodes are free then, and T(n) is at least H + 1. Of all other pairs there is a row.
-use mathlib.Core.Path.{_≡_, refl}
+use mathlib.Core.Path.{_≡_, refl, ap, _∙_}
 use mathlib.Core.Bool.{Bool, true, cond, _&&_}
+use mathlib.Core.Logic.{inl, inr}
 use mathlib.Core.List.{List, [], _∷_, _++_, map}
-use Prim.Native.Nat.{ℕ, zero, suc, _+_, _-_, _*_}
+use Prim.Native.Nat.{ℕ, zero, suc, _*_}
 use lib.ListN.{length, replicate}
-use lib.Dec.{ltb}
-use Rattle.words.specs.Basics.{joined, same, δ, count}
+use lib.Dec.{eqb, ltb}
+use borrow.Author.Tests.{eqb-true}
+use Rattle.words.specs.Basics.{joined, same}
+use Rattle.words.specs.Tests.{decided}
 use Rattle.sizes.specs.Sizes.{height, width, treeNodes, bit}
 use Rattle.pool.specs.Pool.{refcount, left, right, value, setNode, setRefcount, side, child, sibling, leafOf, readAt, retain, release, pathNode, copyPath, write, initLevel, initInner, initLeaves, initFree, initPool}
-use Rattle.frames.specs.Frames.{frameAt, setFrame, initPlaces, initFrames}
-use Rattle.frames.specs.Deques.{size, setSize, place, setPlace, bottom, top, push, pop, shiftUp, dropTop, initDeques}
+use Rattle.frames.specs.Frames.{frameAt, setFrame}
+use Rattle.frames.specs.Deques.{size, setSize, place, setPlace, bottom, top, push, pop, shiftUp, dropTop}
 use Rattle.frames.specs.Steps.{spawn, return, returned, steal, sync, synced}
-use Rattle.soundness.specs.Soundness.{oneMain, parentsLive, countsRight, placedOnce, holdLive, absentEmpty, restZero, linked, onlyBelow, placesFree, framesSound, treeAt, nodesAt, poolSound, numbersSound, rootsBelow, sound, checked, cleared}
+use Rattle.soundness.specs.Soundness.{cleared}
 use Rattle.model.specs.Record.{recordOf, decodeAt}
 use Rattle.semantics.specs.Core.{spawnOn, returnOn, stealOn, syncOn, readOn, writeOn, stepOn}
 use Rattle.semantics.specs.Answers.{wordsIn}
-use Rattle.semantics.specs.Entries.{wholeNodes, startOn, startWith, OutsideResult, outsideOn, outsideWith, recordsFrom, runOn, TapeResult, tapeOn, tapeWith}
-use Rattle.semantics.specs.Calls.{Start, HostCall, tape, StateAndPool, afterStart, afterCalls, outsideResult, tapeResult}
+use Rattle.semantics.specs.Entries.{wholeNodes, startOn, startWith, OutsideResult, recordsFrom, runOn, TapeResult}
+use Rattle.semantics.specs.Calls.{Start, startResult, HostCall, tape, StateAndPool, afterStart, afterCalls, outsideResult, tapeResult}
 use Rattle.starred.specs.Tapes.{bytes, spawns, returns, steals, syncs, reads, writes, anyParts, anyPool, wordsOf}
+use Rattle.starred.specs.Quick.{outsideBy, outside-by, quickStart, after-sound, quickTape, tape-quick, quickCalls, after-quick}
 
 -- ---- tapes
 
@@ -51,18 +55,37 @@ bytesOf rows = joined (map (λ (r : Row). r .0) rows)
 abbrev saidOf : List Row → List ℕ
 saidOf rows = joined (map (λ (r : Row). r .1 .0 ∷ r .1 .1 ∷ []) rows)
 
-abbrev played : Start → List Row → TapeResult
-played b rows = tapeResult (afterStart b) (bytesOf rows) (replicate (wholeNodes (b .pool)) 5) (replicate (2 * length rows) 9)
+abbrev works : Start → List ℕ
+works b = replicate (wholeNodes (b .pool)) 5
 
--- the answer words of all the records; and whether they leave the state and the pool that they leave without the refused ones
+abbrev replies : List Row → List ℕ
+replies rows = replicate (2 * length rows) 9
+
+abbrev played : Start → List Row → TapeResult
+played b rows = tapeResult (afterStart b) (bytesOf rows) (works b) (replies rows)
+
+-- the answer words of all the records, q; and whether they leave the state and the pool that they leave without the refused ones, p
+abbrev compared : TapeResult → TapeResult → List ℕ × Bool
+compared p q = (q .answers, same (wordsOf (q .state)) (wordsOf (p .state)) && same (q .pool) (p .pool))
+
 abbrev seen : Case → List ℕ × Bool
-seen k =
-    let p : TapeResult = played (k .start) (k .before ++ k .after) in
-    let q : TapeResult = played (k .start) (k .before ++ (k .refused ++ k .after)) in
-    (q .answers, same (wordsOf (q .state)) (wordsOf (p .state)) && same (q .pool) (p .pool))
+seen k = compared (played (k .start) (k .before ++ k .after)) (played (k .start) (k .before ++ (k .refused ++ k .after)))
 
 abbrev said : Case → List ℕ × Bool
 said k = (saidOf (k .before ++ (k .refused ++ k .after)), true)
+
+-- without the check
+abbrev playedQuick : Start → List Row → TapeResult
+playedQuick b rows = quickTape b (bytesOf rows) (works b) (replies rows)
+
+played-quick : (b : Start) (rows : List Row) → played b rows ≡ playedQuick b rows
+played-quick b rows = tape-quick b (bytesOf rows) (works b) (replies rows)
+
+abbrev seenQuick : Case → List ℕ × Bool
+seenQuick k = let p : TapeResult = playedQuick (k .start) (k .before ++ k .after) in let q : TapeResult = playedQuick (k .start) (k .before ++ (k .refused ++ k .after)) in compared p q
+
+seen-quick : (k : Case) → seen k ≡ seenQuick k
+seen-quick k i = compared (played-quick (k .start) (k .before ++ k .after) i) (played-quick (k .start) (k .before ++ (k .refused ++ k .after)) i)
 
 -- n splitters of value 1
 abbrev starts : ℕ → ℕ → ℕ → Start
@@ -241,16 +264,22 @@ twoNodes = record { start = starts 1 2 5; before = []; refused = by (writes 0 2 
 pub workersTable : List Case
 workersTable = atStart ∷ eightWorkers ∷ mainReturned ∷ twoFrames ∷ []
 
+workers-quickly : map seenQuick workersTable ≡ map said workersTable
+unfolding workersTable startOn startWith runOn recordsFrom recordOf decodeAt spawnOn returnOn stealOn syncOn readOn writeOn stepOn spawn return returned steal sync synced shiftUp dropTop pop top bottom side child sibling bit leafOf readAt retain release setRefcount pathNode copyPath write initPool initFree initLeaves initInner initLevel setNode height width treeNodes push setSize setPlace size place setFrame frameAt cleared refcount left right value
+workers-quickly = refl
+
 pub workers-refusals : map seen workersTable ≡ map said workersTable
-unfolding workersTable startOn startWith tapeOn tapeWith outsideOn outsideWith runOn recordsFrom recordOf decodeAt spawnOn returnOn stealOn syncOn readOn writeOn stepOn spawn return returned steal sync synced shiftUp dropTop pop top bottom side child sibling bit leafOf readAt retain release setRefcount pathNode copyPath write initPool initFree initLeaves initInner initLevel setNode height width treeNodes initDeques push setSize setPlace size place initFrames initPlaces setFrame frameAt checked cleared sound numbersSound rootsBelow framesSound oneMain parentsLive countsRight placedOnce holdLive absentEmpty restZero linked onlyBelow placesFree poolSound treeAt nodesAt refcount left right value δ count
-workers-refusals = refl
+workers-refusals = (λ i. map (λ (k : Case). seen-quick k i) workersTable) ∙ workers-quickly
 
 pub nodesTable : List Case
 nodesTable = childElsewhere ∷ noNode ∷ oneNode ∷ twoNodes ∷ []
 
+nodes-quickly : map seenQuick nodesTable ≡ map said nodesTable
+unfolding nodesTable startOn startWith runOn recordsFrom recordOf decodeAt spawnOn returnOn stealOn syncOn readOn writeOn stepOn spawn return returned steal sync synced shiftUp dropTop pop top bottom side child sibling bit leafOf readAt retain release setRefcount pathNode copyPath write initPool initFree initLeaves initInner initLevel setNode height width treeNodes push setSize setPlace size place setFrame frameAt cleared refcount left right value
+nodes-quickly = refl
+
 pub nodes-refusals : map seen nodesTable ≡ map said nodesTable
-unfolding nodesTable startOn startWith tapeOn tapeWith outsideOn outsideWith runOn recordsFrom recordOf decodeAt spawnOn returnOn stealOn syncOn readOn writeOn stepOn spawn return returned steal sync synced shiftUp dropTop pop top bottom side child sibling bit leafOf readAt retain release setRefcount pathNode copyPath write initPool initFree initLeaves initInner initLevel setNode height width treeNodes initDeques push setSize setPlace size place initFrames initPlaces setFrame frameAt checked cleared sound numbersSound rootsBelow framesSound oneMain parentsLive countsRight placedOnce holdLive absentEmpty restZero linked onlyBelow placesFree poolSound treeAt nodesAt refcount left right value δ count
-nodes-refusals = refl
+nodes-refusals = (λ i. map (λ (k : Case). seen-quick k i) nodesTable) ∙ nodes-quickly
 
 -- ---- 64 frames
 
@@ -269,9 +298,12 @@ framesTable =
     ∷ by (spawns 0) 13
     ∷ [])
 
+frames-quickly : playedQuick (starts 2 1 1) framesTable .answers ≡ saidOf framesTable
+unfolding framesTable startOn startWith runOn recordsFrom recordOf decodeAt spawnOn returnOn stealOn syncOn readOn writeOn stepOn spawn return returned steal sync synced shiftUp dropTop pop top bottom side child sibling bit leafOf readAt retain release setRefcount pathNode copyPath write initPool initFree initLeaves initInner initLevel setNode height width treeNodes push setSize setPlace size place setFrame frameAt cleared refcount left right value
+frames-quickly = refl
+
 pub frames-refusals : played (starts 2 1 1) framesTable .answers ≡ saidOf framesTable
-unfolding framesTable startOn startWith tapeOn tapeWith outsideOn outsideWith runOn recordsFrom recordOf decodeAt spawnOn returnOn stealOn syncOn readOn writeOn stepOn spawn return returned steal sync synced shiftUp dropTop pop top bottom side child sibling bit leafOf readAt retain release setRefcount pathNode copyPath write initPool initFree initLeaves initInner initLevel setNode height width treeNodes initDeques push setSize setPlace size place initFrames initPlaces setFrame frameAt checked cleared sound numbersSound rootsBelow framesSound oneMain parentsLive countsRight placedOnce holdLive absentEmpty restZero linked onlyBelow placesFree poolSound treeAt nodesAt refcount left right value δ count
-frames-refusals = refl
+frames-refusals = ap (λ (t : TapeResult). t .answers) (played-quick (starts 2 1 1) framesTable) ∙ frames-quickly
 
 -- ---- steps from outside
 
@@ -293,14 +325,21 @@ abbrev enters : Start → List Row → (kind worker field value : ℕ) → ℕ �
 enters b rows k w f v x y = record { start = b; before = rows; kind = k; worker = w; field = f; value = v; words = (x, y) }
 
 -- the answer words; and whether the step, if it was refused, changed nothing
-abbrev stepSeen : StepRow → (ℕ × ℕ) × Bool
-stepSeen r =
-    let h : StateAndPool = afterCalls (afterStart (r .start)) (tapeOf (r .before)) in
-    let o : OutsideResult = outsideResult h (r .kind) (r .worker) (r .field) (r .value) (replicate (wholeNodes (h .pool)) 5) in
+abbrev answeredBy : StateAndPool → OutsideResult → (ℕ × ℕ) × Bool
+answeredBy h o =
     let unchanged : Bool = same (wordsOf (o .state)) (wordsOf (h .state)) && same (o .pool) (h .pool) in
     (wordsIn (o .result), cond (ltb (wordsIn (o .result) .0) 100) unchanged true)
 
--- (13 is in the table of tapes only: to compute the check of 64 frames takes 2 GB)
+abbrev beforeStep : StepRow → StateAndPool
+beforeStep r = afterCalls (afterStart (r .start)) (tapeOf (r .before))
+
+-- by a step that leaves this, of the state, the pool and the work slice
+abbrev seenBy : StepRow → (StateAndPool → List ℕ → OutsideResult) → StateAndPool → (ℕ × ℕ) × Bool
+seenBy r does h = let o : OutsideResult = does h (replicate (wholeNodes (h .pool)) 5) in answeredBy h o
+
+abbrev stepSeen : StepRow → (ℕ × ℕ) × Bool
+stepSeen r = seenBy r (λ h work. outsideResult h (r .kind) (r .worker) (r .field) (r .value) work) (beforeStep r)
+
 pub stepTable : List StepRow
 stepTable =
     enters (starts 2 1 2) [] 0 0 0 0 7 0
@@ -310,6 +349,7 @@ stepTable =
     ∷ enters (starts 2 1 2) [] 5 1 0 0 10 0
     ∷ enters (starts 2 1 2) [] 3 0 1 0 11 0
     ∷ enters (starts 2 1 2) [] 3 1 0 0 12 0
+    ∷ enters (starts 2 1 2) (nested 63 1) 1 0 0 0 13 0
     ∷ enters (starts 2 1 2) (gives (spawns 0) 101 1 ∷ gives (steals 1 0) 103 0 ∷ []) 2 1 0 0 14 0
     ∷ enters (starts 2 1 2) [] 5 0 1 0 15 0
     ∷ enters (starts 2 1 1) [] 6 0 0 5 16 0
@@ -322,6 +362,27 @@ stepTable =
     ∷ enters (starts 2 1 2) [] 5 0 65536 0 15 0
     ∷ []
 
+-- without the check
+abbrev stepDirect : StepRow → StateAndPool → (ℕ × ℕ) × Bool
+stepDirect r h = seenBy r (λ g work. outsideBy true g (r .kind) (r .worker) (r .field) (r .value) work) h
+
+abbrev stepQuick : StepRow → (ℕ × ℕ) × Bool
+stepQuick r = cond (eqb (startResult (r .start) .result) 0) (stepDirect r (quickCalls (quickStart (r .start)) (tapeOf (r .before)))) (stepSeen r)
+
+step-quick : (r : StepRow) → stepSeen r ≡ stepQuick r
+step-quick r = elim (decided (eqb (startResult (r .start) .result) 0)) [
+  | inl e ↦
+      let a = eqb-true (startResult (r .start) .result) 0 e in
+      let h = beforeStep r in
+      rw e
+      (ap (answeredBy h) (outside-by h (r .kind) (r .worker) (r .field) (r .value) (replicate (wholeNodes (h .pool)) 5) (after-sound (r .start) (tapeOf (r .before)) a))
+      ∙ ap (stepDirect r) (after-quick (r .start) (tapeOf (r .before)) a))
+  | inr e ↦ rw e refl
+]
+
+step-quickly : map stepQuick stepTable ≡ map (λ (row : StepRow). (row .words, true)) stepTable
+unfolding stepTable startOn startWith runOn recordsFrom recordOf decodeAt spawnOn returnOn stealOn syncOn readOn writeOn stepOn spawn return returned steal sync synced shiftUp dropTop pop top bottom side child sibling bit leafOf readAt retain release setRefcount pathNode copyPath write initPool initFree initLeaves initInner initLevel setNode height width treeNodes push setSize setPlace size place setFrame frameAt cleared refcount left right value
+step-quickly = refl
+
 pub step-refusals : map stepSeen stepTable ≡ map (λ (row : StepRow). (row .words, true)) stepTable
-unfolding stepTable startOn startWith tapeOn tapeWith outsideOn outsideWith runOn recordsFrom recordOf decodeAt spawnOn returnOn stealOn syncOn readOn writeOn stepOn spawn return returned steal sync synced shiftUp dropTop pop top bottom side child sibling bit leafOf readAt retain release setRefcount pathNode copyPath write initPool initFree initLeaves initInner initLevel setNode height width treeNodes initDeques push setSize setPlace size place initFrames initPlaces setFrame frameAt checked cleared sound numbersSound rootsBelow framesSound oneMain parentsLive countsRight placedOnce holdLive absentEmpty restZero linked onlyBelow placesFree poolSound treeAt nodesAt refcount left right value δ count
-step-refusals = refl
+step-refusals = (λ i. map (λ (row : StepRow). step-quick row i) stepTable) ∙ step-quickly

@@ -1,21 +1,23 @@
 -- Document 01's starred edges, through the start and the tape: one table, one theorem.
-use mathlib.Core.Path.{_≡_, refl}
+use mathlib.Core.Path.{_≡_, refl, _∙_}
 use mathlib.Core.Bool.{cond}
 use mathlib.Core.List.{List, [], _∷_, _++_, map}
 use Prim.Native.Nat.{ℕ, _+_, _*_}
 use lib.ListN.{length, replicate}
 use lib.Dec.{eqb}
-use Rattle.words.specs.Basics.{joined, δ, count}
+use Rattle.words.specs.Basics.{joined}
 use Rattle.sizes.specs.Sizes.{height, width, treeNodes, bit}
 use Rattle.pool.specs.Pool.{refcount, left, right, value, setNode, setRefcount, side, child, sibling, leafOf, readAt, retain, release, pathNode, copyPath, write, initLevel, initInner, initLeaves, initFree, initPool}
-use Rattle.frames.specs.Frames.{frameAt, setFrame, initPlaces, initFrames}
-use Rattle.frames.specs.Deques.{size, setSize, place, setPlace, bottom, top, push, pop, shiftUp, dropTop, initDeques}
+use Rattle.frames.specs.Frames.{frameAt, setFrame}
+use Rattle.frames.specs.Deques.{size, setSize, place, setPlace, bottom, top, push, pop, shiftUp, dropTop}
 use Rattle.frames.specs.Steps.{spawn, return, returned, steal, sync, synced}
-use Rattle.soundness.specs.Soundness.{oneMain, parentsLive, countsRight, placedOnce, holdLive, absentEmpty, restZero, linked, onlyBelow, placesFree, framesSound, treeAt, nodesAt, poolSound, numbersSound, rootsBelow, sound, checked, cleared}
+use Rattle.soundness.specs.Soundness.{cleared}
 use Rattle.model.specs.Record.{recordOf, decodeAt}
 use Rattle.semantics.specs.Core.{spawnOn, returnOn, stealOn, syncOn, readOn, writeOn, stepOn}
-use Rattle.semantics.specs.Entries.{StartResult, startOn, startWith, recordsFrom, runOn, TapeResult, tapeOn, tapeWith}
+use Rattle.semantics.specs.Entries.{startOn, startWith, recordsFrom, runOn, TapeResult}
+use Rattle.semantics.specs.Calls.{Start, startResult, afterStart, tapeResult}
 use Rattle.starred.specs.Tapes.{spawns, returns, steals, syncs, reads, writes, anyParts, anyPool, five}
+use Rattle.starred.specs.Quick.{quickTape, tape-quick}
 
 -- a start, then a tape
 pub record Case : Type 0 where
@@ -37,12 +39,22 @@ outcomeOf t = record { refused = t .result; answers = t .answers; work = t .work
 abbrev pub refusedBy : ℕ → Outcome
 refusedBy k = record { refused = k; answers = []; work = [] }
 
--- the tape is lent two answer words more than it needs, and one work word more; a start that is refused ends it
+abbrev startOf : Case → Start
+startOf k = record { parts = anyParts; workers = k .workers; values = k .values; pool = anyPool (k .nodes) }
+
+abbrev works : Case → List ℕ
+works k = replicate (k .nodes + 1) 5
+
+abbrev replies : Case → List ℕ
+replies k = replicate (2 * length (k .records) + 2) 9
+
+-- a start that is refused ends it
+abbrev told : Case → TapeResult → Outcome
+told k t = let o : Outcome = outcomeOf t in cond (eqb (startResult (startOf k) .result) 0) o (refusedBy (startResult (startOf k) .result))
+
+-- the tape is lent two answer words more than it needs, and one work word more
 abbrev pub outcome : Case → Outcome
-outcome k =
-    let b : StartResult = startOn anyParts (k .workers) (k .values) (anyPool (k .nodes)) in
-    let o : Outcome = outcomeOf (tapeOn (b .state) (b .pool) (replicate (k .nodes + 1) 5) (joined (k .records)) (replicate (2 * length (k .records) + 2) 9)) in
-    cond (eqb (b .result) 0) o (refusedBy (b .result))
+outcome k = told k (tapeResult (afterStart (startOf k)) (joined (k .records)) (works k) (replies k))
 
 -- ---- the table
 
@@ -78,6 +90,10 @@ table =
     ∷ (starts 2 five 20 (spawns 0 ∷ steals 1 0 ∷ returns 1 ∷ []), answered 20 (101 ∷ 1 ∷ 103 ∷ 0 ∷ 14 ∷ 0 ∷ []))
     ∷ []
 
+-- without the check
+quickly : map (λ (row : Case × Outcome). told (row .0) (quickTape (startOf (row .0)) (joined (row .0 .records)) (works (row .0)) (replies (row .0)))) table ≡ map (λ (row : Case × Outcome). row .1) table
+unfolding table startOn startWith runOn recordsFrom recordOf decodeAt spawnOn returnOn stealOn syncOn readOn writeOn stepOn spawn return returned steal sync synced shiftUp dropTop pop top bottom side child sibling bit leafOf readAt retain release setRefcount pathNode copyPath write initPool initFree initLeaves initInner initLevel setNode height width treeNodes push setSize setPlace size place setFrame frameAt cleared refcount left right value
+quickly = refl
+
 pub starred : map (λ (row : Case × Outcome). outcome (row .0)) table ≡ map (λ (row : Case × Outcome). row .1) table
-unfolding table startOn startWith tapeOn tapeWith runOn recordsFrom recordOf decodeAt spawnOn returnOn stealOn syncOn readOn writeOn stepOn spawn return returned steal sync synced shiftUp dropTop pop top bottom side child sibling bit leafOf readAt retain release setRefcount pathNode copyPath write initPool initFree initLeaves initInner initLevel setNode height width treeNodes initDeques push setSize setPlace size place initFrames initPlaces setFrame frameAt checked cleared sound numbersSound rootsBelow framesSound oneMain parentsLive countsRight placedOnce holdLive absentEmpty restZero linked onlyBelow placesFree poolSound treeAt nodesAt refcount left right value δ count
-starred = refl
+starred = (λ i. map (λ (row : Case × Outcome). told (row .0) (tape-quick (startOf (row .0)) (joined (row .0 .records)) (works (row .0)) (replies (row .0)) i)) table) ∙ quickly

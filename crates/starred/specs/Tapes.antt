@@ -1,7 +1,10 @@
 -- Records, tapes and lent words that the tables are written with.
+use mathlib.Core.Bool.{cond}
 use mathlib.Core.List.{List, [], _∷_, _++_}
-use Prim.Native.Nat.{ℕ, _*_}
-use lib.ListN.{replicate}
+use Prim.Native.Nat.{ℕ, zero, suc, _-_, _*_}
+use lib.ListN.{length, replicate}
+use lib.Dec.{eqb}
+use Rattle.words.specs.Basics.{none, joined}
 use Rattle.frames.specs.Widths.{frameWords, dequeWords}
 use Rattle.semantics.specs.Entries.{State}
 
@@ -46,3 +49,30 @@ wordsOf s = s .numbers ++ (s .deques ++ s .frames)
 -- document 01's five values
 abbrev pub five : List ℕ
 five = 10 ∷ 20 ∷ 30 ∷ 40 ∷ 50 ∷ []
+
+-- ---- words
+
+-- a deque's length and its frames from the top; "deque places past a deque's frames are zero"
+abbrev pub deque : List ℕ → List ℕ
+deque ps = length ps ∷ (ps ++ replicate (64 - length ps) 0)
+
+-- of workers 0 and 1; the others have none
+abbrev pub deques : List ℕ → List ℕ → List ℕ
+deques ps qs = deque ps ++ (deque qs ++ replicate 390 0)
+
+-- live, parent, depth, outstanding, suspended, root
+abbrev pub live : ℕ → ℕ → ℕ → ℕ → ℕ → List ℕ
+live parent depth outstanding suspended root = 1 ∷ parent ∷ depth ∷ outstanding ∷ suspended ∷ root ∷ []
+
+-- "Free frame places .., all but the link to the next being zero"
+abbrev pub free : ℕ → List ℕ
+free next = 0 ∷ next ∷ 0 ∷ 0 ∷ 0 ∷ 0 ∷ []
+
+-- c free places in rising order, the second being p
+abbrev pub rising : ℕ → ℕ → List ℕ
+rising zero p = []
+rising (suc c) p = free (cond (eqb c 0) none p) ++ rising c (suc p)
+
+-- the first places, then the rest, free in rising order
+abbrev pub frames : List (List ℕ) → List ℕ
+frames fs = joined fs ++ rising (64 - length fs) (suc (length fs))

@@ -130,6 +130,21 @@ pub sum-mono : (k : ℕ) {f g : ℕ → ℕ} → ((i : ℕ) → f i ≤ g i) →
 sum-mono zero h = le-refl 0
 sum-mono (suc k) h = let r = sum-mono k h in let s = h k in omega arith
 
+-- f is nowhere below n more than g
+sum-upto : (n : ℕ) (f g : ℕ → ℕ) → ((j : ℕ) → j < n → f j ≤ g j) → sum n f ≤ sum n g
+sum-upto zero f g h = omega arith
+sum-upto (suc n) f g h = omega (arith, sum-upto n f g (λ j b. h j (omega arith)), h n (omega arith))
+
+-- and its sum is no less: the two are the same
+pub sum-tight : (n : ℕ) (f g : ℕ → ℕ) → ((j : ℕ) → j < n → f j ≤ g j) → sum n g ≤ sum n f → (j : ℕ) → j < n → f j ≡ g j
+sum-tight zero f g h s j b = absurd (omega arith)
+sum-tight (suc n) f g h s j b =
+    let h' : (j : ℕ) → j < n → f j ≤ g j = λ j b. h j (omega arith) in
+    elim (ℕ-discrete j n) [
+      | yes e ↦ omega (arith, ap f e, ap g e, h n (omega arith), sum-upto n f g h')
+      | no e ↦ sum-tight n f g h' (omega (arith, h n (omega arith))) j (omega arith)
+    ]
+
 pub sum-const : (k c : ℕ) → sum k (λ i. c) ≡ k * c
 sum-const zero c = omega arith
 sum-const (suc k) c = omega (arith, sum-const k c)

@@ -10,3 +10,5 @@ pub mod NoDup
 pub mod Loops
 -- tests and tallies over the numbers below n
 pub mod Tallies
+-- a chain that is followed to its end
+pub mod Followed
