@@ -10,5 +10,7 @@ pub mod NoDup
 pub mod Loops
 -- tests and tallies over the numbers below n
 pub mod Tallies
+-- lists of words and of bytes
+pub mod Below
 -- a chain that is followed to its end
 pub mod Followed

@@ -1,7 +1,8 @@
 // Total reads and stores of lent words and bytes: what is past the end reads as 0 and is not stored.
 ghost use mathlib.Core.Path.{_≡_};
-ghost use Prim.Native.Nat.{_-_};
-ghost use lib.ListN.{length, getD, set, replicate};
+ghost use mathlib.Core.List.{_++_};
+ghost use Prim.Native.Nat.{_-_, _≤_};
+ghost use lib.ListN.{length, getD, set, drop, replicate};
 ghost use Rattle.words.specs.Basics.{plus};
 
 // The word at `at`, and 0 past the end.
@@ -26,6 +27,18 @@ pub fn clear_all(ws: &mut [u32])
 {
     let mut i = 0;
     while i < ws.len() {
+        ws[i] = 0;
+        i += 1;
+    }
+}
+
+// Zeros in the first n words.
+pub fn clear_first(ws: &mut [u32], n: usize)
+    requires { ⌜ n ≤ length (now ws) ⌝ }
+    ensures { λ _. ⌜ now (ws .exit) ≡ replicate n 0 ++ drop n (now (ws .entry)) ⌝ }
+{
+    let mut i = 0;
+    while i < n {
         ws[i] = 0;
         i += 1;
     }

@@ -1,0 +1,165 @@
+-- Document 02's R-1: a state and a pool as blocks of bytes, what an image is refused for, and what an accepted one says. Definitions only.
+-- A state is lent in three parts: the words ns of its numbers, ds of its deques and fs of its frame records. ws are the pool's words.
+use mathlib.Core.Path.{_≡_}
+use mathlib.Core.Bool.{Bool, true, cond, not, _||_, _&&_}
+use mathlib.Core.List.{List, [], _∷_, _++_}
+use Prim.Native.Nat.{ℕ, zero, suc, _+_, _-_, _*_, _/_, _%_, _^_}
+use lib.ListN.{length, getD, take, drop, replicate}
+use lib.Dec.{eqb, ltb}
+use Rattle.words.specs.Basics.{sum}
+use Rattle.model.specs.Record.{little}
+use Rattle.frames.specs.Widths.{frameWords, dequeWords}
+use Rattle.soundness.specs.Numbers.{numbersIn}
+use Rattle.image.specs.declared.ImageCheck.{ImageCheck}
+use Rattle.image.specs.declared.ImageCheck.the-variants.{WrongLength, WrongCheck, Good}
+use Rattle.image.specs.Widths.{numberCount, nodeWords, blockBytes, dataBytes, dataWords, stateWords, wordsFor}
+
+-- ---- the words of an image
+
+-- the nodes that the numbers record
+abbrev pub nodeCount : List ℕ → ℕ
+nodeCount ns = numbersIn ns .nodes
+
+-- "workers, splitters, nodes, first free node, first free frame place; for each of 8 workers its deque length and 64 places for its frames
+-- from the top; 64 frame records ..; then the pool's nodes"
+abbrev pub imageWords : List ℕ → List ℕ → List ℕ → List ℕ → List ℕ
+imageWords ns ds fs ws = ns ++ ds ++ fs ++ take (nodeWords * nodeCount ns) ws
+
+-- ---- bytes
+
+-- a word's bytes, the lowest first
+abbrev pub wordBytes : ℕ → List ℕ
+wordBytes w = w % 256 ∷ w / 256 % 256 ∷ w / 65536 % 256 ∷ w / 16777216 % 256 ∷ []
+
+-- "The data is little-endian words"
+unfoldable pub bytesOf : List ℕ → List ℕ
+bytesOf [] = []
+bytesOf (w ∷ ws) = wordBytes w ++ bytesOf ws
+
+-- the words that these are the bytes of
+unfoldable pub wordsOf : List ℕ → List ℕ
+wordsOf [] = []
+wordsOf (a ∷ []) = []
+wordsOf (a ∷ b ∷ []) = []
+wordsOf (a ∷ b ∷ c ∷ []) = []
+wordsOf (a ∷ b ∷ c ∷ d ∷ bs) = little (a ∷ b ∷ c ∷ d ∷ []) ∷ wordsOf bs
+
+-- the word of the four bytes from a place on
+unfoldable pub wordAt : List ℕ → ℕ → ℕ
+wordAt bs at = little (getD bs at 0 ∷ getD bs (at + 1) 0 ∷ getD bs (at + 2) 0 ∷ getD bs (at + 3) 0 ∷ [])
+
+-- ---- blocks
+
+-- "the sum modulo 4,294,967,296 of each data byte times 256 raised to its offset modulo 4"
+unfoldable pub check : List ℕ → ℕ
+check bytes = sum (length bytes) (λ i. getD bytes i 0 * 256 ^ (i % 4)) % 4294967296
+
+-- "508 of data, then a 32-bit check"
+abbrev pub block : List ℕ → List ℕ
+block bytes = bytes ++ wordBytes (check bytes)
+
+-- data cut into n blocks
+unfoldable pub blocksOf : ℕ → List ℕ → List ℕ
+blocksOf zero bytes = []
+blocksOf (suc n) bytes = block (take dataBytes bytes) ++ blocksOf n (drop dataBytes bytes)
+
+-- the blocks that so many words need, the last one perhaps in part
+abbrev pub blocksFor : ℕ → ℕ
+blocksFor words = (words + (dataWords - 1)) / dataWords
+
+-- "the rest of the last block [is] zero": the words of n blocks
+abbrev pub filled : ℕ → List ℕ → List ℕ
+filled n words = words ++ replicate (dataWords * n - length words) 0
+
+-- words as blocks
+unfoldable pub asBlocks : List ℕ → List ℕ
+asBlocks words = let n = blocksFor (length words) in blocksOf n (bytesOf (filled n words))
+
+-- "Write a whole run as blocks"
+abbrev pub imageOf : List ℕ → List ℕ → List ℕ → List ℕ → List ℕ
+imageOf ns ds fs ws = asBlocks (imageWords ns ds fs ws)
+
+-- the blocks and the bytes of an image of so many nodes
+abbrev pub imageBlocks : ℕ → ℕ
+imageBlocks nodes = blocksFor (wordsFor nodes)
+
+abbrev pub imageBytes : ℕ → ℕ
+imageBytes nodes = blockBytes * imageBlocks nodes
+
+-- ---- what an image is refused for
+
+-- the nodes that its first block records
+abbrev pub nodesIn : List ℕ → ℕ
+nodesIn image = nodeCount (wordsOf (take dataBytes image))
+
+-- the blocks that "its first block calls for"
+abbrev pub blocksCalled : List ℕ → ℕ
+blocksCalled image = imageBlocks (nodesIn image)
+
+-- "17, the image is not just as many whole blocks as its first block calls for, or has no whole block"
+unfoldable pub wrongLength : List ℕ → Bool
+wrongLength image = ltb (length image) blockBytes || not (eqb (length image) (blockBytes * blocksCalled image))
+
+-- the data of the first n blocks
+unfoldable pub dataOf : ℕ → List ℕ → List ℕ
+dataOf zero image = []
+dataOf (suc n) image = take dataBytes image ++ dataOf n (drop blockBytes image)
+
+-- the checks of the first n blocks are right
+unfoldable pub checksHold : ℕ → List ℕ → Bool
+checksHold zero image = true
+checksHold (suc n) image = eqb (wordAt image dataBytes) (check (take dataBytes image)) && checksHold n (drop blockBytes image)
+
+unfoldable pub allZero : List ℕ → Bool
+allZero [] = true
+allZero (b ∷ bs) = eqb b 0 && allZero bs
+
+-- "the rest of the last block": the data past the words that are called for
+abbrev pub restOf : List ℕ → List ℕ
+restOf image = drop (4 * wordsFor (nodesIn image)) (dataOf (blocksCalled image) image)
+
+-- "18, a check is wrong or the rest of the last block is not zero"
+unfoldable pub wrongCheck : List ℕ → Bool
+wrongCheck image = not (checksHold (blocksCalled image) image) || not (allZero (restOf image))
+
+-- "reading checks 17, 18"
+unfoldable pub imageCheck : List ℕ → ImageCheck
+imageCheck image = cond (wrongLength image) WrongLength (cond (wrongCheck image) WrongCheck Good)
+
+-- ---- what an accepted image says
+
+-- the words of its data
+abbrev pub wordsIn : List ℕ → List ℕ
+wordsIn image = wordsOf (dataOf (blocksCalled image) image)
+
+-- the words of the numbers, of the deques, of the frame records and of the nodes
+abbrev pub numberWordsIn : List ℕ → List ℕ
+numberWordsIn image = take numberCount (wordsIn image)
+
+abbrev pub dequesIn : List ℕ → List ℕ
+dequesIn image = take dequeWords (drop numberCount (wordsIn image))
+
+abbrev pub framesIn : List ℕ → List ℕ
+framesIn image = take frameWords (drop (numberCount + dequeWords) (wordsIn image))
+
+abbrev pub poolIn : List ℕ → List ℕ
+poolIn image = take (nodeWords * nodesIn image) (drop stateWords (wordsIn image))
+
+-- ---- lent slices
+
+-- each part of a state has its length
+pub record Lengths (ns ds fs : List ℕ) : Type 0 where
+  pub numbers : length ns ≡ numberCount
+  pub deques : length ds ≡ dequeWords
+  pub frames : length fs ≡ frameWords
+
+-- stored in the front of a slice: "Target bytes past the image never change."
+abbrev pub stored : List ℕ → List ℕ → List ℕ
+stored new old = new ++ drop (length new) old
+
+-- ns, ds, fs and ws' are the parts and the pool after a reading into the pool ws
+pub record IsRead (image ns ds fs ws ws' : List ℕ) : Type 0 where
+  pub numbers : ns ≡ numberWordsIn image
+  pub deques : ds ≡ dequesIn image
+  pub frames : fs ≡ framesIn image
+  pub pool : ws' ≡ stored (poolIn image) ws

@@ -1,0 +1,135 @@
+-- When an image is refused by 17 and by 18.
+use mathlib.Core.Path.{_≡_, refl, sym, ap, subst, _∙_}
+use mathlib.Core.Bool.{Bool, true, false, cond, not}
+use mathlib.Core.Logic.{inl, inr, _⊎_, _≢_, _↔_}
+use mathlib.Core.List.{List, [], _∷_}
+use Prim.Native.Nat.{ℕ, zero, suc, _+_, _*_, _<_}
+use native.Mathlib.Omega.{arith}
+use lib.ListN.{length, getD, take, drop}
+use lib.Seq.{take-take, drop-drop}
+use lib.Dec.{eqb, ltb}
+use borrow.Author.Tests.{eq-eqb, ne-eqb, eqb-true, eqb-false, lt-ltb, le-ltb}
+use Rattle.words.specs.Tests.{decided, neither, not-false, true≢false}
+use Rattle.image.specs.declared.ImageCheck.{ImageCheck}
+use Rattle.image.specs.declared.ImageCheck.the-variants.{WrongLength, WrongCheck, Good}
+use Rattle.image.specs.Widths.{blockBytes, dataBytes}
+use Rattle.image.specs.Image.{wordAt, check, blocksCalled, wrongLength, checksHold, allZero, restOf, wrongCheck, imageCheck}
+use Rattle.image.specs.Theory.Blocks.{word-take}
+
+-- block k of an image
+abbrev pub blockAt : List ℕ → ℕ → List ℕ
+blockAt image k = take blockBytes (drop (blockBytes * k) image)
+
+-- "a check is wrong": the word after the data of block k is not R-1's sum over that data
+abbrev pub CheckWrong : List ℕ → ℕ → Type 0
+CheckWrong image k = wordAt (blockAt image k) dataBytes ≢ check (take dataBytes (blockAt image k))
+
+-- of a block that is called for
+abbrev pub SomeCheckWrong : List ℕ → Type 0
+SomeCheckWrong image = (k : ℕ) × (k < blocksCalled image) × CheckWrong image k
+
+-- "the rest of the last block is not zero": one of its bytes
+abbrev pub RestNotZero : List ℕ → Type 0
+RestNotZero image = (i : ℕ) × (getD (restOf image) i 0 ≢ 0)
+
+-- ---- a wrong check
+
+next-block : (image : List ℕ) (k : ℕ) → blockAt (drop 512 image) k ≡ blockAt image (suc k)
+next-block image k = let e : 512 + 512 * k ≡ 512 * suc k = omega arith in ap (take 512) (drop-drop (512 * k) 512 image ∙ ap (λ (j : ℕ). drop j image) e)
+
+summed : (image : List ℕ) → check (take 508 (take 512 image)) ≡ check (take 508 image)
+summed image = ap check (take-take 508 512 image (omega arith))
+
+some-wrong : (n : ℕ) (image : List ℕ) → checksHold n image ≡ false → (k : ℕ) × (k < n) × CheckWrong image k
+unfolding checksHold
+some-wrong zero image e = absurd (true≢false e)
+some-wrong (suc n) image e = elim (decided (eqb (wordAt image 508) (check (take 508 image)))) [
+  | inl r ↦
+      let f : checksHold n (drop 512 image) ≡ false = rw r at e in
+      let w : (k : ℕ) × (k < n) × CheckWrong (drop 512 image) k = some-wrong n (drop 512 image) f in
+      (suc (w .0), omega (arith, w .1), λ d. w .2 (subst (λ (b : List ℕ). wordAt b 508 ≡ check (take 508 b)) (sym (next-block image (w .0))) d))
+  | inr r ↦ (0, omega arith, λ d. eqb-false (wordAt image 508) (check (take 508 image)) r (sym (word-take 512 image 508 (omega arith)) ∙ d ∙ summed image))
+]
+
+wrong-some : (n : ℕ) (image : List ℕ) (k : ℕ) → k < n → CheckWrong image k → checksHold n image ≡ false
+unfolding checksHold
+wrong-some zero image k h w = absurd (omega arith)
+wrong-some (suc n) image zero h w =
+    rw (ne-eqb (wordAt image 508) (check (take 508 image)) (λ d. w (word-take 512 image 508 (omega arith) ∙ d ∙ sym (summed image))))
+wrong-some (suc n) image (suc k) h w =
+    let f : checksHold n (drop 512 image) ≡ false = wrong-some n (drop 512 image) k (omega arith) (λ d. w (subst (λ (b : List ℕ). wordAt b 508 ≡ check (take 508 b)) (next-block image k) d)) in
+    elim (decided (eqb (wordAt image 508) (check (take 508 image)))) [ inl r ↦ rw (r, f) | inr r ↦ rw r ]
+
+-- ---- a byte that is not zero
+
+some-byte : (bs : List ℕ) → allZero bs ≡ false → (i : ℕ) × (getD bs i 0 ≢ 0)
+unfolding allZero
+some-byte [] e = absurd (true≢false e)
+some-byte (b ∷ bs) e = elim (decided (eqb b 0)) [
+  | inl z ↦ let w : (i : ℕ) × (getD bs i 0 ≢ 0) = some-byte bs (rw z at e) in (suc (w .0), w .1)
+  | inr z ↦ (0, eqb-false b 0 z)
+]
+
+byte-some : (bs : List ℕ) (i : ℕ) → getD bs i 0 ≢ 0 → allZero bs ≡ false
+unfolding allZero
+byte-some [] i w = absurd (w refl)
+byte-some (b ∷ bs) zero w = rw (ne-eqb b 0 w)
+byte-some (b ∷ bs) (suc i) w = let f : allZero bs ≡ false = byte-some bs i w in elim (decided (eqb b 0)) [ inl z ↦ rw (z, f) | inr z ↦ rw z ]
+
+-- ---- 17 and 18
+
+module _ (image : List ℕ) where
+  pub right-length : length image ≡ 512 * blocksCalled image → wrongLength image ≡ false
+  unfolding wrongLength
+  right-length d = rw (le-ltb (length image) 512 (omega arith), eq-eqb (length image) (512 * blocksCalled image) d)
+
+  pub length-right : wrongLength image ≡ false → length image ≡ 512 * blocksCalled image
+  unfolding wrongLength
+  length-right e =
+      let t : Bool = eqb (length image) (512 * blocksCalled image) in
+      eqb-true (length image) (512 * blocksCalled image) (not-false t (neither (ltb (length image) 512) (not t) e .1))
+
+  length-wrong : (length image < 512) ⊎ (length image ≢ 512 * blocksCalled image) → wrongLength image ≡ true
+  unfolding wrongLength
+  length-wrong (inl h) = rw (lt-ltb (length image) 512 h)
+  length-wrong (inr d) = elim (decided (ltb (length image) 512)) [ inl h ↦ rw h | inr h ↦ rw (h, ne-eqb (length image) (512 * blocksCalled image) d) ]
+
+  -- what each answer says of the two tests
+  abbrev pub Means : ImageCheck → Type 0
+  Means WrongLength = wrongLength image ≡ true
+  Means WrongCheck = (wrongLength image ≡ false) × (wrongCheck image ≡ true)
+  Means Good = (wrongLength image ≡ false) × (wrongCheck image ≡ false)
+
+  tested : (a b : Bool) → wrongLength image ≡ a → wrongCheck image ≡ b → Means (cond a WrongLength (cond b WrongCheck Good))
+  tested true b ea eb = ea
+  tested false true ea eb = (ea, eb)
+  tested false false ea eb = (ea, eb)
+
+  pub means : (r : ImageCheck) → imageCheck image ≡ r → Means r
+  unfolding imageCheck
+  means r e = subst Means e (tested (wrongLength image) (wrongCheck image) refl refl)
+
+  which-18 : wrongCheck image ≡ true → SomeCheckWrong image ⊎ RestNotZero image
+  unfolding wrongCheck
+  which-18 e = elim (decided (checksHold (blocksCalled image) image)) [
+    | inr c ↦ inl (some-wrong (blocksCalled image) image c)
+    | inl c ↦ elim (decided (allZero (restOf image))) [
+      | inl z ↦ absurd (true≢false (sym (rw (c, z) at e)))
+      | inr z ↦ inr (some-byte (restOf image) z)
+    ]
+  ]
+
+  one-18 : SomeCheckWrong image ⊎ RestNotZero image → wrongCheck image ≡ true
+  unfolding wrongCheck
+  one-18 (inl w) = let c : checksHold (blocksCalled image) image ≡ false = wrong-some (blocksCalled image) image (w .0) (w .1) (w .2) in rw c
+  one-18 (inr w) =
+      let z : allZero (restOf image) ≡ false = byte-some (restOf image) (w .0) (w .1) in
+      elim (decided (checksHold (blocksCalled image) image)) [ inl c ↦ rw (c, z) | inr c ↦ rw c ]
+
+  pub when-17 : (imageCheck image ≡ WrongLength) ↔ ((length image < blockBytes) ⊎ (length image ≢ blockBytes * blocksCalled image))
+  unfolding imageCheck
+  when-17 = (λ e. inr (λ d. true≢false (sym (means WrongLength e) ∙ right-length d)), λ h. rw (length-wrong h))
+
+  pub when-18 : (imageCheck image ≡ WrongCheck) ↔ ((length image ≡ blockBytes * blocksCalled image) × (SomeCheckWrong image ⊎ RestNotZero image))
+  unfolding imageCheck
+  when-18 = (λ e. (length-right (means WrongCheck e .0), which-18 (means WrongCheck e .1)), λ h. rw (right-length (h .0), one-18 (h .1)))

@@ -1,0 +1,36 @@
+// A state and a pool as blocks of bytes, and back: document 02, R-1. The state's parts are lent and have their exact lengths, so no
+// function tests an index.
+mod accept;
+mod bytes;
+mod read;
+mod sums;
+mod widths;
+mod write;
+
+pub use accept::check_image;
+pub use read::nodes_in;
+pub use read::read_parts;
+pub use widths::image_bytes;
+pub use write::write_image;
+
+// The widths of specs/Widths.antt.
+pub const NUMBER_COUNT: usize = 5;
+
+pub const NODE_WORDS: usize = 4;
+
+pub const BLOCK_BYTES: usize = 512;
+
+pub const DATA_BYTES: usize = 508;
+
+pub const DATA_WORDS: usize = 127;
+
+pub const STATE_WORDS: usize = NUMBER_COUNT + frames::DEQUE_WORDS + frames::FRAME_WORDS;
+
+// What an image is found to be.
+pub enum ImageCheck {
+    // 17, "the image is not just as many whole blocks as its first block calls for, or has no whole block"
+    WrongLength,
+    // 18, "a check is wrong or the rest of the last block is not zero"
+    WrongCheck,
+    Good,
+}
