@@ -39,7 +39,11 @@ pub mod Start
 pub mod Init
 -- Good: the pool of a run from a start, and its operations: what other crates cite
 pub mod Good
+-- Elsewhere: the same nodes in another slice
+pub mod Elsewhere
 -- Examples: the definitions computed
 pub mod Examples
 -- Links: links in range, kept by every change
 pub mod Links
+-- Words: every change keeps words words
+pub mod Words

@@ -191,21 +191,21 @@ module _ {N H : ℕ} {level size : ℕ → ℕ} {ws : List ℕ} {free : ℕ} {fs
 
 -- ---- stores
 
-module _ (N H : ℕ) (level size : ℕ → ℕ) (ws ws' : List ℕ) (len : length ws' ≡ length ws) where
-  -- the reference counts alone change, and none to or from 0
+module _ (N H : ℕ) (level size : ℕ → ℕ) (ws ws' : List ℕ) (room' : 4 * N ≤ length ws') where
+  -- of the nodes the reference counts alone change, and none to or from 0
   pub inv-refcounts : {free : ℕ} {fs : List ℕ} {c : ℕ} {E : List ℕ} (E' : List ℕ)
-      → ((j : ℕ) → j < N → δ₀ (refcount ws' j) ≡ δ₀ (refcount ws j)) → ((j : ℕ) → SameContent ws ws' j)
+      → ((j : ℕ) → j < N → δ₀ (refcount ws' j) ≡ δ₀ (refcount ws j)) → ((j : ℕ) → j < N → SameContent ws ws' j)
       → ((i : ℕ) → i < N → refcount ws' i + count i E ≡ refcount ws i + count i E')
       → Invariant N H level size ws free fs c E → Invariant N H level size ws' free fs c E'
   inv-refcounts {free} {fs} {c} {E} E' z C n R = record {
-    room = omega (arith, R .room);
-    counts = λ i b. omega (arith, n i b, R .counts i b, indegree-cong N ws ws' i (λ j q. link-cong ws ws' i j (z j q) (C j)));
-    shape = λ j b p. rw (C j .same-left, C j .same-right) (R .shape j b (back j b p));
+    room = room';
+    counts = λ i b. omega (arith, n i b, R .counts i b, indegree-cong N ws ws' i (λ j q. link-cong ws ws' i j (z j q) (C j q)));
+    shape = λ j b p. rw (C j b .same-left, C j b .same-right) (R .shape j b (back j b p));
     bounded = λ j b p. R .bounded j b (back j b p);
-    inner = λ j b p q. C j .same-value ∙ R .inner j b (back j b p) q;
-    chain = chain-cong N (left ws) (left ws') fs free (λ x _ _. C x .same-left) (R .chain);
+    inner = λ j b p q. C j b .same-value ∙ R .inner j b (back j b p) q;
+    chain = chain-cong N (left ws) (left ws') fs free (λ x b _. C x b .same-left) (R .chain);
     listed = λ i b. R .listed i b ∙ sym (z i b);
-    cleared = λ i b e. (let q = R .cleared i b (δ₀-inv (refcount ws i) (omega (arith, δ₀-zero (refcount ws' i) e, z i b))) in (C i .same-right ∙ q .0, C i .same-value ∙ q .1));
+    cleared = λ i b e. (let q = R .cleared i b (δ₀-inv (refcount ws i) (omega (arith, δ₀-zero (refcount ws' i) e, z i b))) in (C i b .same-right ∙ q .0, C i b .same-value ∙ q .1));
   }
     where
       back : (j : ℕ) → j < N → 0 < refcount ws' j → 0 < refcount ws j
@@ -219,7 +219,7 @@ module _ (N H : ℕ) (level size : ℕ → ℕ) (ws ws' : List ℕ) (len : lengt
       → refcount ws i ≡ 1 → NodeIs ws' i 0 free 0 0 → ((j : ℕ) → j ≢ i → SameNode ws ws' j)
       → Invariant N H level size ws free fs c (i ∷ E) → Invariant N H level size ws' i (i ∷ fs) c (left ws i ∷ right ws i ∷ E)
   inv-free i inN {free} {fs} {c} {E} one K S R = record {
-    room = omega (arith, R .room);
+    room = room';
     counts = λ k b. omega (
       arith,
       drops k,

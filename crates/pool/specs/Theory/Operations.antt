@@ -84,7 +84,7 @@ module _ (N H n : ℕ) (small : N ≤ none) (cover : n ≤ 2 ^ H) where
       in-cover y b = omega arith
 
   -- trees of live roots stay in words that keep what is in use
-  same-tree : {level size : ℕ → ℕ} {ws : List ℕ} {free : ℕ} {fs E : List ℕ} → Live N H n level size ws free fs E → (ws' : List ℕ) → Keeps N ws ws' → (e : ℕ) → 0 < count e E → SameTree H n ws ws' e
+  pub same-tree : {level size : ℕ → ℕ} {ws : List ℕ} {free : ℕ} {fs E : List ℕ} → Live N H n level size ws free fs E → (ws' : List ℕ) → Keeps N ws ws' → (e : ℕ) → 0 < count e E → SameTree H n ws ws' e
   same-tree {ws = ws} L ws' G e p = record {
     nodes = λ k y h b. walk-kept small (L .inv) ws' G k H y e (root-covers L e y p b);
     reads = λ y b.

@@ -64,12 +64,12 @@ module _ (N H : ℕ) (small : N ≤ none) (level size : ℕ → ℕ) where
     lowered k n h = record {
       fs = fs;
       counted = n;
-      inv = inv-refcounts N H level size ws ws' (length-setRefcount ws i (refcount ws i - 1)) E
+      inv = inv-refcounts N H level size ws ws' (omega (arith, length-setRefcount ws i (refcount ws i - 1), R .room)) E
           (λ j q. elim (ℕ-discrete j i) [
             | yes t ↦ δ₀-pos (refcount ws' j) (omega (arith, s, ap (refcount ws') t)) ∙ sym (δ₀-pos (refcount ws j) (omega (arith, ap (refcount ws) t)))
             | no t ↦ ap δ₀ (setRefcount-other ws i (refcount ws i - 1) j t)
           ])
-          (setRefcount-content ws i (refcount ws i - 1))
+          (λ j _. setRefcount-content ws i (refcount ws i - 1) j)
           (λ j q. elim (ℕ-discrete j i) [
             | yes t ↦ omega (arith, s, ap (refcount ws') t, ap (refcount ws) t, count-cons j i E, ap (λ k. δ k i) t, δ-same i)
             | no t ↦ omega (arith, setRefcount-other ws i (refcount ws i - 1) j t, count-cons j i E, δ-other j i t)
@@ -106,7 +106,7 @@ module _ (N H : ℕ) (small : N ≤ none) (level size : ℕ → ℕ) where
         K = setNode-is ws i 0 free 0 0 room
 
         R' : Invariant N H level size (freed ws free i) i (i ∷ fs) none (left ws i ∷ right ws i ∷ E)
-        R' = inv-free N H level size ws (freed ws free i) (length-setNode ws i 0 free 0 0) i b e K (λ j o. setNode-other ws i j 0 free 0 0 o) R
+        R' = inv-free N H level size ws (freed ws free i) (omega (arith, length-setNode ws i 0 free 0 0, R .room)) i b e K (λ j o. setNode-other ws i j 0 free 0 0 o) R
 
   -- a release, if it is right where the last holder goes
   release-by : (l : ℕ) (ws : List ℕ) (free k : ℕ) (fs E : List ℕ) (i : ℕ) → (i ≢ none → i < N) → k ≡ length fs → Invariant N H level size ws free fs none (i ∷ E)

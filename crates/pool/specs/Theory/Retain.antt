@@ -49,12 +49,12 @@ refcount-retain ws i j b h = elim (ℕ-discrete j i) [
 pub inv-retain : {N H : ℕ} {level size : ℕ → ℕ} {ws : List ℕ} {free : ℕ} {fs : List ℕ} {c : ℕ} {E : List ℕ} → Invariant N H level size ws free fs c E
     → (i : ℕ) → N ≤ none → i < N → 0 < refcount ws i → length E + N * 2 + 1 < 2 ^ 32 → Invariant N H level size (retain ws i) free fs c (i ∷ E) × Grows N ws (retain ws i)
 inv-retain {N} {H} {level} {size} {ws} {free} {fs} {c} {E} R i small b p q = (
-  inv-refcounts N H level size ws (retain ws i) (length-retain ws i) (i ∷ E)
+  inv-refcounts N H level size ws (retain ws i) (omega (arith, length-retain ws i, R .room)) (i ∷ E)
       (λ j r. elim (ℕ-discrete j i) [
         | yes e ↦ δ₀-pos (refcount (retain ws i) j) (omega (arith, grown j r, ap (refcount ws) e)) ∙ sym (δ₀-pos (refcount ws j) (omega (arith, ap (refcount ws) e)))
         | no e ↦ ap δ₀ (omega (arith, grown j r, δ-other j i e))
       ])
-      (retain-content ws i) (λ j r. omega (arith, grown j r, count-cons j i E)) R,
+      (λ j _. retain-content ws i j) (λ j r. omega (arith, grown j r, count-cons j i E)) R,
   record { up = λ j r. omega (arith, grown j r); keeps = λ j _ _. retain-content ws i j; len = length-retain ws i; rest = drop-retain ws i N (λ _. b) },
 )
   where
