@@ -11,7 +11,8 @@ use Rattle.frames.specs.Widths.{frameWords, dequeWords}
 use Rattle.semantics.specs.declared.Refusal.the-variants.{Lengths}
 use Rattle.semantics.specs.Answers.{refusalNumber}
 use Rattle.semantics.specs.Entries.{fits, startWith, startOn, tapeWith, tapeOn}
-use Rattle.semantics.specs.Promises.{parts, Fits, IsStart, IsTape}
+use Rattle.semantics.specs.Images.{saveWith, saveOn, loadWith, loadOn}
+use Rattle.semantics.specs.Promises.{parts, Fits, IsStart, IsTape, IsSave, IsLoad}
 
 module _ (ns ds fs : List ℕ) (b : Bool) (eb : b ≡ fits (parts ns ds fs)) where
   pub fit : b ≡ true → Fits (parts ns ds fs)
@@ -34,6 +35,14 @@ module _ (ns ds fs : List ℕ) (b : Bool) (eb : b ≡ fits (parts ns ds fs)) whe
     unfolding tapeOn
     tape-unfit ws ks bytes rs r e = rw unfit (record { result = e; state = refl; pool = refl; work = refl; answers = refl })
 
+    pub save-unfit : (ws ks ts : List ℕ) (r : ℕ) → r ≡ refusalNumber Lengths → IsSave (saveOn (parts ns ds fs) ws ks ts) ks ts r
+    unfolding saveOn
+    save-unfit ws ks ts r e = rw unfit (record { result = e; work = refl; target = refl })
+
+    pub load-unfit : (ws ks image : List ℕ) (r : ℕ) → r ≡ refusalNumber Lengths → IsLoad (loadOn (parts ns ds fs) ws ks image) ns ds fs ws ks r
+    unfolding loadOn
+    load-unfit ws ks image r e = rw unfit (record { result = e; state = refl; pool = refl; work = refl })
+
   -- ---- their lengths
 
   module _ (t : b ≡ true) where
@@ -48,3 +57,11 @@ module _ (ns ds fs : List ℕ) (b : Bool) (eb : b ≡ fits (parts ns ds fs)) whe
         → IsTape (tapeOn (parts ns ds fs) ws ks bytes rs) ns′ ds′ fs′ ws′ ks′ rs′ r
     unfolding tapeOn
     tape-fit ws ks bytes rs ns′ ds′ fs′ ws′ ks′ rs′ r o = rw fitted o
+
+    pub save-fit : (ws ks ts ks′ ts′ : List ℕ) (r : ℕ) → IsSave (saveWith (parts ns ds fs) ws ks ts) ks′ ts′ r → IsSave (saveOn (parts ns ds fs) ws ks ts) ks′ ts′ r
+    unfolding saveOn
+    save-fit ws ks ts ks′ ts′ r o = rw fitted o
+
+    pub load-fit : (ws ks image ns′ ds′ fs′ ws′ ks′ : List ℕ) (r : ℕ) → IsLoad (loadWith ws ks image) ns′ ds′ fs′ ws′ ks′ r → IsLoad (loadOn (parts ns ds fs) ws ks image) ns′ ds′ fs′ ws′ ks′ r
+    unfolding loadOn
+    load-fit ws ks image ns′ ds′ fs′ ws′ ks′ r o = rw fitted o

@@ -17,7 +17,11 @@ use Rattle.soundness.specs.Numbers.{setFreeNode, setFreePlace}
 use Rattle.model.specs.declared.Step.{Step}
 use Rattle.semantics.specs.declared.Head.{Head}
 use Rattle.semantics.specs.declared.Refusal.{Refusal}
-use Rattle.semantics.specs.declared.Refusal.the-variants.{Values, Workers, Nodes, Work}
+use Rattle.semantics.specs.declared.Refusal.the-variants.{Values, Workers, Nodes, Work, Blocks, BlockCheck}
+use Rattle.image.specs.declared.ImageCheck.{ImageCheck}
+use Rattle.image.specs.declared.ImageCheck.the-variants.{WrongLength, WrongCheck}
+use Rattle.semantics.specs.Images.{LoadResult}
+use Rattle.semantics.specs.Promises.{parts}
 use Rattle.semantics.specs.Answers.{refusalNumber}
 use Rattle.semantics.specs.Core.{Core, StepResult, stepResult, judged, actingTests, kindTests, doneBy}
 use Rattle.engine.specs.declared.Out.{Out}
@@ -95,6 +99,19 @@ abbrev pub checkNumber : Checked → ℕ
 checkNumber NoRoom = refusalNumber Work
 checkNumber Checked.Unsound = refusalNumber Refusal.Unsound
 checkNumber (Sound k) = 0
+
+-- the same of an image's bytes
+abbrev pub imageNumber : ImageCheck → ℕ
+imageNumber WrongLength = refusalNumber Blocks
+imageNumber WrongCheck = refusalNumber BlockCheck
+imageNumber ImageCheck.Good = 0
+
+-- the pool ws, the work slice ks and the result r are those of a reading's result o, and so are the parts if nothing is refused
+pub record IsLoading (o : LoadResult) (ns ds fs ws ks : List ℕ) (r : ℕ) : Type 0 where
+  pub result : r ≡ o .result
+  pub state : r ≡ 0 → parts ns ds fs ≡ o .state
+  pub pool : ws ≡ o .pool
+  pub work : ks ≡ o .work
 
 -- the free nodes that it counted, if it found the state sound
 abbrev pub freeIn : Checked → ℕ

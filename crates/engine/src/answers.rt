@@ -29,6 +29,9 @@ pub fn refusal_number(refusal: Refusal) -> u32
         Refusal::ChildLives => 14,
         Refusal::NoSplitter => 15,
         Refusal::PoolFull => 16,
+        Refusal::Blocks => 17,
+        Refusal::BlockCheck => 18,
+        Refusal::Target => 19,
         Refusal::Lengths => 99,
     }
 }

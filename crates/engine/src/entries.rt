@@ -1,10 +1,13 @@
-// The start and the tape, on all inputs: a part of the state that has another length than it must have is refused first, by 99, and
+// The start, the tape, the save and the reading, on all inputs: a part of the state that has another length than it must have is refused first, by 99, and
 // nothing changes.
 ghost use mathlib.Core.Path.{_≡_};
 ghost use Rattle.semantics.specs.Entries.{fits, startOn, tapeOn};
-ghost use Rattle.semantics.specs.Promises.{parts, IsStart, IsTape};
+ghost use Rattle.semantics.specs.Images.{saveOn, loadOn};
+ghost use Rattle.semantics.specs.Promises.{parts, IsStart, IsTape, IsSave, IsLoad};
 use crate::answers::refusal_number;
 use crate::begin::start_on;
+use crate::images::load_on;
+use crate::images::save_on;
 use crate::tapes::tape_on;
 use frames::DEQUE_WORDS;
 use frames::FRAME_WORDS;
@@ -50,4 +53,38 @@ pub fn tape(
         return refusal_number(Refusal::Lengths);
     }
     tape_on(numbers, deques, frames, pool, work, bytes, answers)
+}
+
+pub fn save(
+    numbers: &[u32],
+    deques: &[u32],
+    frames: &[u32],
+    pool: &[u32],
+    work: &mut [u32],
+    target: &mut [u8],
+) -> u32
+    ensures { λ r. ⌜ IsSave (saveOn (parts (now (numbers .entry)) (now (deques .entry)) (now (frames .entry))) (now (pool .entry)) (now (work .entry)) (now (target .entry)))
+        (now (work .exit)) (now (target .exit)) r ⌝ }
+{
+    if !fit(numbers, deques, frames) {
+        return refusal_number(Refusal::Lengths);
+    }
+    save_on(numbers, deques, frames, pool, work, target)
+}
+
+pub fn load(
+    numbers: &mut [u32],
+    deques: &mut [u32],
+    frames: &mut [u32],
+    pool: &mut [u32],
+    work: &mut [u32],
+    image: &[u8],
+) -> u32
+    ensures { λ r. ⌜ IsLoad (loadOn (parts (now (numbers .entry)) (now (deques .entry)) (now (frames .entry))) (now (pool .entry)) (now (work .entry)) (now (image .entry)))
+        (now (numbers .exit)) (now (deques .exit)) (now (frames .exit)) (now (pool .exit)) (now (work .exit)) r ⌝ }
+{
+    if !fit(numbers, deques, frames) {
+        return refusal_number(Refusal::Lengths);
+    }
+    load_on(numbers, deques, frames, pool, work, image)
 }

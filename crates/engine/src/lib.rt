@@ -1,16 +1,19 @@
-// The engine: a start and a tape over the state's lent parts, which ask nothing of their callers, and below them the check, a step and a
+// The engine: a start, a tape, a save and a reading over the state's lent parts, which ask nothing of their callers, and below them the check, a step and a
 // record over lent words. Each contract is an equation with a definition of the crate semantics. What is below the test of the lengths
 // requires them, and what is below the check a sound core, which the check shows.
 mod answers;
 mod begin;
 mod checking;
 mod entries;
+mod images;
 mod kinds;
 mod numbers;
 mod records;
 mod refusals;
 mod tapes;
 
+pub use entries::load;
+pub use entries::save;
 pub use entries::start;
 pub use entries::tape;
 use semantics::Answer;

@@ -34,7 +34,7 @@ fn head_of(numbers: Numbers, free_count: u32) -> Head
 }
 
 // 5 and 6, or 0.
-fn check_number(checked: Checked) -> u32
+pub fn check_number(checked: Checked) -> u32
     ensures { λ r. ⌜ r ≡ checkNumber checked ⌝ }
 {
     match checked {

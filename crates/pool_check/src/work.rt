@@ -1,6 +1,7 @@
 // The lent work slice.
 ghost use mathlib.Core.Path.{_≡_};
 ghost use Rattle.soundness.specs.Soundness.{cleared};
+use words::clear_first;
 
 // The first n words are zero; if there are fewer, nothing changes.
 pub fn clear(work: &mut [u32], n: u32)
@@ -10,9 +11,5 @@ pub fn clear(work: &mut [u32], n: u32)
     if end > work.len() {
         return;
     }
-    let mut i: usize = 0;
-    while i < end {
-        work[i] = 0;
-        i += 1;
-    }
+    clear_first(work, end);
 }

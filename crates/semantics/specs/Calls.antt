@@ -1,9 +1,9 @@
--- A run: an accepted start, then calls, each a step entered from outside or a tape; what it feeds to the plain machine, and what
--- its frames have read. Everything is in terms of the entries, as a host calls them. Definitions only.
-use mathlib.Core.Bool.{Bool, cond, _||_}
+-- A run: an accepted start, then calls, each a step entered from outside, a tape, a save or a reading of an image; what it feeds to the
+-- plain machine, and what its frames have read. Everything is in terms of the entries, as a host calls them. Definitions only.
+use mathlib.Core.Bool.{Bool, false, cond, not, _||_}
 use mathlib.Core.List.{List, [], _∷_, _++_, map}
-use Prim.Native.Nat.{ℕ, suc, _+_}
-use lib.ListN.{getD}
+use Prim.Native.Nat.{ℕ, zero, suc, _+_}
+use lib.ListN.{getD, take}
 use lib.Dec.{eqb, leb}
 use Rattle.model.specs.declared.Decoded.{Decoded}
 use Rattle.model.specs.declared.Decoded.the-variants.{Valid, Invalid}
@@ -13,7 +13,9 @@ use Rattle.model.specs.Steps.{Action, spawn, return, sync, read, write, Turn, a
 use Rattle.model.specs.Run.{Entry}
 use Rattle.semantics.specs.Answers.{wordsIn}
 use Rattle.semantics.specs.Core.{Core}
-use Rattle.semantics.specs.Entries.{State, StartResult, startOn, OutsideResult, outsideOn, recordOn, TapeResult, tapeOn, recordsOf, coreOf, stateOf, chainFree}
+use Rattle.semantics.specs.Entries.{State, StartResult, startOn, OutsideResult, outsideOn, recordOn, TapeResult, tapeOn, recordsOf, numbersOf, coreOf, stateOf, chainFree}
+use Rattle.image.specs.Image.{imageBytes}
+use Rattle.semantics.specs.Images.{SaveResult, saveOn, LoadResult, loadOn}
 
 -- ---- calls
 
@@ -51,10 +53,6 @@ afterCall h (outside kind worker field value work) =
     let o : OutsideResult = outsideResult h kind worker field value work in record { state = o .state; pool = o .pool }
 afterCall h (tape bytes work answers) = let o : TapeResult = tapeResult h bytes work answers in record { state = o .state; pool = o .pool }
 
-abbrev pub afterCalls : StateAndPool → List HostCall → StateAndPool
-afterCalls h [] = h
-afterCalls h (c ∷ cs) = afterCalls (afterCall h c) cs
-
 -- ---- exchanges: a record and the two words that the engine answered
 
 abbrev pub Exchange : Type 0
@@ -79,10 +77,6 @@ exchangesOf h (tape bytes work answers) =
     let o : TapeResult = tapeResult h bytes work answers in
     cond (eqb (o .result) 0) (exchangesFrom (o .answers) 0 (recordsOf bytes)) []
 
-abbrev pub exchanges : StateAndPool → List HostCall → List Exchange
-exchanges h [] = []
-exchanges h (c ∷ cs) = exchangesOf h c ++ exchanges (afterCall h c) cs
-
 abbrev pub recordsIn : List Exchange → List Decoded
 recordsIn es = map (λ e. e .0) es
 
@@ -100,9 +94,81 @@ freeAfter c (d ∷ ds) = chainFree (stateOf (recordOn c d .core)) (recordOn c d 
 abbrev pub coreIn : StateAndPool → Core
 coreIn h = coreOf (h .state) (h .pool) (chainFree (h .state) (h .pool))
 
-abbrev pub freeCounts : StateAndPool → List HostCall → List ℕ
-freeCounts h [] = []
-freeCounts h (c ∷ cs) = freeAfter (coreIn h) (recordsIn (exchangesOf h c)) ++ freeCounts (afterCall h c) cs
+-- ---- a run, with saves and readings among its calls
+
+-- what a run has behind it: the records that were fed, with the engine's answers, and the nodes on the free chain after each
+pub record Past : Type 0 where
+  pub exchanges : List Exchange
+  pub free : List ℕ
+
+-- an image that the host keeps, and what the run had behind it at that save: "a run goes on from its saved history"
+pub record Saved : Type 0 where
+  pub bytes : List ℕ
+  pub past : Past
+
+-- what a host holds. Once a reading is refused it has no state until an image is read; `lent` is the pool as it was lent, at the
+-- start or for the last reading
+pub record Run : Type 0 where
+  pub now : StateAndPool
+  pub past : Past
+  pub images : List Saved
+  pub stateless : Bool
+  pub lent : List ℕ
+
+-- a step or a tape; a save; a reading of one of the images, into parts and a pool that the host lends for it
+pub data Call : Type 0 where
+  call : HostCall → Call
+  save : (work target : List ℕ) → Call
+  load : (which : ℕ) (parts : State) (pool work : List ℕ) → Call
+
+abbrev pub nothing : Past
+nothing = record { exchanges = []; free = [] }
+
+-- from a state and a pool on
+abbrev pub begun : StateAndPool → Run
+begun h = record { now = h; past = nothing; images = []; stateless = false; lent = h .pool }
+
+-- image i; one that the host does not keep has no bytes
+abbrev pub imageAt : List Saved → ℕ → Saved
+imageAt [] i = record { bytes = []; past = nothing }
+imageAt (v ∷ vs) zero = v
+imageAt (v ∷ vs) (suc i) = imageAt vs i
+
+abbrev pub pastAfter : StateAndPool → Past → HostCall → Past
+pastAfter h p k =
+    let es : List Exchange = exchangesOf h k in
+    record { exchanges = p .exchanges ++ es; free = p .free ++ freeAfter (coreIn h) (recordsIn es) }
+
+abbrev pub saveResult : StateAndPool → List ℕ → List ℕ → SaveResult
+saveResult h work target = saveOn (h .state) (h .pool) work target
+
+abbrev pub loadResult : Run → ℕ → State → List ℕ → List ℕ → LoadResult
+loadResult r i parts ws work = loadOn parts ws work (imageAt (r .images) i .bytes)
+
+-- the image that an accepted save has written
+abbrev pub imagesAfter : Run → List ℕ → List ℕ → List Saved
+imagesAfter r work target =
+    let o : SaveResult = saveResult (r .now) work target in
+    let new : List Saved = record { bytes = take (imageBytes (numbersOf (r .now .state) .nodes)) (o .target); past = r .past } ∷ [] in
+    cond (eqb (o .result) 0) (r .images ++ new) (r .images)
+
+-- "Reading back gives the same state, and a run goes on from its saved history; what came after the save is forgotten."
+abbrev pub runAfter : Run → Call → Run
+runAfter r (call k) = record { now = afterCall (r .now) k; past = pastAfter (r .now) (r .past) k; images = r .images; stateless = r .stateless; lent = r .lent }
+runAfter r (save work target) = record { now = r .now; past = r .past; images = imagesAfter r work target; stateless = r .stateless; lent = r .lent }
+runAfter r (load i parts ws work) =
+    let o : LoadResult = loadResult r i parts ws work in
+    record {
+      now = record { state = o .state; pool = o .pool };
+      past = cond (eqb (o .result) 0) (imageAt (r .images) i .past) (r .past);
+      images = r .images;
+      stateless = not (eqb (o .result) 0);
+      lent = ws;
+    }
+
+abbrev pub runOf : Run → List Call → Run
+runOf r [] = r
+runOf r (c ∷ cs) = runOf (runAfter r c) cs
 
 -- ---- what frames did and read, by the engine's answers; frames and names are those of the plain machine fed the same
 

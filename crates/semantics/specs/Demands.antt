@@ -1,13 +1,14 @@
 -- Demands 1 to 3 of document 01 over the entries, as a host calls them. Statements only; Theory proves them.
 use mathlib.Core.Path.{_≡_}
-use mathlib.Core.Logic.{_↔_}
-use mathlib.Core.Bool.{Bool, true, cond, _||_}
+use mathlib.Core.Logic.{_↔_, _≢_}
+use mathlib.Core.Bool.{Bool, true, false, cond, _||_}
 use mathlib.Core.List.{List·Memᴰ as In}
 use mathlib.Core.List.{List, [], _∷_, map}
 use Prim.Native.Nat.{ℕ, suc, _+_, _*_, _/_, _<_}
-use lib.ListN.{length, drop}
+use lib.ListN.{length, take, drop}
 use lib.Dec.{eqb}
 use Rattle.words.specs.Basics.{count}
+use Rattle.words.specs.Below.{Words, Bytes}
 use Rattle.soundness.specs.Soundness.{freeNodes, cleared}
 use Rattle.model.specs.declared.Step.{Step}
 use Rattle.model.specs.declared.Step.the-variants.{Spawn, Return, Steal, Sync, Read, Write}
@@ -18,9 +19,11 @@ use Rattle.model.specs.Machine.{freeNodes as plainFree}
 use Rattle.model.specs.Steps.{step, answer}
 use Rattle.model.specs.Run.{Entry, IsFrame, stepsOf, readsOf, oneWorkerSteps}
 use Rattle.semantics.specs.Entries.{State, zeros, wholeNodes, numbersOf, isSound, chainFree}
+use Rattle.image.specs.Image.{imageBytes, nodesIn}
 use Rattle.semantics.specs.Answers.{wordsIn}
+use Rattle.semantics.specs.Images.{savedImage, stateIn, nodesZero, loadOn}
 use Rattle.semantics.specs.SoundMachine.{machineOf}
-use Rattle.semantics.specs.Calls.{Start, startResult, HostCall, outside, tape, StateAndPool, afterStart, outsideResult, tapeResult, afterCall, afterCalls, exchanges, recordsIn, answersIn, freeCounts, saysAccepted, traceFrom}
+use Rattle.semantics.specs.Calls.{Start, startResult, HostCall, outside, tape, StateAndPool, afterStart, outsideResult, tapeResult, saveResult, afterCall, recordsIn, answersIn, Run, Call, call, save, load, begun, runOf, saysAccepted, traceFrom}
 
 -- ---- the plain machine, fed records
 
@@ -64,31 +67,59 @@ machineBy S M [] ks = M
 
 -- ---- demand 2: "Each accepted step answers as a plain copying machine does"
 
--- of the calls, from the state and pool h on, against the machine M
-pub record Answers (S : Specification) (M : Machine) (h : StateAndPool) (calls : List HostCall) : Type 0 where
+-- of a run, against the machine M at its beginning; N nodes are recorded. Every list of calls is a run, so each answer is compared, also
+-- one that a later reading forgets
+pub record Answers (S : Specification) (M : Machine) (N : ℕ) (r : Run) : Type 0 where
   -- every answer word equal, refusals 7 to 16 included
-  pub same-answers : answersIn (exchanges h calls) ≡ answersBy S M (recordsIn (exchanges h calls)) (freeCounts h calls)
+  pub same-answers : answersIn (r .past .exchanges) ≡ answersBy S M (recordsIn (r .past .exchanges)) (r .past .free)
   -- the free nodes are the machine's
-  pub same-free : chainFree (afterCalls h calls .state) (afterCalls h calls .pool) ≡ plainFree (machineBy S M (recordsIn (exchanges h calls)) (freeCounts h calls))
-  pub still-sound : isSound (afterCalls h calls .state) (afterCalls h calls .pool) ≡ true
+  pub same-free : r .stateless ≡ false → chainFree (r .now .state) (r .now .pool) ≡ plainFree (machineBy S M (recordsIn (r .past .exchanges)) (r .past .free))
+  pub still-sound : r .stateless ≡ false → isSound (r .now .state) (r .now .pool) ≡ true
   -- "words beyond the last whole node or beyond the recorded nodes are never changed"
-  pub same-length : length (afterCalls h calls .pool) ≡ length (h .pool)
-  pub beyond : drop (4 * numbersOf (h .state) .nodes) (afterCalls h calls .pool) ≡ drop (4 * numbersOf (h .state) .nodes) (h .pool)
+  pub same-length : r .stateless ≡ false → length (r .now .pool) ≡ length (r .lent)
+  pub beyond : r .stateless ≡ false → drop (4 * N) (r .now .pool) ≡ drop (4 * N) (r .lent)
 
 -- the plain machine at a start: "the workers, the initial values and the number of whole nodes in the pool"
 abbrev pub plainStart : Start → Machine
 plainStart b = start (b .workers) (b .values) (wholeNodes (b .pool))
 
+abbrev pub runFrom : Start → List Call → Run
+runFrom b calls = runOf (begun (afterStart b)) calls
+
 -- for runs from an accepted start: "nodes in use are those that document 01 counts from the history"
-abbrev pub Demand2 : Start → List HostCall → Type 0
-Demand2 b calls = Answers fromStart (plainStart b) (afterStart b) calls
+abbrev pub Demand2 : Start → List Call → Type 0
+Demand2 b calls = Answers fromStart (plainStart b) (wholeNodes (b .pool)) (runFrom b calls)
 
 -- for sound states, however obtained: "the values its trees hold" (SoundMachine)
 abbrev pub plainOf : StateAndPool → Machine
 plainOf h = machineOf (numbersOf (h .state)) (h .state .deques) (h .state .frames) (h .pool)
 
-abbrev pub SoundRun : StateAndPool → List HostCall → Type 0
-SoundRun h calls = Answers fromSound (plainOf h) h calls
+abbrev pub SoundRun : StateAndPool → List Call → Type 0
+SoundRun h calls = Answers fromSound (plainOf h) (numbersOf (h .state) .nodes) (runOf (begun h) calls)
+
+-- ---- the memory that a host lends holds words of 32 bits, and tapes hold bytes
+
+pub record StateWords (s : State) (ws : List ℕ) : Type 0 where
+  pub numbers : Words (s .numbers)
+  pub deques : Words (s .deques)
+  pub frames : Words (s .frames)
+  pub pool : Words ws
+
+abbrev pub StartWords : Start → Type 0
+StartWords b = Words (b .values) × Words (b .pool)
+
+abbrev pub HostWords : HostCall → Type 0
+HostWords (outside kind worker field value work) = value < 4294967296
+HostWords (tape bytes work answers) = Bytes bytes
+
+abbrev pub CallWords : Call → Type 0
+CallWords (call k) = HostWords k
+CallWords (save work target) = Unit {0}
+CallWords (load i parts ws work) = Words ws
+
+abbrev pub AllCallWords : List Call → Type 0
+AllCallWords [] = Unit {0}
+AllCallWords (c ∷ cs) = CallWords c × AllCallWords cs
 
 -- ---- demand 1: what refused calls leave
 
@@ -122,6 +153,42 @@ pub record RefusedCall (h : StateAndPool) (c : HostCall) : Type 0 where
   pub same : afterCall h c ≡ h
   pub same-answers : answersAfter h c ≡ answersBefore c
 
+-- ---- demand 1: saves and readings
+
+-- "Target bytes past the image never change."
+pub record AcceptedSave (h : StateAndPool) (work target : List ℕ) : Type 0 where
+  pub image : take (imageBytes (numbersOf (h .state) .nodes)) (saveResult h work target .target) ≡ savedImage (h .state) (h .pool)
+  pub same-length : length (saveResult h work target .target) ≡ length target
+  pub past : drop (imageBytes (numbersOf (h .state) .nodes)) (saveResult h work target .target) ≡ drop (imageBytes (numbersOf (h .state) .nodes)) target
+
+-- "Each changes nothing but the work slice as document 01 says, and 6 when reading leaves every whole node of the pool zero. A refused
+-- reading hands out a state of zeros."
+pub record RefusedLoad (s : State) (ws work image : List ℕ) : Type 0 where
+  pub state : loadOn s ws work image .result ≡ 99 → loadOn s ws work image .state ≡ s
+  pub zero : loadOn s ws work image .result < 99 → loadOn s ws work image .state ≡ zeros
+  pub pool : loadOn s ws work image .result ≢ 6 → loadOn s ws work image .pool ≡ ws
+  pub zero-nodes : loadOn s ws work image .result ≡ 6 → loadOn s ws work image .pool ≡ nodesZero ws
+
+-- what is read is what the image says; saved again it is the same image; the words past the recorded nodes stay
+pub record AcceptedLoad (s : State) (ws work image : List ℕ) : Type 0 where
+  pub state : loadOn s ws work image .state ≡ stateIn image
+  pub sound : isSound (stateIn image) (loadOn s ws work image .pool) ≡ true
+  pub again : Bytes image → savedImage (loadOn s ws work image .state) (loadOn s ws work image .pool) ≡ image
+  pub same-length : length (loadOn s ws work image .pool) ≡ length ws
+  pub beyond : drop (4 * nodesIn image) (loadOn s ws work image .pool) ≡ drop (4 * nodesIn image) ws
+
+-- "Reading back gives the same state": of the image that an accepted save has written, into any parts that fit, a work slice that is long enough and a
+-- pool that holds the nodes, whatever they hold and however much longer it is
+abbrev pub writtenImage : StateAndPool → List ℕ → List ℕ → List ℕ
+writtenImage h work target = take (imageBytes (numbersOf (h .state) .nodes)) (saveResult h work target .target)
+
+pub record ReadsBack (h : StateAndPool) (image : List ℕ) (s : State) (ws work : List ℕ) : Type 0 where
+  pub accepted : loadOn s ws work image .result ≡ 0
+  pub state : loadOn s ws work image .state ≡ h .state
+  pub nodes : take (4 * numbersOf (h .state) .nodes) (loadOn s ws work image .pool) ≡ take (4 * numbersOf (h .state) .nodes) (h .pool)
+  pub same-length : length (loadOn s ws work image .pool) ≡ length ws
+  pub beyond : drop (4 * numbersOf (h .state) .nodes) (loadOn s ws work image .pool) ≡ drop (4 * numbersOf (h .state) .nodes) ws
+
 -- ---- the slices after any call, refused or not
 
 -- "Answer words past the last record's never change."
@@ -150,15 +217,24 @@ beforeCheck r = eqb r 99 || (eqb r 4 || eqb r 5)
 abbrev pub WorkAfter : StateAndPool → HostCall → Type 0
 WorkAfter h c = workAfter h c ≡ cond (beforeCheck (callResult h c)) (workBefore c) (cleared (numbersOf (h .state) .nodes) (workBefore c))
 
+-- the same of saves and readings: the check is reached after 99 and 5, and after 17 and 18
+abbrev pub WorkAfterSave : StateAndPool → List ℕ → List ℕ → Type 0
+WorkAfterSave h work target = saveResult h work target .work ≡ cond (beforeCheck (saveResult h work target .result)) work (cleared (numbersOf (h .state) .nodes) work)
+
+abbrev pub WorkAfterLoad : State → List ℕ → List ℕ → List ℕ → Type 0
+WorkAfterLoad s ws work image =
+    loadOn s ws work image .work ≡
+    cond (beforeCheck (loadOn s ws work image .result) || (eqb (loadOn s ws work image .result) 17 || eqb (loadOn s ws work image .result) 18)) work (cleared (nodesIn image) work)
+
 -- ---- demand 3
 
 -- what the frames of a run did and read, by the engine's answers
-abbrev pub traceOf : Start → List HostCall → List Entry
-traceOf b calls = traceFrom (plainStart b) (exchanges (afterStart b) calls)
+abbrev pub traceOf : Start → List Call → List Entry
+traceOf b calls = traceFrom (plainStart b) (runFrom b calls .past .exchanges)
 
 -- "Main has returned once a return of the run was answered with outcome 3."
-abbrev pub MainReturned : Start → List HostCall → Type 0
-MainReturned b calls = In (102, 3) (answersIn (exchanges (afterStart b) calls))
+abbrev pub MainReturned : Start → List Call → Type 0
+MainReturned b calls = In (102, 3) (answersIn (runFrom b calls .past .exchanges))
 
 -- a step as a host enters it, with this work slice
 abbrev pub callOf : Step → List ℕ → HostCall
@@ -175,8 +251,8 @@ oneByOne works i [] = []
 oneByOne works i (s ∷ ss) = callOf s (works i) ∷ oneByOne works (suc i) ss
 
 -- the one-worker run's calls
-abbrev pub oneWorkerCalls : Start → List HostCall → (ℕ → List ℕ) → List HostCall
-oneWorkerCalls b calls works = oneByOne works 0 (oneWorkerSteps (traceOf b calls))
+abbrev pub oneWorkerCalls : Start → List Call → (ℕ → List ℕ) → List Call
+oneWorkerCalls b calls works = map call (oneByOne works 0 (oneWorkerSteps (traceOf b calls)))
 
 -- "The one-worker run starts with one worker, the same initial values and a pool of as many whole nodes", over any parts that fit;
 -- each step "with a work slice that is long enough"
@@ -193,17 +269,18 @@ AllFree h =
     (i : ℕ) → i < numbersOf (h .state) .nodes → count i (freeNodes (numbersOf (h .state) .nodes) (h .pool) (numbersOf (h .state) .«free_node»)) ≡ 1
 
 -- b₁ is the one-worker run's start, cs₁ are its calls
-pub record OneWorker (b : Start) (calls : List HostCall) (b₁ : Start) (cs₁ : List HostCall) : Type 0 where
+pub record OneWorker (b : Start) (calls : List Call) (b₁ : Start) (cs₁ : List Call) : Type 0 where
   pub starts : startResult b₁ .result ≡ 0
   -- each step of the list is fed to the machine, and none is refused
-  pub all-entered : recordsIn (exchanges (afterStart b₁) cs₁) ≡ map Valid (oneWorkerSteps (traceOf b calls))
-  pub none-refused : allAccepted (answersIn (exchanges (afterStart b₁) cs₁))
+  pub all-entered : recordsIn (runFrom b₁ cs₁ .past .exchanges) ≡ map Valid (oneWorkerSteps (traceOf b calls))
+  pub none-refused : allAccepted (answersIn (runFrom b₁ cs₁ .past .exchanges))
   pub same-frames : (p : Name) → IsFrame (traceOf b₁ cs₁) p ↔ IsFrame (traceOf b calls) p
   pub same-steps : (p : Name) → stepsOf p (traceOf b₁ cs₁) ≡ stepsOf p (traceOf b calls)
   pub same-reads : (p : Name) → readsOf p (traceOf b₁ cs₁) ≡ readsOf p (traceOf b calls)
-  pub all-free : AllFree (afterCalls (afterStart b) calls)
-  pub all-free-alone : AllFree (afterCalls (afterStart b₁) cs₁)
+  -- unless the last reading was refused
+  pub all-free : runFrom b calls .stateless ≡ false → AllFree (runFrom b calls .now)
+  pub all-free-alone : AllFree (runFrom b₁ cs₁ .now)
 
 -- for each lent parts that fit, each pool "of as many whole nodes" and each choice of long enough work slices
-abbrev pub Demand3 : Start → List HostCall → State → List ℕ → (ℕ → List ℕ) → Type 0
+abbrev pub Demand3 : Start → List Call → State → List ℕ → (ℕ → List ℕ) → Type 0
 Demand3 b calls parts ws works = OneWorker b calls (aloneStart b parts ws) (oneWorkerCalls b calls works)

@@ -1,6 +1,7 @@
 pub mod Answers
 pub mod Core
 pub mod Entries
+pub mod Images
 pub mod Promises
 pub mod Ranges
 pub mod SoundMachine

@@ -6,6 +6,7 @@ use Prim.Native.Nat.{ℕ}
 use lib.ListN.{length}
 use Rattle.frames.specs.Widths.{frameWords, dequeWords}
 use Rattle.semantics.specs.Entries.{State, StartResult, OutsideResult, TapeResult}
+use Rattle.semantics.specs.Images.{SaveResult, LoadResult}
 
 -- the state in three lent parts
 abbrev pub parts : List ℕ → List ℕ → List ℕ → State
@@ -37,3 +38,16 @@ pub record IsTape (o : TapeResult) (ns ds fs ws ks rs : List ℕ) (r : ℕ) : Ty
   pub pool : ws ≡ o .pool
   pub work : ks ≡ o .work
   pub answers : rs ≡ o .answers
+
+-- the work slice ks, the target ts and the result r are those of a save's result o; state and pool are lent to be read only
+pub record IsSave (o : SaveResult) (ks ts : List ℕ) (r : ℕ) : Type 0 where
+  pub result : r ≡ o .result
+  pub work : ks ≡ o .work
+  pub target : ts ≡ o .target
+
+-- the same of a reading, with the parts, the pool and the work slice
+pub record IsLoad (o : LoadResult) (ns ds fs ws ks : List ℕ) (r : ℕ) : Type 0 where
+  pub result : r ≡ o .result
+  pub state : parts ns ds fs ≡ o .state
+  pub pool : ws ≡ o .pool
+  pub work : ks ≡ o .work

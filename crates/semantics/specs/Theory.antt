@@ -48,8 +48,14 @@ pub mod StartRelates
 pub mod RefusedCalls
 -- a step of a sound core
 pub mod SoundSteps
+-- the same nodes in another pool
+pub mod Elsewhere
+-- saves and readings, call by call
+pub mod Images
 -- calls, tapes
 pub mod Runs
+-- runs with saves and readings
+pub mod WholeRuns
 -- the plain machine fed records, and fed the steps among them
 pub mod ValidRecords
 -- the relation of a run from a start; demands 2 and 3
@@ -60,6 +66,8 @@ pub mod SoundRuns
 pub mod EmptyTape
 -- a work slice that is too short is left alone
 pub mod WorkSlice
+-- all that the engine leaves are words, if all that is handed in are
+pub mod AllWords
 -- ---- the tape loop's invariant
 -- a sound core, kept by every step
 pub mod Kept

@@ -24,7 +24,7 @@ pub enum Done {
     Written(u32),
 }
 
-// Document 01's refusals, 1 to 16, and the entries' own, 99.
+// Document 01's refusals, 1 to 16, document 02's, 17 to 19, and the entries' own, 99.
 pub enum Refusal {
     Values,
     Workers,
@@ -42,6 +42,10 @@ pub enum Refusal {
     ChildLives,
     NoSplitter,
     PoolFull,
+    // 17 to 19: an image's blocks, a block's check, the target of a save
+    Blocks,
+    BlockCheck,
+    Target,
     // a lent part of the state has not the length that it must have
     Lengths,
 }

@@ -5,8 +5,12 @@ ghost use Prim.Native.Nat.{_%_, _^_, min};
 ghost use Rattle.sizes.specs.Sizes.{treeNodes};
 ghost use Rattle.model.specs.Record.{recordOf, decodeAt};
 ghost use Rattle.semantics.specs.Entries.{startOn, outsideOn, tapeOn};
-ghost use Rattle.semantics.specs.Promises.{parts, IsStart, IsOutside, IsTape};
+ghost use Rattle.image.specs.Image.{imageBytes};
+ghost use Rattle.semantics.specs.Images.{saveOn, loadOn};
+ghost use Rattle.semantics.specs.Promises.{parts, IsStart, IsOutside, IsTape, IsSave, IsLoad};
 ghost use Rattle.splitter.specs.OneRecord.{bytesOf, resultWords};
+use engine::load;
+use engine::save;
 use engine::start;
 use engine::tape;
 
@@ -113,6 +117,46 @@ pub extern "C" fn splitter_tape(
         (now (numbers .exit)) (now (deques .exit)) (now (frames .exit)) (now (pool .exit)) (now (work .exit)) (now (answers .exit)) r ⌝ }
 {
     tape(numbers, deques, frames, pool, work, bytes, answers)
+}
+
+// R-1: the state and its pool as an image in the front of the target.
+#[no_mangle]
+pub extern "C" fn splitter_save(
+    numbers: &[u32],
+    deques: &[u32],
+    frames: &[u32],
+    pool: &[u32],
+    work: &mut [u32],
+    target: &mut [u8],
+) -> u32
+    ensures { λ r. ⌜ IsSave (saveOn (parts (now (numbers .entry)) (now (deques .entry)) (now (frames .entry))) (now (pool .entry)) (now (work .entry)) (now (target .entry)))
+        (now (work .exit)) (now (target .exit)) r ⌝ }
+{
+    save(numbers, deques, frames, pool, work, target)
+}
+
+// R-1: an image back into a state and a pool.
+#[no_mangle]
+pub extern "C" fn splitter_load(
+    numbers: &mut [u32],
+    deques: &mut [u32],
+    frames: &mut [u32],
+    pool: &mut [u32],
+    work: &mut [u32],
+    image: &[u8],
+) -> u32
+    ensures { λ r. ⌜ IsLoad (loadOn (parts (now (numbers .entry)) (now (deques .entry)) (now (frames .entry))) (now (pool .entry)) (now (work .entry)) (now (image .entry)))
+        (now (numbers .exit)) (now (deques .exit)) (now (frames .exit)) (now (pool .exit)) (now (work .exit)) r ⌝ }
+{
+    load(numbers, deques, frames, pool, work, image)
+}
+
+// The bytes of an image of so many nodes.
+#[no_mangle]
+pub extern "C" fn splitter_image_bytes(nodes: u32) -> u64
+    ensures { λ r. ⌜ r ≡ imageBytes nodes ⌝ }
+{
+    image::image_bytes(nodes)
 }
 
 // T(n).

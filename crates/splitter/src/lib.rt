@@ -2,6 +2,9 @@
 // Nothing is kept between calls, and no function asks anything of its caller.
 mod calls;
 
+pub use calls::splitter_image_bytes;
+pub use calls::splitter_load;
+pub use calls::splitter_save;
 pub use calls::splitter_start;
 pub use calls::splitter_step;
 pub use calls::splitter_tape;

@@ -1,13 +1,15 @@
 -- Demand 3 is not empty: its hypotheses hold of document 01's example, entered as one tape.
 use mathlib.Core.Path.{_≡_, refl, sym, ap, _∙_, subst}
-use mathlib.Core.Bool.{cond}
+use mathlib.Core.Bool.{true, cond}
 use mathlib.Core.List.{List·Memᴰ as In, List·Memᴰ·head as here, List·Memᴰ·tail as there}
 use mathlib.Core.List.{List, [], _∷_, _++_}
-use Prim.Native.Nat.{ℕ}
+use Prim.Native.Nat.{ℕ, zero, suc, _<_}
 use native.Mathlib.Omega.{arith}
 use lib.ListN.{replicate}
-use lib.Dec.{eqb}
-use Rattle.words.specs.Basics.{joined}
+use lib.Dec.{eqb, ltb}
+use Rattle.words.specs.Basics.{joined, below}
+use Rattle.words.specs.Below.{Below, Words}
+use Rattle.words.specs.Tests.{both, lt-of}
 use Rattle.sizes.specs.Sizes.{height, width, treeNodes, bit}
 use Rattle.pool.specs.Pool.{refcount, left, right, value, setNode, setRefcount, side, child, sibling, leafOf, readAt, retain, release, pathNode, copyPath, write, initLevel, initInner, initLeaves, initFree, initPool}
 use Rattle.frames.specs.Frames.{frameAt, setFrame}
@@ -17,8 +19,8 @@ use Rattle.soundness.specs.Soundness.{cleared}
 use Rattle.model.specs.Record.{recordOf, decodeAt}
 use Rattle.semantics.specs.Core.{spawnOn, returnOn, stealOn, syncOn, readOn, writeOn, stepOn}
 use Rattle.semantics.specs.Entries.{startOn, startWith, recordsOf, recordsFrom, runOn, TapeResult}
-use Rattle.semantics.specs.Calls.{Start, startResult, HostCall, tape, afterStart, exchangesFrom, exchanges, answersIn}
-use Rattle.semantics.specs.Demands.{MainReturned, Demand3}
+use Rattle.semantics.specs.Calls.{Start, startResult, tape, Call, call, exchangesFrom, answersIn}
+use Rattle.semantics.specs.Demands.{runFrom, MainReturned, Demand3}
 use Rattle.semantics.specs.Theory.StartedRuns.{demand3}
 use Rattle.starred.specs.Tapes.{spawns, returns, steals, syncs, reads, writes, anyParts, anyPool, five}
 use Rattle.starred.specs.Quick.{quickTape, tape-quick}
@@ -31,15 +33,15 @@ example = record { parts = anyParts; workers = 2; values = five; pool = anyPool 
 abbrev pub exampleBytes : List ℕ
 exampleBytes = joined (spawns 0 ∷ steals 1 0 ∷ writes 1 4 99 ∷ reads 0 4 ∷ syncs 1 ∷ reads 1 4 ∷ returns 0 ∷ reads 0 4 ∷ returns 0 ∷ [])
 
-pub exampleCalls : List HostCall
-exampleCalls = tape exampleBytes (replicate 20 5) (replicate 18 9) ∷ []
+pub exampleCalls : List Call
+exampleCalls = call (tape exampleBytes (replicate 20 5) (replicate 18 9)) ∷ []
 
 started : startResult example .result ≡ 0
 unfolding startOn startWith treeNodes height width
 started = refl
 
 abbrev answersOf : TapeResult → List (ℕ × ℕ)
-answersOf o = answersIn (cond (eqb (o .result) 0) (exchangesFrom (o .answers) 0 (recordsOf exampleBytes)) [] ++ [])
+answersOf o = answersIn (cond (eqb (o .result) 0) (exchangesFrom (o .answers) 0 (recordsOf exampleBytes)) [])
 
 -- without the check
 quickly : answersOf (quickTape example exampleBytes (replicate 20 5) (replicate 18 9)) ≡ (101, 1) ∷ (103, 0) ∷ (106, 5) ∷ (105, 50) ∷ (104, 1) ∷ (10, 0) ∷ (102, 2) ∷ (105, 99) ∷ (102, 3) ∷ []
@@ -47,12 +49,22 @@ unfolding startOn startWith runOn recordsFrom recordOf decodeAt spawnOn returnOn
 quickly = refl
 
 -- the lines of the example
-pub answered : answersIn (exchanges (afterStart example) exampleCalls) ≡ (101, 1) ∷ (103, 0) ∷ (106, 5) ∷ (105, 50) ∷ (104, 1) ∷ (10, 0) ∷ (102, 2) ∷ (105, 99) ∷ (102, 3) ∷ []
+pub answered : answersIn (runFrom example exampleCalls .past .exchanges) ≡ (101, 1) ∷ (103, 0) ∷ (106, 5) ∷ (105, 50) ∷ (104, 1) ∷ (10, 0) ∷ (102, 2) ∷ (105, 99) ∷ (102, 3) ∷ []
 unfolding exampleCalls
 answered = ap answersOf (tape-quick example exampleBytes (replicate 20 5) (replicate 18 9)) ∙ quickly
 
 main-returned : MainReturned example exampleCalls
 main-returned = subst (In (102, 3)) (sym answered) (there (there (there (there (there (there (there (there (here refl)))))))))
 
+-- by the test of each element
+below-of : (N : ℕ) (xs : List ℕ) → 0 < N → below N xs ≡ true → Below N xs
+below-of N [] p e i = p
+below-of N (x ∷ xs) p e zero = lt-of (both (ltb x N) (below N xs) e .0)
+below-of N (x ∷ xs) p e (suc i) = below-of N xs p (both (ltb x N) (below N xs) e .1) i
+
+words-are : (xs : List ℕ) → below 4294967296 xs ≡ true → Words xs
+words-are xs e = below-of 4294967296 xs (omega arith) e
+
 pub demand3-example : Demand3 example exampleCalls anyParts (anyPool 20) (λ j. replicate 20 0)
-demand3-example = demand3 example exampleCalls anyParts (anyPool 20) (λ j. replicate 20 0) started main-returned refl refl (λ j. omega arith)
+unfolding exampleCalls
+demand3-example = demand3 example exampleCalls anyParts (anyPool 20) (λ j. replicate 20 0) started (words-are five refl, words-are (anyPool 20) refl) (below-of 256 exampleBytes (omega arith) refl, tt) main-returned refl refl (λ j. omega arith)

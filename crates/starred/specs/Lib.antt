@@ -8,3 +8,5 @@ pub mod RefusedCalls
 pub mod RefusedRecords
 pub mod Layout
 pub mod Demand3Example
+-- R-1: saves and readings
+pub mod SavedImages

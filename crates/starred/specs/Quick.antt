@@ -1,9 +1,9 @@
 -- The entries without the check of soundness, and a start whose tables are written out, for computed tables: where the state is
 -- known to be sound, as after a start (demand 2), the check need not be computed to know what the entries do.
-use mathlib.Core.Path.{_≡_, refl, ap, _∙_}
+use mathlib.Core.Path.{_≡_, refl, sym, ap, _∙_}
 use mathlib.Core.Bool.{Bool, true, cond}
 use mathlib.Core.Logic.{inl, inr}
-use mathlib.Core.List.{List, [], _∷_}
+use mathlib.Core.List.{List, [], _∷_, map}
 use Prim.Native.Nat.{ℕ}
 use lib.ListN.{length, replicate}
 use lib.Dec.{eqb, leb}
@@ -21,13 +21,13 @@ use Rattle.soundness.specs.Soundness.{checked}
 use Rattle.model.specs.Record.{recordOf}
 use Rattle.semantics.specs.declared.Refusal.the-variants.{Tape, Lengths}
 use Rattle.semantics.specs.Entries.{fits, numbersOf, isSound, chainFree, StartResult, firstNumbers, wholeNodes, OutsideResult, outsideRefused, outsideChecked, outsideWith, outsideOn, TapeResult, tapeRefused, tapeChecked, unfitTape, tapeWith, tapeOn}
-use Rattle.semantics.specs.Calls.{Start, startResult, HostCall, outside, tape, StateAndPool, afterStart, outsideResult, tapeResult, afterCall, afterCalls}
+use Rattle.semantics.specs.Calls.{Start, startResult, HostCall, outside, tape, StateAndPool, afterStart, outsideResult, tapeResult, afterCall, Run, call, begun, runAfter, runOf}
 use Rattle.semantics.specs.Promises.{Fits}
 use Rattle.semantics.specs.Theory.Fitting.{fits-true}
 use Rattle.semantics.specs.Theory.Lengths.{start-fits, call-fits}
 use Rattle.semantics.specs.Theory.Starts.{started-fit}
-use Rattle.semantics.specs.Theory.SoundRuns.{sound-run}
-use Rattle.semantics.specs.Theory.StartedRuns.{demand2}
+use Rattle.semantics.specs.Theory.SoundRuns.{sound-call}
+use Rattle.semantics.specs.Theory.StartedRuns.{plain-sound}
 use Rattle.starred.specs.Tapes.{deques, frames, live}
 
 -- ---- the check's answer, given whether state and pool are sound
@@ -77,8 +77,18 @@ start-quick b e =
     ap (λ (o : StartResult). record { state = o .state; pool = o .pool }) (started-fit (b .parts) (b .workers) (b .values) (b .pool) e .result)
     ∙ (λ i. startWords b (first-deques i) (first-frames i))
 
+-- ---- steps and tapes, one after the other
+
+abbrev pub afterCalls : StateAndPool → List HostCall → StateAndPool
+afterCalls h [] = h
+afterCalls h (c ∷ cs) = afterCalls (afterCall h c) cs
+
+run-now : (cs : List HostCall) (r : Run) → runOf r (map call cs) .now ≡ afterCalls (r .now) cs
+run-now [] r = refl
+run-now (c ∷ cs) r = run-now cs (runAfter r (call c))
+
 pub after-sound : (b : Start) (cs : List HostCall) → startResult b .result ≡ 0 → isSound (afterCalls (afterStart b) cs .state) (afterCalls (afterStart b) cs .pool) ≡ true
-after-sound b cs e = demand2 b cs e .still-sound
+after-sound b cs e = ap (λ (h : StateAndPool). isSound (h .state) (h .pool)) (sym (run-now cs (begun (afterStart b)))) ∙ plain-sound b cs e
 
 -- ---- a tape after a start
 
@@ -110,7 +120,7 @@ quickCalls h (c ∷ cs) = quickCalls (quickCall h c) cs
 calls-quick : (cs : List HostCall) (h : StateAndPool) → Fits (h .state) → isSound (h .state) (h .pool) ≡ true → afterCalls h cs ≡ quickCalls h cs
 calls-quick [] h f e = refl
 calls-quick (c ∷ cs) h f e =
-    calls-quick cs (afterCall h c) (call-fits h c f) (sound-run h (c ∷ []) (fits-true (h .state) f) e .still-sound) ∙ ap (λ g. quickCalls g cs) (call-quick h c e)
+    calls-quick cs (afterCall h c) (call-fits h c f) (sound-call h c (fits-true (h .state) f) e) ∙ ap (λ g. quickCalls g cs) (call-quick h c e)
 
 pub after-quick : (b : Start) (cs : List HostCall) → startResult b .result ≡ 0 → afterCalls (afterStart b) cs ≡ quickCalls (quickStart b) cs
 after-quick b cs e =

@@ -25,9 +25,9 @@ use Rattle.model.specs.Record.{recordOf, decodeAt}
 use Rattle.semantics.specs.Core.{spawnOn, returnOn, stealOn, syncOn, readOn, writeOn, stepOn}
 use Rattle.semantics.specs.Answers.{wordsIn}
 use Rattle.semantics.specs.Entries.{wholeNodes, startOn, startWith, OutsideResult, recordsFrom, runOn, TapeResult}
-use Rattle.semantics.specs.Calls.{Start, startResult, HostCall, tape, StateAndPool, afterStart, afterCalls, outsideResult, tapeResult}
+use Rattle.semantics.specs.Calls.{Start, startResult, HostCall, tape, StateAndPool, afterStart, outsideResult, tapeResult}
 use Rattle.starred.specs.Tapes.{bytes, spawns, returns, steals, syncs, reads, writes, anyParts, anyPool, wordsOf}
-use Rattle.starred.specs.Quick.{outsideBy, outside-by, quickStart, after-sound, quickTape, tape-quick, quickCalls, after-quick}
+use Rattle.starred.specs.Quick.{afterCalls, outsideBy, outside-by, quickStart, after-sound, quickTape, tape-quick, quickCalls, after-quick}
 
 -- ---- tapes
 

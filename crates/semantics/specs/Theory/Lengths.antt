@@ -28,7 +28,7 @@ use Rattle.semantics.specs.declared.Refusal.{Refusal}
 use Rattle.semantics.specs.Core.{Core, StepResult, tableOf, judged, testsOf, spawnOn, returnOn, stealOn, syncOn, readOn, writeOn, doneBy, stepOn}
 use Rattle.semantics.specs.Entries.{State, coreOf, stateOf, checkedState, zeros, StartResult, wholeNodes, firstState, startWith, startOn, outsideChecked, outsideWith, outsideOn, recordOn, recordsResult, runOn, recordsOf, unfitTape, tapeChecked, tapeWith, tapeOn}
 use Rattle.semantics.specs.Promises.{Fits}
-use Rattle.semantics.specs.Calls.{HostCall, outside, tape, StateAndPool, afterCall, afterCalls}
+use Rattle.semantics.specs.Calls.{HostCall, outside, tape, StateAndPool, afterCall}
 pub use Rattle.semantics.specs.Theory.Fitting.{fits-true, true-fits, state-back}
 
 -- ---- the deques
@@ -187,7 +187,3 @@ module _ (s : State) (f : Fits s) where
 pub call-fits : (h : StateAndPool) (c : HostCall) → Fits (h .state) → Fits (afterCall h c .state)
 call-fits h (outside kind worker field value work) f = outside-fits (h .state) f (h .pool) work (recordOf kind worker field value)
 call-fits h (tape bytes work answers) f = tape-fits (h .state) f (h .pool) work bytes answers
-
-pub calls-fit : (cs : List HostCall) (h : StateAndPool) → Fits (h .state) → Fits (afterCalls h cs .state)
-calls-fit [] h f = f
-calls-fit (c ∷ cs) h f = calls-fit cs (afterCall h c) (call-fits h c f)

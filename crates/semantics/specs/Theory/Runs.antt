@@ -11,6 +11,7 @@ use lib.Dec.{leb, ltb, eqb}
 use borrow.Author.Tests.{ltb-false}
 use Rattle.words.specs.Tests.{decided, neither}
 use Rattle.sizes.specs.Sizes.{height}
+use Rattle.pool.specs.Theory.Elsewhere.{SameNodes}
 use Rattle.soundness.specs.declared.Checked.{Checked}
 use Rattle.soundness.specs.declared.Checked.the-variants.{NoRoom, Sound}
 use Rattle.soundness.specs.Soundness.{checked, cleared}
@@ -23,13 +24,14 @@ use Rattle.semantics.specs.declared.Answer.{Answer}
 use Rattle.semantics.specs.Answers.{answerWords, wordsIn}
 use Rattle.semantics.specs.Core.{Core}
 use Rattle.semantics.specs.Entries.{numbersOf, coreOf, stateOf, isSound, checkedState, chainFree, recordOn, OutsideResult, outsideDone, outsideChecked, outsideWith, outsideOn, recordsOf, putAnswer, RecordsResult, recordsResult, runOn, TapeResult, tapeDone, tapeRefused, tapeChecked, unfitTape, tapeWith, tapeOn}
-use Rattle.semantics.specs.Calls.{HostCall, outside, tape, StateAndPool, afterCall, afterCalls, Exchange, refusedWhole, exchangesFrom, exchangesOf, exchanges, recordsIn, answersIn, freeAfter, coreIn, freeCounts}
-use Rattle.semantics.specs.Demands.{Specification, answersBy, machineBy, Answers}
+use Rattle.semantics.specs.Calls.{HostCall, outside, tape, StateAndPool, afterCall, Exchange, refusedWhole, exchangesFrom, exchangesOf, recordsIn, answersIn, freeAfter, coreIn}
+use Rattle.semantics.specs.Demands.{Specification, answersBy, machineBy}
 use Rattle.semantics.specs.Promises.{Fits}
 use Rattle.semantics.specs.Theory.Pools.{Beyond}
 use Rattle.semantics.specs.Theory.FromSoundRelates.{map-append}
 use Rattle.semantics.specs.Theory.Simulation.{numbers-kept}
 use Rattle.semantics.specs.Theory.SoundSteps.{step-beyond, Carried, is-sound}
+use Rattle.semantics.specs.Theory.Elsewhere.{withPool}
 use Rattle.semantics.specs.Theory.Fitting.{fits-true}
 use Rattle.semantics.specs.Theory.Words.{words-low, words-back, not-whole}
 use Rattle.semantics.specs.Theory.TapeWords.{length-records, records-from, put-long, put-before, put-first, put-second}
@@ -44,11 +46,12 @@ stateAndPool c = record { state = stateOf c; pool = c .pool }
 abbrev pub freeLeft : Core → Decoded → ℕ
 freeLeft c d = chainFree (stateOf (recordOn c d .core)) (recordOn c d .core .pool)
 
--- what a relation has to do: each record keeps it, and is answered as S says
+-- what a relation has to do: each record keeps it, and is answered as S says; the same nodes in another pool keep it
 pub record Laws (S : Specification) (Follows : Machine → Core → Type 0) : Type 0 where
   pub carried : (M : Machine) (c : Core) → Follows M c → Carried M c
   pub keeps : (M : Machine) (c : Core) (d : Decoded) → Follows M c → Follows (S .after M d (freeLeft c d)) (recordOn c d .core)
   pub alike : (M : Machine) (c : Core) (d : Decoded) → Follows M c → answerWords (recordOn c d .answer) ≡ S .answers M d (freeLeft c d)
+  pub elsewhere : (M : Machine) (c : Core) (ws' : List ℕ) → Follows M c → SameNodes (c .head .numbers .nodes) (c .pool) ws' → Follows M (withPool c ws')
 
 -- the host's state and pool are those of a core that M follows
 pub record KeptBy (Follows : Machine → Core → Type 0) (h : StateAndPool) (M : Machine) : Type 0 where
@@ -57,7 +60,7 @@ pub record KeptBy (Follows : Machine → Core → Type 0) (h : StateAndPool) (M 
   pub follows : Follows M core
 
 module _ {M : Machine} {c : Core} (K : Carried M c) where
-  core-fits : Fits (stateOf c)
+  pub core-fits : Fits (stateOf c)
   core-fits = record { numbers = refl; deques = K .related .formed .shaped .long; frames = K .related .formed .long }
 
   -- the engine's words, with the free nodes counted, are the core
@@ -153,7 +156,7 @@ length-free : (ds : List Decoded) (c : Core) → length (freeAfter c ds) ≡ len
 length-free [] c = refl
 length-free (d ∷ ds) c = ap suc (length-free ds (recordOn c d .core))
 
-beyond-then : (N : ℕ) (a b c : List ℕ) → Beyond N a b → Beyond N b c → Beyond N a c
+pub beyond-then : (N : ℕ) (a b c : List ℕ) → Beyond N a b → Beyond N b c → Beyond N a c
 beyond-then N a b c x y = (y .0 ∙ x .0, y .1 ∙ x .1)
 
 module _ (S : Specification) where
@@ -172,27 +175,29 @@ module _ (S : Specification) where
   machine-append (d ∷ ds) [] M ds′ ks′ l = absurd (omega arith)
   machine-append (d ∷ ds) (k ∷ ks) M ds′ ks′ l = machine-append ds ks (S .after M d k) ds′ ks′ (omega arith)
 
--- ---- a run
+-- ---- calls one after the other
 
--- from h to h′, with the exchanges es and the numbers ks of nodes on the chain
-pub record Ran (S : Specification) (Follows : Machine → Core → Type 0) (M : Machine) (h h′ : StateAndPool) (es : List Exchange) (ks : List ℕ) : Type 0 where
+-- to h, with the exchanges es and the numbers ks of nodes on the chain
+pub record Fed (S : Specification) (Follows : Machine → Core → Type 0) (M : Machine) (h : StateAndPool) (es : List Exchange) (ks : List ℕ) : Type 0 where
   pub long : length ks ≡ length (recordsIn es)
-  pub kept : KeptBy Follows h′ (machineBy S M (recordsIn es) ks)
+  pub kept : KeptBy Follows h (machineBy S M (recordsIn es) ks)
   pub same : answersIn es ≡ answersBy S M (recordsIn es) ks
+
+-- a call from h to h′
+pub record Ran (S : Specification) (Follows : Machine → Core → Type 0) (M : Machine) (h h′ : StateAndPool) (es : List Exchange) (ks : List ℕ) : Type 0 where
+  pub fed : Fed S Follows M h′ es ks
   pub nodes : numbersOf (h′ .state) .nodes ≡ numbersOf (h .state) .nodes
   pub beyond : Beyond (numbersOf (h .state) .nodes) (h .pool) (h′ .pool)
 
 module _ (S : Specification) (Follows : Machine → Core → Type 0) (L : Laws S Follows) where
-  ran-then : (M : Machine) (h h₁ h₂ : StateAndPool) (es es₁ : List Exchange) (ks ks₁ : List ℕ) → Ran S Follows M h h₁ es ks → Ran S Follows (machineBy S M (recordsIn es) ks) h₁ h₂ es₁ ks₁
-      → Ran S Follows M h h₂ (es ++ es₁) (ks ++ ks₁)
-  ran-then M h h₁ h₂ es es₁ ks ks₁ A B =
+  pub fed-then : (M : Machine) (h₁ h₂ : StateAndPool) (es es₁ : List Exchange) (ks ks₁ : List ℕ) → Fed S Follows M h₁ es ks → Fed S Follows (machineBy S M (recordsIn es) ks) h₂ es₁ ks₁
+      → Fed S Follows M h₂ (es ++ es₁) (ks ++ ks₁)
+  fed-then M h₁ h₂ es es₁ ks ks₁ A B =
       let e : recordsIn (es ++ es₁) ≡ recordsIn es ++ recordsIn es₁ = map-append (λ (t : Exchange). t .0) es es₁ in
       record {
         long = omega (arith, length-append ks ks₁, ap length e, length-append (recordsIn es) (recordsIn es₁), A .long, B .long);
         kept = subst (KeptBy Follows h₂) (sym (ap (λ z. machineBy S M z (ks ++ ks₁)) e ∙ machine-append S (recordsIn es) ks M (recordsIn es₁) ks₁ (A .long))) (B .kept);
         same = map-append (λ (t : Exchange). t .1) es es₁ ∙ ap₂ _++_ (A .same) (B .same) ∙ sym (ap (λ z. answersBy S M z (ks ++ ks₁)) e ∙ answers-append S (recordsIn es) ks M (recordsIn es₁) ks₁ (A .long));
-        nodes = B .nodes ∙ A .nodes;
-        beyond = beyond-then (numbersOf (h .state) .nodes) (h .pool) (h₁ .pool) (h₂ .pool) (A .beyond) (subst (λ N. Beyond N (h₁ .pool) (h₂ .pool)) (A .nodes) (B .beyond));
       }
 
   -- ---- the records of a tape
@@ -230,13 +235,11 @@ module _ (S : Specification) (Follows : Machine → Core → Type 0) (L : Laws S
     RanFrom p = Ran S Follows M (stateAndPool c) (p .0) (p .1) (freeAfter c (recordsIn (p .1)))
 
     still : RanFrom (stateAndPool c, [])
-    still = record { long = refl; kept = record { core = c; held = refl; follows = f }; same = refl; nodes = refl; beyond = (refl, refl) }
+    still = record { fed = record { long = refl; kept = record { core = c; held = refl; follows = f }; same = refl }; nodes = refl; beyond = (refl, refl) }
 
     one : (d : Decoded) → RanFrom (stateAndPool (recordOn c d .core), (d, answerWords (recordOn c d .answer)) ∷ [])
     one d = record {
-      long = refl;
-      kept = record { core = recordOn c d .core; held = refl; follows = L .keeps M c d f };
-      same = ap (λ (w : ℕ × ℕ). w ∷ []) (L .alike M c d f);
+      fed = record { long = refl; kept = record { core = recordOn c d .core; held = refl; follows = L .keeps M c d f }; same = ap (λ (w : ℕ × ℕ). w ∷ []) (L .alike M c d f) };
       nodes = record-nodes c d;
       beyond = record-beyond (L .carried M c f) d;
     }
@@ -247,9 +250,11 @@ module _ (S : Specification) (Follows : Machine → Core → Type 0) (L : Laws S
         let R = runs-on ds M c as′ 0 f (omega (arith, room)) in
         let v = sym (records-from (r .answers) 0 ds) in
         record {
-          long = length-free (recordsIn (exchangesFrom (r .answers) 0 ds)) c;
-          kept = record { core = r .core; held = refl; follows = subst (λ z. Follows (machineBy S M z (freeAfter c z)) (r .core)) v (R .follows) };
-          same = R .same ∙ ap (λ z. answersBy S M z (freeAfter c z)) v;
+          fed = record {
+            long = length-free (recordsIn (exchangesFrom (r .answers) 0 ds)) c;
+            kept = record { core = r .core; held = refl; follows = subst (λ z. Follows (machineBy S M z (freeAfter c z)) (r .core)) v (R .follows) };
+            same = R .same ∙ ap (λ z. answersBy S M z (freeAfter c z)) v;
+          };
           nodes = R .nodes;
           beyond = R .beyond;
         }
@@ -275,25 +280,3 @@ module _ (S : Specification) (Follows : Machine → Core → Type 0) (L : Laws S
       subst (λ q. Ran S Follows M q (afterCall q k) (exchangesOf q k) (freeAfter (coreIn q) (recordsIn (exchangesOf q k)))) (sym (K .held))
       (subst (λ b. Ran S Follows M (stateAndPool c) (afterCall (stateAndPool c) k) (exchangesOf (stateAndPool c) k) (freeAfter b (recordsIn (exchangesOf (stateAndPool c) k)))) (sym (core-counted (L .carried M c (K .follows))))
       (call-at M c (K .follows) k))
-
-  pub calls-follow : (cs : List HostCall) (M : Machine) (h : StateAndPool) → KeptBy Follows h M → Ran S Follows M h (afterCalls h cs) (exchanges h cs) (freeCounts h cs)
-  calls-follow [] M h K = record { long = refl; kept = K; same = refl; nodes = refl; beyond = (refl, refl) }
-  calls-follow (k ∷ cs) M h K =
-      let A = call-follows M h k K in
-      let ks = freeAfter (coreIn h) (recordsIn (exchangesOf h k)) in
-      ran-then M h (afterCall h k) (afterCalls (afterCall h k) cs) (exchangesOf h k) (exchanges (afterCall h k) cs) ks (freeCounts (afterCall h k) cs) A
-      (calls-follow cs (machineBy S M (recordsIn (exchangesOf h k)) ks) (afterCall h k) (A .kept))
-
-  pub answers-by : (M : Machine) (h : StateAndPool) (calls : List HostCall) → KeptBy Follows h M → Answers S M h calls
-  answers-by M h calls K =
-      let R = calls-follow calls M h K in
-      let E = R .kept in
-      let C = L .carried _ (E .core) (E .follows) in
-      let s = is-sound C in
-      record {
-        same-answers = R .same;
-        same-free = ap (λ (q : StateAndPool). chainFree (q .state) (q .pool)) (E .held) ∙ s .1 ∙ C .same-free;
-        still-sound = ap (λ (q : StateAndPool). isSound (q .state) (q .pool)) (E .held) ∙ s .0;
-        same-length = R .beyond .0;
-        beyond = R .beyond .1;
-      }

@@ -3,9 +3,10 @@
 use mathlib.Core.Path.{_≡_, refl, sym, ap, _∙_, subst}
 use mathlib.Core.Bool.{Bool, true, cond}
 use mathlib.Core.Logic.{inl, inr}
-use mathlib.Core.List.{List, [], _∷_}
-use Prim.Native.Nat.{ℕ}
+use mathlib.Core.List.{List, [], _∷_, _++_}
+use Prim.Native.Nat.{ℕ, _*_, _≤_}
 use native.Mathlib.Omega.{arith}
+use lib.ListN.{length, take, drop}
 use lib.Dec.{eqb}
 use borrow.Author.Tests.{eqb-true, eqb-false}
 use Rattle.words.specs.Tests.{decided}
@@ -18,13 +19,17 @@ use Rattle.model.specs.Steps.{step, answer}
 use Rattle.semantics.specs.declared.Refusal.{Refusal}
 use Rattle.semantics.specs.Answers.{answerWords}
 use Rattle.semantics.specs.Core.{Core, StepResult, judged, spawnOn, returnOn, stealOn, syncOn, readOn, writeOn, stepOn, testsOf, doneBy}
-use Rattle.semantics.specs.Entries.{fits, numbersOf, isSound, recordOn}
-use Rattle.semantics.specs.Calls.{HostCall, StateAndPool, coreIn}
-use Rattle.semantics.specs.Demands.{plainAfter, withFree, fromSound, plainOf, SoundRun}
+use Rattle.semantics.specs.Entries.{State, fits, numbersOf, stateOf, isSound, recordOn}
+use Rattle.semantics.specs.Images.{LoadResult, savedImage, stateIn, poolWith}
+use Rattle.semantics.specs.Calls.{HostCall, StateAndPool, afterCall, coreIn, saveResult, Call, begun, runOf}
+use Rattle.semantics.specs.Demands.{plainAfter, withFree, fromSound, plainOf, SoundRun, StateWords, AllCallWords, writtenImage, ReadsBack}
 use Rattle.semantics.specs.Theory.Refusals.{number-range}
 use Rattle.semantics.specs.Theory.SoundSteps.{Carried, is-sound, sound-carried, rebased, simulated, step-carried}
-use Rattle.semantics.specs.Theory.Fitting.{true-fits, state-back}
-use Rattle.semantics.specs.Theory.Runs.{freeLeft, Laws, answers-by}
+use Rattle.semantics.specs.Theory.Elsewhere.{carried-elsewhere}
+use Rattle.semantics.specs.Theory.Fitting.{fits-true, true-fits, state-back}
+use Rattle.semantics.specs.Theory.Runs.{freeLeft, Laws, KeptBy, core-fits, call-follows}
+use Rattle.semantics.specs.Theory.Images.{sound-room, save-taken, accepted-save, LoadTaken, SaysCore, saved-says, load-takes, pool-with, front-same, loaded-state, loaded-front, loaded-beyond}
+use Rattle.semantics.specs.Theory.WholeRuns.{kept-begun, kept-calls, fed-sound, answers-by}
 
 -- ---- a write's answer is the engine's own number of free nodes
 
@@ -65,7 +70,7 @@ module _ (M : Machine) (c : Core) (st : Step) (K : Carried M c) where
   ]
 
 laws : Laws fromSound Carried
-laws = record { carried = λ M c K. K; keeps = keeps; alike = alike }
+laws = record { carried = λ M c K. K; keeps = keeps; alike = alike; elsewhere = carried-elsewhere }
   where
     keeps : (M : Machine) (c : Core) (d : Decoded) → Carried M c → Carried (withFree (plainAfter M d) (freeLeft c d)) (recordOn c d .core)
     keeps M c (Valid st) K = subst (λ (k : ℕ). Carried (withFree (step M st) k) (stepOn c st .core)) (own-left M c st K) (step-carried M c st K)
@@ -77,13 +82,73 @@ laws = record { carried = λ M c K. K; keeps = keeps; alike = alike }
 
 -- ---- every list of calls from a sound state
 
-pub sound-run : (h : StateAndPool) (calls : List HostCall) → fits (h .state) ≡ true → isSound (h .state) (h .pool) ≡ true → SoundRun h calls
-sound-run h calls fit e =
+-- the machine of a sound state follows it
+follows-sound : (h : StateAndPool) → fits (h .state) ≡ true → isSound (h .state) (h .pool) ≡ true → KeptBy Carried h (plainOf h)
+follows-sound h fit e =
     let s = h .state in
     let L = true-fits s fit in
-    answers-by fromSound Carried laws (plainOf h) h calls
-    (record {
+    record {
       core = coreIn h;
       held = ap (λ z. record { state = z; pool = h .pool }) (sym (state-back s (h .pool) (coreIn h .head .«free_count») L));
       follows = sound-carried (numbersOf s) (s .deques) (s .frames) (h .pool) (L .deques) (L .frames) e;
-    })
+    }
+
+pub sound-run : (h : StateAndPool) (calls : List Call) → fits (h .state) ≡ true → isSound (h .state) (h .pool) ≡ true → StateWords (h .state) (h .pool) → AllCallWords calls → SoundRun h calls
+sound-run h calls fit e words all-words =
+    let N = numbersOf (h .state) .nodes in
+    answers-by fromSound Carried laws (plainOf h) N (runOf (begun h) calls) (kept-calls fromSound Carried laws (plainOf h) N calls (begun h) all-words (kept-begun fromSound Carried laws (plainOf h) N h (follows-sound h fit e) words refl))
+
+-- a step or a tape keeps soundness, whatever it hands in
+pub sound-call : (h : StateAndPool) (k : HostCall) → fits (h .state) ≡ true → isSound (h .state) (h .pool) ≡ true → isSound (afterCall h k .state) (afterCall h k .pool) ≡ true
+sound-call h k fit e = fed-sound fromSound Carried laws (plainOf h) (numbersOf (h .state) .nodes) (call-follows fromSound Carried laws (plainOf h) h k (follows-sound h fit e) .fed)
+
+-- ---- a saved state reads back
+
+-- in a pool with the same nodes a sound state is sound
+module _ (h : StateAndPool) (fit : fits (h .state) ≡ true) (e : isSound (h .state) (h .pool) ≡ true) (words : StateWords (h .state) (h .pool)) (s : State) (ws work : List ℕ)
+    (parts-fit : fits s ≡ true) (held : 4 * numbersOf (h .state) .nodes ≤ length ws) (long : numbersOf (h .state) .nodes ≤ length work) where
+  c : Core
+  c = coreIn h
+
+  same : stateOf c ≡ h .state
+  unfolding c
+  same = state-back (h .state) (h .pool) (coreIn h .head .«free_count») (true-fits (h .state) fit)
+
+  carries : Carried (plainOf h) c
+  unfolding c follows-sound
+  carries = follows-sound h fit e .follows
+
+  room : 4 * c .head .numbers .nodes ≤ length (c .pool)
+  unfolding c
+  room = sound-room (h .state) (h .pool) e
+
+  says : SaysCore (savedImage (h .state) (h .pool)) c
+  unfolding c
+  says = subst (λ (t : State). SaysCore (savedImage t (h .pool)) (coreIn h)) same (saved-says (coreIn h) (subst (λ (t : State). StateWords t (h .pool)) (sym same) words) (core-fits carries) room)
+
+  sound-there : isSound (stateIn (savedImage (h .state) (h .pool))) (poolWith ws (savedImage (h .state) (h .pool))) ≡ true
+  unfolding c
+  sound-there =
+      let ws′ = take (4 * numbersOf (h .state) .nodes) (h .pool) ++ drop (4 * numbersOf (h .state) .nodes) ws in
+      (λ i. isSound (record { numbers = says .numbers i; deques = says .deques i; frames = says .frames i }) (pool-with (savedImage (h .state) (h .pool)) c says room ws held i))
+      ∙ is-sound (carried-elsewhere (plainOf h) (coreIn h) ws′ carries (front-same (numbersOf (h .state) .nodes) (h .pool) ws room held)) .0
+
+  taken : LoadTaken s ws work (savedImage (h .state) (h .pool))
+  unfolding c
+  taken = load-takes (savedImage (h .state) (h .pool)) c says s ws work parts-fit long sound-there
+
+  there : ReadsBack h (savedImage (h .state) (h .pool)) s ws work
+  unfolding c
+  there = record {
+    accepted = ap (λ (o : LoadResult). o .result) (taken .is);
+    state = loaded-state (savedImage (h .state) (h .pool)) c says room s ws work taken ∙ same;
+    nodes = loaded-front (savedImage (h .state) (h .pool)) c says room s ws work taken;
+    same-length = loaded-beyond (savedImage (h .state) (h .pool)) c says room s ws work taken .0;
+    beyond = loaded-beyond (savedImage (h .state) (h .pool)) c says room s ws work taken .1;
+  }
+
+pub reads-back : (h : StateAndPool) (work₀ target : List ℕ) → saveResult h work₀ target .result ≡ 0 → StateWords (h .state) (h .pool) → (s : State) (ws work : List ℕ) → fits s ≡ true
+    → 4 * numbersOf (h .state) .nodes ≤ length ws → numbersOf (h .state) .nodes ≤ length work → ReadsBack h (writtenImage h work₀ target) s ws work
+reads-back h work₀ target z words s ws work f held long =
+    let T = save-taken h work₀ target z in
+    subst (λ (b : List ℕ). ReadsBack h b s ws work) (sym (accepted-save h work₀ target z .image)) (there h (fits-true (h .state) (T .parts)) (T .still) words s ws work f held long)

@@ -3,12 +3,13 @@ use mathlib.Core.Path.{_≡_, refl, sym, ap, ap₂, _∙_, subst}
 use mathlib.Core.Bool.{true}
 use mathlib.Core.Logic.{_↔_}
 use mathlib.Core.List.{List·Memᴰ as In}
-use mathlib.Core.List.{List, [], _∷_, _++_, map}
+use mathlib.Core.List.{List, [], _∷_, _++_, map, append-nil, append-assoc}
 use Prim.Native.Nat.{ℕ, suc, _≤_}
 use native.Mathlib.Omega.{arith}
 use lib.ListN.{length}
 use lib.Dec.{leb}
 use borrow.Author.Tests.{le-leb}
+use Rattle.pool.specs.Theory.Elsewhere.{SameNodes}
 use Rattle.pool.specs.Theory.Good.{good-free}
 use Rattle.pool.specs.Theory.InUse.{historiesOf}
 use Rattle.model.specs.declared.Step.{Step}
@@ -29,9 +30,9 @@ use Rattle.model.specs.Theory.MainEnds.{returned-ends}
 use Rattle.model.specs.Theory.Demand3Proof.{demand3 as plain-demand3}
 use Rattle.semantics.specs.Answers.{answerWords}
 use Rattle.semantics.specs.Core.{Core, stepOn}
-use Rattle.semantics.specs.Entries.{State, StartResult, fits, recordOn, wholeNodes}
-use Rattle.semantics.specs.Calls.{Start, startResult, HostCall, outside, StateAndPool, afterStart, afterCall, afterCalls, Exchange, exchangesOf, exchanges, recordsIn, answersIn, freeAfter, coreIn, freeCounts}
-use Rattle.semantics.specs.Demands.{plainAfter, plainAnswer, fromStart, answersBy, machineBy, plainStart, Demand2, traceOf, MainReturned, callOf, oneByOne, oneWorkerCalls, aloneStart, allAccepted, AllFree, Demand3}
+use Rattle.semantics.specs.Entries.{State, StartResult, fits, isSound, numbersOf, recordOn, wholeNodes}
+use Rattle.semantics.specs.Calls.{Start, startResult, HostCall, outside, StateAndPool, afterStart, afterCall, Exchange, exchangesOf, recordsIn, answersIn, freeAfter, coreIn, Run, Call, call, begun, runAfter, runOf}
+use Rattle.semantics.specs.Demands.{plainAfter, plainAnswer, fromStart, answersBy, machineBy, plainStart, runFrom, Demand2, StartWords, AllCallWords, traceOf, MainReturned, callOf, oneByOne, oneWorkerCalls, aloneStart, allAccepted, AllFree, Demand3}
 use Rattle.semantics.specs.Promises.{Fits}
 use Rattle.semantics.specs.Theory.Relation.{TreeLaws, Relates, rootsOf}
 use Rattle.semantics.specs.Theory.Pools.{LiveTrees, GoodTrees, good-laws}
@@ -40,9 +41,12 @@ use Rattle.semantics.specs.Theory.Simulation.{simulates, numbers-kept}
 use Rattle.semantics.specs.Theory.ToSound.{good-relates, all-free}
 use Rattle.semantics.specs.Theory.Fitting.{true-fits}
 use Rattle.semantics.specs.Theory.SoundSteps.{Carried}
+use Rattle.semantics.specs.Theory.Elsewhere.{withPool, good-trees, relates-elsewhere}
 use Rattle.semantics.specs.Theory.Starts.{Fit, fit-started, started-fit}
 use Rattle.semantics.specs.Theory.StartRelates.{firstCore, start-relates}
-use Rattle.semantics.specs.Theory.Runs.{Laws, KeptBy, Ran, outside-long, call-follows, calls-follow, answers-by}
+use Rattle.semantics.specs.Theory.Runs.{Laws, KeptBy, Fed, outside-long, call-follows}
+use Rattle.semantics.specs.Theory.AllWords.{started-words}
+use Rattle.semantics.specs.Theory.WholeRuns.{RunKept, kept-begun, kept-calls, fed-calls, fed-sound, answers-by}
 use Rattle.semantics.specs.Theory.ValidRecords.{valids, trace-same, machine-plain, returned-plain, valids-valid, answers-plain, all-accepted}
 
 -- the core is that of a run from a start which the plain machine M has followed
@@ -86,8 +90,16 @@ keeps-and-alike M c st F =
     } in
     (F′, S .answers .both (same-free (step M st) (stepOn c st .core) F′))
 
+-- the same nodes in another pool
+pub follows-elsewhere : (M : Machine) (c : Core) (ws' : List ℕ) → Follows M c → SameNodes (c .head .numbers .nodes) (c .pool) ws' → Follows M (withPool c ws')
+follows-elsewhere M c ws' F S = record {
+  related = relates-elsewhere ws' (good-trees (M .nodes) (M .splitters) (omega (arith, F .nodes, F .related .numbers .nodes-le))) (F .related) (subst (λ N. SameNodes N (c .pool) ws') (F .nodes) S);
+  inv = F .inv;
+  nodes = F .nodes;
+}
+
 laws : Laws fromStart Follows
-laws = record { carried = carried; keeps = keeps; alike = alike }
+laws = record { carried = carried; keeps = keeps; alike = alike; elsewhere = follows-elsewhere }
   where
     keeps : (M : Machine) (c : Core) (d : Decoded) → Follows M c → Follows (plainAfter M d) (recordOn c d .core)
     keeps M c (Valid st) F = keeps-and-alike M c st F .0
@@ -106,10 +118,23 @@ begins b L F = record {
 
 -- ---- demand 2, for every accepted start and every list of calls
 
-pub demand2 : (b : Start) (calls : List HostCall) → startResult b .result ≡ 0 → Demand2 b calls
-demand2 b calls e =
+-- the run from an accepted start
+run-kept : (b : Start) (calls : List Call) → startResult b .result ≡ 0 → StartWords b → AllCallWords calls → RunKept fromStart Follows laws (plainStart b) (wholeNodes (b .pool)) (runFrom b calls)
+run-kept b calls e w all-words =
     let A = started-fit (b .parts) (b .workers) (b .values) (b .pool) e in
-    answers-by fromStart Follows laws (plainStart b) (afterStart b) calls (begins b (A .lengths) (A .fit))
+    let K = begins b (A .lengths) (A .fit) in
+    let N = wholeNodes (b .pool) in
+    kept-calls fromStart Follows laws (plainStart b) N calls (begun (afterStart b)) all-words
+    (kept-begun fromStart Follows laws (plainStart b) N (afterStart b) K (started-words b e (w .0) (w .1)) (ap (λ (g : StateAndPool). numbersOf (g .state) .nodes) (K .held) ∙ K .follows .nodes))
+
+pub demand2 : (b : Start) (calls : List Call) → startResult b .result ≡ 0 → StartWords b → AllCallWords calls → Demand2 b calls
+demand2 b calls e w all-words = answers-by fromStart Follows laws (plainStart b) (wholeNodes (b .pool)) (runFrom b calls) (run-kept b calls e w all-words)
+
+-- after steps and tapes alone, whatever they hand in
+pub plain-sound : (b : Start) (ks : List HostCall) → startResult b .result ≡ 0 → isSound (runFrom b (map call ks) .now .state) (runFrom b (map call ks) .now .pool) ≡ true
+plain-sound b ks e =
+    let A = started-fit (b .parts) (b .workers) (b .values) (b .pool) e in
+    fed-sound fromStart Follows laws (plainStart b) (wholeNodes (b .pool)) (fed-calls fromStart Follows laws (plainStart b) (wholeNodes (b .pool)) ks (begun (afterStart b)) (record { long = refl; kept = begins b (A .lengths) (A .fit); same = refl }))
 
 -- ---- demand 3
 
@@ -141,18 +166,24 @@ fed-one M h s work K long =
     ∙ ap (λ (p : StateAndPool × List Exchange). recordsIn (p .1)) (outside-long (carried M c (K .follows)) (q .kind) (q .worker) (q .field) (q .value) work room)
     ∙ ap (λ (d : Decoded). d ∷ []) (q .decoded)
 
-all-fed : (works : ℕ → List ℕ) (ss : List Step) (M : Machine) (h : StateAndPool) (i : ℕ) → KeptBy Follows h M → ((j : ℕ) → M .nodes ≤ length (works j)) → recordsIn (exchanges h (oneByOne works i ss)) ≡ map Valid ss
-all-fed works [] M h i K long = refl
-all-fed works (s ∷ ss) M h i K long =
+-- a run with these steps has fed them after what it had
+all-fed : (works : ℕ → List ℕ) (ss : List Step) (M : Machine) (r : Run) (i : ℕ) → KeptBy Follows (r .now) M → ((j : ℕ) → M .nodes ≤ length (works j))
+    → recordsIn (runOf r (map call (oneByOne works i ss)) .past .exchanges) ≡ recordsIn (r .past .exchanges) ++ map Valid ss
+all-fed works [] M r i K long = sym (append-nil (recordsIn (r .past .exchanges)))
+all-fed works (s ∷ ss) M r i K long =
+    let h = r .now in
     let k = callOf s (works i) in
     let e = fed-one M h s (works i) K (long i) in
     let A = call-follows fromStart Follows laws M h k K in
-    let K₁ : KeptBy Follows (afterCall h k) (step M s) = subst (λ z. KeptBy Follows (afterCall h k) (machineBy fromStart M z (freeAfter (coreIn h) z))) e (A .kept) in
-    map-append (λ (t : Exchange). t .0) (exchangesOf h k) (exchanges (afterCall h k) (oneByOne works (suc i) ss))
-    ∙ ap₂ _++_ e (all-fed works ss (step M s) (afterCall h k) (suc i) K₁ (λ j. subst (λ q. q ≤ length (works j)) (sym (sizes-step M s .nodes)) (long j)))
+    let K₁ : KeptBy Follows (afterCall h k) (step M s) = subst (λ z. KeptBy Follows (afterCall h k) (machineBy fromStart M z (freeAfter (coreIn h) z))) e (A .fed .kept) in
+    let done : recordsIn (r .past .exchanges ++ exchangesOf h k) ≡ recordsIn (r .past .exchanges) ++ (Valid s ∷ []) =
+    map-append (λ (t : Exchange). t .0) (r .past .exchanges) (exchangesOf h k) ∙ ap (λ z. recordsIn (r .past .exchanges) ++ z) e in
+    all-fed works ss (step M s) (runAfter r (call k)) (suc i) K₁ (λ j. subst (λ q. q ≤ length (works j)) (sym (sizes-step M s .nodes)) (long j))
+    ∙ ap (λ z. z ++ map Valid ss) done
+    ∙ append-assoc (recordsIn (r .past .exchanges)) (Valid s ∷ []) (map Valid ss)
 
-module _ (b : Start) (calls : List HostCall) (parts : State) (ws : List ℕ) (works : ℕ → List ℕ)
-    (taken : startResult b .result ≡ 0) (returned : MainReturned b calls) (parts-fit : fits parts ≡ true)
+module _ (b : Start) (calls : List Call) (parts : State) (ws : List ℕ) (works : ℕ → List ℕ)
+    (taken : startResult b .result ≡ 0) (words : StartWords b) (all-words : AllCallWords calls) (returned : MainReturned b calls) (parts-fit : fits parts ≡ true)
     (as-many : wholeNodes ws ≡ wholeNodes (b .pool)) (long : (j : ℕ) → wholeNodes (b .pool) ≤ length (works j)) where
   N : ℕ
   N = wholeNodes (b .pool)
@@ -160,7 +191,7 @@ module _ (b : Start) (calls : List HostCall) (parts : State) (ws : List ℕ) (wo
   b₁ : Start
   b₁ = aloneStart b parts ws
 
-  calls₁ : List HostCall
+  calls₁ : List Call
   calls₁ = oneWorkerCalls b calls works
 
   -- the two runs
@@ -176,19 +207,20 @@ module _ (b : Start) (calls : List HostCall) (parts : State) (ws : List ℕ) (wo
   unfolding b₁
   K₁ = begins (aloneStart b parts ws) (true-fits parts parts-fit) fit₁
 
-  R : Ran fromStart Follows (plainStart b) (afterStart b) (afterCalls (afterStart b) calls) (exchanges (afterStart b) calls) (freeCounts (afterStart b) calls)
-  R = calls-follow fromStart Follows laws calls (plainStart b) (afterStart b) K
+  R : RunKept fromStart Follows laws (plainStart b) (wholeNodes (b .pool)) (runFrom b calls)
+  R = run-kept b calls taken words all-words
 
-  R₁ : Ran fromStart Follows (plainStart b₁) (afterStart b₁) (afterCalls (afterStart b₁) calls₁) (exchanges (afterStart b₁) calls₁) (freeCounts (afterStart b₁) calls₁)
-  R₁ = calls-follow fromStart Follows laws calls₁ (plainStart b₁) (afterStart b₁) K₁
+  R₁ : Fed fromStart Follows (plainStart b₁) (runFrom b₁ calls₁ .now) (runFrom b₁ calls₁ .past .exchanges) (runFrom b₁ calls₁ .past .free)
+  unfolding calls₁
+  R₁ = fed-calls fromStart Follows laws (plainStart b₁) (wholeNodes (b₁ .pool)) (oneByOne works 0 (oneWorkerSteps (traceOf b calls))) (begun (afterStart b₁)) (record { long = refl; kept = K₁; same = refl })
 
   -- on the plain machine
   ss : List Step
-  ss = valids (recordsIn (exchanges (afterStart b) calls))
+  ss = valids (recordsIn (runFrom b calls .past .exchanges))
 
   plain-returned : Returned (plainStart b) ss
   unfolding ss
-  plain-returned = returned-plain (recordsIn (exchanges (afterStart b) calls)) (freeCounts (afterStart b) calls) (plainStart b) (R .long) (subst (λ z. In (102, 3) z) (R .same) returned)
+  plain-returned = returned-plain (recordsIn (runFrom b calls .past .exchanges)) (runFrom b calls .past .free) (plainStart b) (R .long) (subst (λ z. In (102, 3) z) (R .same) returned)
 
   D : PlainDemand3 (b .workers) (b .values) N ss
   unfolding N
@@ -196,7 +228,7 @@ module _ (b : Start) (calls : List HostCall) (parts : State) (ws : List ℕ) (wo
 
   trace-is : traceOf b calls ≡ plainTrace (b .workers) (b .values) N ss
   unfolding ss N
-  trace-is = trace-same (plainStart b) (exchanges (afterStart b) calls) (freeCounts (afterStart b) calls) (R .long) (R .same)
+  trace-is = trace-same (plainStart b) (runFrom b calls .past .exchanges) (runFrom b calls .past .free) (R .long) (R .same)
 
   -- the one-worker run
   ones : List Step
@@ -210,33 +242,33 @@ module _ (b : Start) (calls : List HostCall) (parts : State) (ws : List ℕ) (wo
   unfolding N b₁
   start-is = ap (start 1 (b .values)) as-many
 
-  fed : recordsIn (exchanges (afterStart b₁) calls₁) ≡ map Valid ones
+  fed : recordsIn (runFrom b₁ calls₁ .past .exchanges) ≡ map Valid ones
   unfolding ones calls₁ b₁
-  fed = all-fed works (oneWorkerSteps (traceOf b calls)) (plainStart b₁) (afterStart b₁) 0 K₁ (λ j. subst (λ q. q ≤ length (works j)) (sym as-many) (long j))
+  fed = all-fed works (oneWorkerSteps (traceOf b calls)) (plainStart b₁) (begun (afterStart b₁)) 0 K₁ (λ j. subst (λ q. q ≤ length (works j)) (sym as-many) (long j))
 
-  steps₁-are : valids (recordsIn (exchanges (afterStart b₁) calls₁)) ≡ oneWorkerOf (b .workers) (b .values) N ss
+  steps₁-are : valids (recordsIn (runFrom b₁ calls₁ .past .exchanges)) ≡ oneWorkerOf (b .workers) (b .values) N ss
   steps₁-are = ap valids fed ∙ valids-valid ones ∙ ones-are
 
   trace₁-is : traceOf b₁ calls₁ ≡ plainTrace 1 (b .values) N (oneWorkerOf (b .workers) (b .values) N ss)
-  trace₁-is = trace-same (plainStart b₁) (exchanges (afterStart b₁) calls₁) (freeCounts (afterStart b₁) calls₁) (R₁ .long) (R₁ .same) ∙ ap₂ trace start-is steps₁-are
+  trace₁-is = trace-same (plainStart b₁) (runFrom b₁ calls₁ .past .exchanges) (runFrom b₁ calls₁ .past .free) (R₁ .long) (R₁ .same) ∙ ap₂ trace start-is steps₁-are
 
-  answers₁-are : answersIn (exchanges (afterStart b₁) calls₁) ≡ answers (start 1 (b .values) N) (oneWorkerOf (b .workers) (b .values) N ss)
+  answers₁-are : answersIn (runFrom b₁ calls₁ .past .exchanges) ≡ answers (start 1 (b .values) N) (oneWorkerOf (b .workers) (b .values) N ss)
   answers₁-are =
-      let ks = freeCounts (afterStart b₁) calls₁ in
+      let ks = runFrom b₁ calls₁ .past .free in
       R₁ .same ∙ ap (λ z. answersBy fromStart (plainStart b₁) z ks) fed ∙ answers-plain ones ks (plainStart b₁) (R₁ .long ∙ ap length fed) ∙ ap₂ answers start-is ones-are
 
   free-at-end : (h : StateAndPool) (M : Machine) → KeptBy Follows h M → live M ≡ [] → AllFree h
   free-at-end h M E e = subst AllFree (sym (E .held)) (all-free M (E .core) (carried M (E .core) (E .follows) .related) e)
 
-  over : live (machineBy fromStart (plainStart b) (recordsIn (exchanges (afterStart b) calls)) (freeCounts (afterStart b) calls)) ≡ []
+  over : live (machineBy fromStart (plainStart b) (recordsIn (runFrom b calls .past .exchanges)) (runFrom b calls .past .free)) ≡ []
   unfolding ss
   over =
-      ap live (machine-plain (recordsIn (exchanges (afterStart b) calls)) (freeCounts (afterStart b) calls) (plainStart b) (R .long))
+      ap live (machine-plain (recordsIn (runFrom b calls .past .exchanges)) (runFrom b calls .past .free) (plainStart b) (R .long))
       ∙ returned-ends (plainStart b) ss (tree-start (b .workers) (b .values) (wholeNodes (b .pool))) plain-returned
 
-  over₁ : live (machineBy fromStart (plainStart b₁) (recordsIn (exchanges (afterStart b₁) calls₁)) (freeCounts (afterStart b₁) calls₁)) ≡ []
+  over₁ : live (machineBy fromStart (plainStart b₁) (recordsIn (runFrom b₁ calls₁ .past .exchanges)) (runFrom b₁ calls₁ .past .free)) ≡ []
   over₁ =
-      ap live (machine-plain (recordsIn (exchanges (afterStart b₁) calls₁)) (freeCounts (afterStart b₁) calls₁) (plainStart b₁) (R₁ .long))
+      ap live (machine-plain (recordsIn (runFrom b₁ calls₁ .past .exchanges)) (runFrom b₁ calls₁ .past .free) (plainStart b₁) (R₁ .long))
       ∙ ap₂ (λ M z. live (run M z)) start-is steps₁-are
       ∙ returned-ends (start 1 (b .values) N) (oneWorkerOf (b .workers) (b .values) N ss) (tree-start 1 (b .values) N) (D .returns)
 
@@ -249,6 +281,6 @@ module _ (b : Start) (calls : List HostCall) (parts : State) (ws : List ℕ) (wo
     same-frames = λ p. subst (λ z. IsFrame z p ↔ IsFrame (traceOf b calls) p) (sym trace₁-is) (subst (λ z. IsFrame (plainTrace 1 (b .values) N (oneWorkerOf (b .workers) (b .values) N ss)) p ↔ IsFrame z p) (sym trace-is) (D .same-frames p));
     same-steps = λ p. ap (stepsOf p) trace₁-is ∙ D .same-steps p ∙ ap (stepsOf p) (sym trace-is);
     same-reads = λ p. ap (readsOf p) trace₁-is ∙ D .same-reads p ∙ ap (readsOf p) (sym trace-is);
-    all-free = free-at-end (afterCalls (afterStart b) calls) _ (R .kept) over;
-    all-free-alone = free-at-end (afterCalls (afterStart b₁) calls₁) _ (R₁ .kept) over₁;
+    all-free = λ e. free-at-end (runFrom b calls .now) _ (R .standing e .0 .fed .kept) over;
+    all-free-alone = free-at-end (runFrom b₁ calls₁ .now) _ (R₁ .kept) over₁;
   }

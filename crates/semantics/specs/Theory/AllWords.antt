@@ -1,0 +1,204 @@
+-- If what a host hands in are words, then all that the engine leaves are words: every entry keeps a state and a pool of words.
+use mathlib.Core.Path.{_≡_, sym, subst}
+use mathlib.Core.Bool.{Bool, true, false, cond, _&&_}
+use mathlib.Core.Logic.{inl, inr}
+use mathlib.Core.List.{List, [], _∷_}
+use Prim.Native.Nat.{ℕ, zero, suc, _+_, _/_, _≤_, _<_}
+use native.Mathlib.Omega.{arith}
+use lib.ListN.{length, getD}
+use lib.Dec.{eqb, ltb}
+use Rattle.words.specs.Tests.{decided}
+use Rattle.words.specs.Below.{Words, Bytes, words-set}
+use Rattle.pool.specs.Theory.Words.{words-retain, words-release, words-write, words-initPool}
+use Rattle.frames.specs.Widths.{frameWords, dequeWords}
+use Rattle.frames.specs.Frames.{withRoot}
+use Rattle.frames.specs.Deques.{bottom}
+use Rattle.frames.specs.Theory.Words.{words-setFrame, words-root, TableWords, words-acting, words-spawn, words-return, words-steal, words-sync, words-initFrames, words-initDeques}
+use Rattle.soundness.specs.declared.Numbers.{Numbers}
+use Rattle.soundness.specs.declared.Checked.{Checked}
+use Rattle.soundness.specs.declared.Checked.the-variants.{NoRoom, Sound}
+use Rattle.soundness.specs.Numbers.{numberWords, setFreePlace}
+use Rattle.model.specs.declared.Step.{Step}
+use Rattle.model.specs.declared.Step.the-variants.{Spawn, Return, Steal, Sync, Read, Write}
+use Rattle.model.specs.declared.Decoded.{Decoded}
+use Rattle.model.specs.declared.Decoded.the-variants.{Valid, Invalid}
+use Rattle.model.specs.Record.{little, validIf, recordOf, decodeAt}
+use Rattle.semantics.specs.declared.Refusal.{Refusal}
+use Rattle.semantics.specs.Core.{Core, StepResult, tableOf, actingIn, judged, spawnOn, returnOn, stealOn, syncOn, readOn, writeOn, testsOf, doneBy, stepOn}
+use Rattle.semantics.specs.Entries.{State, fits, coreOf, stateOf, checkedState, wholeNodes, startAccepted, StartResult, recordOn, outsideChecked, outsideWith, outsideOn, recordsFrom, recordsOf, recordsResult, runOn, unfitTape, tapeChecked, tapeWith, tapeOn}
+use Rattle.semantics.specs.Calls.{Start, afterStart, startResult, HostCall, outside, tape, StateAndPool, afterCall}
+use Rattle.semantics.specs.Demands.{StateWords, HostWords}
+use Rattle.semantics.specs.Theory.Starts.{started-fit}
+
+-- ---- words of a core, and of a state with a pool
+
+pub record CoreWords (c : Core) : Type 0 where
+  pub numbers : Words (numberWords (c .head .numbers))
+  pub deques : Words (c .deques)
+  pub frames : Words (c .frames)
+  pub pool : Words (c .pool)
+
+number-words : (s : Numbers) → s .workers < 4294967296 → s .splitters < 4294967296 → s .nodes < 4294967296 → s .«free_node» < 4294967296 → s .«free_place» < 4294967296 → Words (numberWords s)
+number-words s a b c d e zero = a
+number-words s a b c d e (suc zero) = b
+number-words s a b c d e (suc (suc zero)) = c
+number-words s a b c d e (suc (suc (suc zero))) = d
+number-words s a b c d e (suc (suc (suc (suc zero)))) = e
+number-words s a b c d e (suc (suc (suc (suc (suc i))))) = omega arith
+
+pub state-words : (c : Core) → CoreWords c → StateWords (stateOf c) (c .pool)
+state-words c C = record { numbers = C .numbers; deques = C .deques; frames = C .frames; pool = C .pool }
+
+pub core-words : (s : State) (ws : List ℕ) (k : ℕ) → StateWords s ws → CoreWords (coreOf s ws k)
+core-words s ws k S =
+    record { numbers = number-words _ (S .numbers 0) (S .numbers 1) (S .numbers 2) (S .numbers 3) (S .numbers 4); deques = S .deques; frames = S .frames; pool = S .pool }
+
+-- ---- a record: what it stores is a word
+
+abbrev pub RecordWords : Decoded → Type 0
+RecordWords (Valid (Spawn w)) = Unit {0}
+RecordWords (Valid (Return w)) = Unit {0}
+RecordWords (Valid (Steal w v)) = Unit {0}
+RecordWords (Valid (Sync w)) = Unit {0}
+RecordWords (Valid (Read w x)) = Unit {0}
+RecordWords (Valid (Write w x v)) = v < 4294967296
+RecordWords Invalid = Unit {0}
+
+-- each of these
+abbrev pub RecordsWords : List Decoded → Type 0
+RecordsWords [] = Unit {0}
+RecordsWords (d ∷ ds) = RecordWords d × RecordsWords ds
+
+either-words : (b : Bool) (d e : Decoded) → RecordWords d → RecordWords e → RecordWords (cond b d e)
+either-words true d e h k = h
+either-words false d e h k = k
+
+valid-words : (b : Bool) (st : Step) → RecordWords (Valid st) → RecordWords (validIf b st)
+valid-words true st h = h
+valid-words false st h = tt
+
+pub outside-words : (kind worker field value : ℕ) → value < 4294967296 → RecordWords (recordOf kind worker field value)
+unfolding recordOf
+outside-words kind worker field value h =
+    either-words (eqb kind 1) _ _ (valid-words (eqb field 0 && eqb value 0) (Spawn worker) tt)
+    (either-words (eqb kind 2) _ _ (valid-words (eqb field 0 && eqb value 0) (Return worker) tt)
+    (either-words (eqb kind 3) _ _ (valid-words (eqb value 0) (Steal worker field) tt)
+    (either-words (eqb kind 4) _ _ (valid-words (eqb field 0 && eqb value 0) (Sync worker) tt)
+    (either-words (eqb kind 5) _ _ (valid-words (eqb value 0) (Read worker field) tt)
+    (either-words (eqb kind 6) (Valid (Write worker field value)) Invalid h tt)))))
+
+decoded-words : (bytes : List ℕ) (at : ℕ) → Bytes bytes → RecordWords (decodeAt bytes at)
+unfolding decodeAt
+decoded-words bytes at h =
+    let value : ℕ = little (getD bytes (at + 4) 0 ∷ getD bytes (at + 5) 0 ∷ getD bytes (at + 6) 0 ∷ getD bytes (at + 7) 0 ∷ []) in
+    let v : value < 4294967296 = omega (arith, h (at + 4), h (at + 5), h (at + 6), h (at + 7)) in
+    either-words (ltb (length bytes) (at + 8)) Invalid _ tt (outside-words _ _ _ value v)
+
+pub tape-words-decoded : (k : ℕ) (bytes : List ℕ) (at : ℕ) → Bytes bytes → RecordsWords (recordsFrom k bytes at)
+unfolding recordsFrom
+tape-words-decoded zero bytes at h = tt
+tape-words-decoded (suc k) bytes at h = (decoded-words bytes at h, tape-words-decoded k bytes (at + 8) h)
+
+-- ---- a step
+
+module _ (c : Core) (C : CoreWords c) where
+  table-words : TableWords (tableOf c)
+  table-words = record { deques = C .deques; frames = C .frames; place = C .numbers 4 }
+
+  root-word : (w : ℕ) → actingIn c w .root < 4294967296
+  root-word w = words-acting (tableOf c) w table-words .root
+
+  done-words : (st : Step) → RecordWords (Valid st) → CoreWords (doneBy c st .core)
+  done-words (Spawn w) h =
+      let T = words-spawn (tableOf c) w table-words in
+      unfold spawnOn in
+      record { numbers = words-set (numberWords (c .head .numbers)) 4 _ (C .numbers) (T .place); deques = T .deques; frames = T .frames; pool = words-retain (c .pool) _ (C .pool) }
+  done-words (Return w) h =
+      let T = words-return (tableOf c) w table-words in
+      let P = words-release (c .head .height) (c .pool) (c .head .numbers .«free_node») (c .head .«free_count») (actingIn c w .root) (C .pool) (C .numbers 3) (root-word w) in
+      unfold returnOn in
+      record {
+        numbers = words-set (numberWords (setFreePlace (c .head .numbers) _)) 3 _ (words-set (numberWords (c .head .numbers)) 4 _ (C .numbers) (T .place)) (P .free);
+        deques = T .deques;
+        frames = T .frames;
+        pool = P .words;
+      }
+  done-words (Steal w v) h =
+      let T = words-steal (tableOf c) w v table-words in
+      unfold stealOn in
+      record { numbers = C .numbers; deques = T .deques; frames = C .frames; pool = C .pool }
+  done-words (Sync w) h =
+      let T = words-sync (tableOf c) w table-words in
+      unfold syncOn in
+      record { numbers = C .numbers; deques = T .deques; frames = T .frames; pool = C .pool }
+  done-words (Read w x) h = unfold readOn in C
+  done-words (Write w x v) h =
+      let P = words-write (c .head .height) (c .pool) (c .head .numbers .«free_node») (c .head .«free_count») (actingIn c w .root) x v (C .pool) (root-word w) h in
+      unfold writeOn in
+      record {
+        numbers = words-set (numberWords (c .head .numbers)) 3 _ (C .numbers) (P .free);
+        deques = C .deques;
+        frames = words-setFrame (c .frames) (bottom (c .deques) w) (withRoot (actingIn c w) (c .head .numbers .«free_node»)) (C .frames) (words-root (actingIn c w) (words-acting (tableOf c) w table-words) (c .head .numbers .«free_node») (C .numbers 3));
+        pool = P .words;
+      }
+
+  judged-words : (ts : List (Bool × Refusal)) (d : StepResult) → CoreWords (d .core) → CoreWords (judged ts c d .core)
+  judged-words [] d D = D
+  judged-words (t ∷ ts) d D = elim (decided (t .0)) [ inl e ↦ rw e C | inr e ↦ rw e (judged-words ts d D) ]
+
+  step-words : (st : Step) → RecordWords (Valid st) → CoreWords (stepOn c st .core)
+  unfolding stepOn
+  step-words st h = judged-words (testsOf c st) (doneBy c st) (done-words st h)
+
+pub record-words : (c : Core) (d : Decoded) → CoreWords c → RecordWords d → CoreWords (recordOn c d .core)
+record-words c (Valid st) C h = step-words c C st h
+record-words c Invalid C h = C
+
+pub run-words : (ds : List Decoded) (c : Core) (answers : List ℕ) (k : ℕ) → CoreWords c → RecordsWords ds → CoreWords (runOn (recordsResult c answers) k ds .core)
+unfolding runOn
+run-words [] c answers k C h = C
+run-words (d ∷ ds) c answers k C h = run-words ds (recordOn c d .core) _ (k + 2) (record-words c d C (h .0)) (h .1)
+
+-- ---- a start
+
+pub start-words : (workers : ℕ) (vs ws : List ℕ) → workers < 4294967296 → Words vs → Words ws → length vs ≤ 256 → wholeNodes ws ≤ 16384 → StateWords (startAccepted workers vs ws .state) (startAccepted workers vs ws .pool)
+start-words workers vs ws a h k l m =
+    let P = words-initPool ws (length vs) (wholeNodes ws) vs k h in
+    record { numbers = number-words _ a (omega arith) (omega arith) (P .1) (omega arith); deques = words-initDeques dequeWords; frames = words-initFrames frameWords; pool = P .0 }
+
+-- an accepted start, whatever the lent parts hold
+pub started-words : (b : Start) → startResult b .result ≡ 0 → Words (b .values) → Words (b .pool) → StateWords (afterStart b .state) (afterStart b .pool)
+started-words b e h k =
+    let A = started-fit (b .parts) (b .workers) (b .values) (b .pool) e in
+    subst (λ (o : StartResult). StateWords (o .state) (o .pool)) (sym (A .result)) (start-words (b .workers) (b .values) (b .pool) (omega (arith, A .fit .workers-le)) h k (A .fit .values-le) (A .fit .nodes-le))
+
+-- ---- calls
+
+module _ (s : State) (ws work : List ℕ) (S : StateWords s ws) where
+  outside-checked : (k : Checked) (d : Decoded) → RecordWords d → StateWords (outsideChecked k s ws work d .state) (outsideChecked k s ws work d .pool)
+  outside-checked NoRoom d h = S
+  outside-checked Checked.Unsound d h = S
+  outside-checked (Sound n) d h = state-words _ (record-words (coreOf s ws n) d (core-words s ws n S) h)
+
+  outside-kept : (d : Decoded) → RecordWords d → StateWords (outsideOn s ws work d .state) (outsideOn s ws work d .pool)
+  unfolding outsideOn outsideWith
+  outside-kept d h = elim (decided (fits s)) [ inl e ↦ rw e (outside-checked (checkedState s ws work) d h) | inr e ↦ rw e S ]
+
+  module _ (bytes answers : List ℕ) (h : Bytes bytes) where
+    tape-checked : (k : Checked) → StateWords (tapeChecked k s ws work bytes answers .state) (tapeChecked k s ws work bytes answers .pool)
+    tape-checked NoRoom = S
+    tape-checked Checked.Unsound = S
+    tape-checked (Sound n) = state-words _ (run-words (recordsOf bytes) (coreOf s ws n) answers 0 (core-words s ws n S) (tape-words-decoded (length bytes / 8) bytes 0 h))
+
+    tape-kept : StateWords (tapeOn s ws work bytes answers .state) (tapeOn s ws work bytes answers .pool)
+    unfolding tapeOn tapeWith
+    tape-kept =
+        elim (decided (fits s)) [
+          | inl e ↦ elim (decided (unfitTape bytes answers)) [ inl d ↦ rw (e, d) S | inr d ↦ rw (e, d) (tape-checked (checkedState s ws work)) ]
+          | inr e ↦ rw e S
+        ]
+
+-- refused or not
+pub call-words : (h : StateAndPool) (call : HostCall) → StateWords (h .state) (h .pool) → HostWords call → StateWords (afterCall h call .state) (afterCall h call .pool)
+call-words h (outside kind worker field value work) S p = outside-kept (h .state) (h .pool) work S (recordOf kind worker field value) (outside-words kind worker field value p)
+call-words h (tape bytes work answers) S p = tape-kept (h .state) (h .pool) work S bytes answers p

@@ -1,0 +1,392 @@
+-- Saves and readings: their ways out, and what an accepted reading of a saved image gives.
+use mathlib.Core.Path.{_≡_, refl, sym, ap, _∙_, subst}
+use mathlib.Core.Logic.{_≢_, _⊎_, inl, inr}
+use mathlib.Core.Bool.{Bool, true, false, cond}
+use mathlib.Core.List.{List, [], _∷_, _++_}
+use Prim.Native.Nat.{ℕ, _+_, _*_, _≤_, _<_}
+use native.Mathlib.Omega.{arith}
+use lib.ListN.{length, getD, take, drop, replicate, length-append, length-drop, List·getD-append}
+use lib.Seq.{take-at, drop-at, length-take-le, getD-take}
+use lib.Dec.{eqb, leb, ltb}
+use borrow.Author.Tests.{eqb-false, leb-true, le-leb, le-ltb, ltb-false}
+use Rattle.words.specs.Tests.{decided, both, true≢false}
+use Rattle.words.specs.Below.{Words, Bytes, below-take, below-drop, below-append}
+use Rattle.soundness.specs.declared.Checked.{Checked}
+use Rattle.soundness.specs.declared.Checked.the-variants.{NoRoom, Sound}
+use Rattle.soundness.specs.Soundness.{numbersSound, sound, checked, cleared}
+use Rattle.soundness.specs.Theory.Sentences.{numbers-facts}
+use Rattle.image.specs.declared.ImageCheck.{ImageCheck}
+use Rattle.image.specs.declared.ImageCheck.the-variants.{WrongLength, WrongCheck, Good}
+use Rattle.image.specs.Image.{Lengths, imageOf, imageBytes, imageCheck, nodesIn, poolIn, stored}
+use Rattle.image.specs.Theory.Promises.{Says, image-length, saved-front, saved-rest, says-what-was-written, parts-lengths, same-nodes, pool-length, saved-again}
+use Rattle.pool.specs.Theory.Elsewhere.{SameNodes}
+use Rattle.model.specs.Record.{recordOf}
+use Rattle.semantics.specs.declared.Refusal.{Refusal}
+use Rattle.semantics.specs.declared.Refusal.the-variants.{Work, Blocks, BlockCheck}
+use Rattle.semantics.specs.Answers.{refusalNumber}
+use Rattle.semantics.specs.Core.{Core}
+use Rattle.semantics.specs.Entries.{State, fits, zeros, numbersOf, wholeNodes, stateOf, isSound, checkedState, outsideWith, outsideOn, tapeWith, tapeOn, unfitTape}
+use Rattle.semantics.specs.Images.{SaveResult, savedImage, saveWith, saveOn, LoadResult, stateIn, poolWith, nodesZero, loadRefused, loadWith, loadOn}
+use Rattle.semantics.specs.Calls.{HostCall, outside, tape, StateAndPool, afterCall, exchangesOf, saveResult}
+use Rattle.semantics.specs.Demands.{AcceptedSave, RefusedLoad, AcceptedLoad, beforeCheck, WorkAfterSave, WorkAfterLoad, StateWords}
+use Rattle.semantics.specs.Promises.{Fits}
+use Rattle.semantics.specs.Theory.Pools.{Beyond}
+use Rattle.semantics.specs.Theory.Fitting.{fits-true, true-fits}
+
+-- ---- a state that every step, tape and save refuses: a part has another length, or it is not sound
+
+pub data Refuses (h : StateAndPool) : Type 0 where
+  unfit : fits (h .state) ≡ false → Refuses h
+  unsound : isSound (h .state) (h .pool) ≡ false → Refuses h
+
+data NotSound (k : Checked) : Type 0 where
+  no-room : k ≡ NoRoom → NotSound k
+  found-unsound : k ≡ Checked.Unsound → NotSound k
+
+not-sound : (s : State) (ws work : List ℕ) → isSound s ws ≡ false → NotSound (checkedState s ws work)
+unfolding checked
+not-sound s ws work e = elim (decided (leb (numbersOf s .nodes) (length work))) [ inl l ↦ found-unsound (rw (l, e)) | inr l ↦ no-room (rw l) ]
+
+-- what a call leaves and tells
+abbrev NothingDone : StateAndPool → HostCall → Type 0
+NothingDone h k = (afterCall h k ≡ h) × (exchangesOf h k ≡ [])
+
+pub refused-calls : (h : StateAndPool) (k : HostCall) → Refuses h → NothingDone h k
+unfolding outsideOn outsideWith tapeOn tapeWith
+refused-calls h (outside kind worker field value work) R = go (fits (h .state)) refl R
+  where
+    go : (b : Bool) → fits (h .state) ≡ b → Refuses h → NothingDone h (outside kind worker field value work)
+    go false f r = rw f (refl, refl)
+    go true f (unfit e) = absurd (true≢false (sym f ∙ e))
+    go true f (unsound e) = elim (not-sound (h .state) (h .pool) work e) [ no-room q ↦ rw (f, q) (refl, refl) | found-unsound q ↦ rw (f, q) (refl, refl) ]
+refused-calls h (tape bytes work answers) R = go (fits (h .state)) refl R
+  where
+    go : (b : Bool) → fits (h .state) ≡ b → Refuses h → NothingDone h (tape bytes work answers)
+    go false f r = rw f (refl, refl)
+    go true f (unfit e) = absurd (true≢false (sym f ∙ e))
+    go true f (unsound e) = elim (decided (unfitTape bytes answers)) [
+      | inl t ↦ rw (f, t) (refl, refl)
+      | inr t ↦ elim (not-sound (h .state) (h .pool) work e) [ no-room q ↦ rw (f, t, q) (refl, refl) | found-unsound q ↦ rw (f, t, q) (refl, refl) ]
+    ]
+
+pub refused-save : (h : StateAndPool) (work target : List ℕ) → Refuses h → eqb (saveResult h work target .result) 0 ≡ false
+unfolding saveOn saveWith
+refused-save h work target R = go (fits (h .state)) refl R
+  where
+    go : (b : Bool) → fits (h .state) ≡ b → Refuses h → eqb (saveResult h work target .result) 0 ≡ false
+    go false f r = rw f refl
+    go true f (unfit e) = absurd (true≢false (sym f ∙ e))
+    go true f (unsound e) = elim (not-sound (h .state) (h .pool) work e) [ no-room q ↦ rw (f, q) refl | found-unsound q ↦ rw (f, q) refl ]
+
+-- ---- a save that is accepted
+
+-- the parts have their lengths, state and pool are sound, and the target is long enough
+pub record SaveTaken (h : StateAndPool) (work target : List ℕ) : Type 0 where
+  pub parts : Fits (h .state)
+  pub still : isSound (h .state) (h .pool) ≡ true
+  pub stores : saveResult h work target .target ≡ stored (savedImage (h .state) (h .pool)) target
+  pub fits-in : imageBytes (numbersOf (h .state) .nodes) ≤ length target
+
+pub save-taken : (h : StateAndPool) (work target : List ℕ) → saveResult h work target .result ≡ 0 → SaveTaken h work target
+unfolding saveOn saveWith checked
+save-taken h work target e = go (fits (h .state)) refl
+  where
+    go : (b : Bool) → fits (h .state) ≡ b → SaveTaken h work target
+    go false f = absurd (omega (arith, rw f at e))
+    go true f = elim (decided (leb (numbersOf (h .state) .nodes) (length work))) [
+      | inr l ↦ absurd (omega (arith, rw (f, l) at e))
+      | inl l ↦ elim (decided (isSound (h .state) (h .pool))) [
+        | inr q ↦ absurd (omega (arith, rw (f, l, q) at e))
+        | inl q ↦ elim (decided (ltb (length target) (imageBytes (numbersOf (h .state) .nodes)))) [
+          | inl t ↦ absurd (omega (arith, rw (f, l, q, t) at e))
+          | inr t ↦ record { parts = true-fits (h .state) f; still = q; stores = rw (f, l, q, t) refl; fits-in = ltb-false (length target) (imageBytes (numbersOf (h .state) .nodes)) t }
+        ]
+      ]
+    ]
+
+-- the nodes of a sound state are in the pool
+pub sound-room : (s : State) (ws : List ℕ) → isSound s ws ≡ true → 4 * numbersOf s .nodes ≤ length ws
+unfolding sound
+sound-room s ws e = numbers-facts (numbersOf s) ws (both (numbersSound (numbersOf s) ws) _ e .0) .room
+
+-- stored in the front of a slice that is long enough
+stored-long : (new old : List ℕ) → length new ≤ length old → length (stored new old) ≡ length old
+stored-long new old h = omega (arith, length-append new (drop (length new) old), length-drop (length new) old)
+
+-- the image's parts
+lengths-of : (s : State) → Fits s → Lengths (s .numbers) (s .deques) (s .frames)
+lengths-of s F = record { numbers = F .numbers; deques = F .deques; frames = F .frames }
+
+pub accepted-save : (h : StateAndPool) (work target : List ℕ) → saveResult h work target .result ≡ 0 → AcceptedSave h work target
+accepted-save h work target e =
+    let T = save-taken h work target e in
+    let s = h .state in
+    let L = lengths-of s (T .parts) in
+    let room = sound-room s (h .pool) (T .still) in
+    let N = numbersOf s .nodes in
+    record {
+      image = ap (take (imageBytes N)) (T .stores) ∙ saved-front (s .numbers) (s .deques) (s .frames) (h .pool) L room target;
+      same-length = ap length (T .stores) ∙ stored-long (savedImage s (h .pool)) target (omega (arith, T .fits-in, image-length (s .numbers) (s .deques) (s .frames) (h .pool) L room));
+      past = ap (drop (imageBytes N)) (T .stores) ∙ saved-rest (s .numbers) (s .deques) (s .frames) (h .pool) L room target;
+    }
+
+-- ---- a reading that is accepted
+
+pub record LoadTaken (s : State) (ws work image : List ℕ) : Type 0 where
+  pub good : imageCheck image ≡ Good
+  pub sound-read : isSound (stateIn image) (poolWith ws image) ≡ true
+  pub is : loadOn s ws work image ≡ record { state = stateIn image; pool = poolWith ws image; work = cleared (nodesIn image) work; result = 0 }
+
+-- the ways out
+data LoadCase (s : State) (ws work image : List ℕ) : Type 0 where
+  by-lengths : fits s ≡ false → loadOn s ws work image ≡ record { state = s; pool = ws; work = work; result = 99 } → LoadCase s ws work image
+  by-blocks : loadOn s ws work image ≡ loadRefused ws work Blocks → LoadCase s ws work image
+  by-check : loadOn s ws work image ≡ loadRefused ws work BlockCheck → LoadCase s ws work image
+  by-work : loadOn s ws work image ≡ loadRefused ws work Work → LoadCase s ws work image
+  by-soundness : loadOn s ws work image ≡ loadRefused (nodesZero ws) (cleared (nodesIn image) work) Refusal.Unsound → LoadCase s ws work image
+  taken : LoadTaken s ws work image → LoadCase s ws work image
+
+load-cases : (s : State) (ws work image : List ℕ) → LoadCase s ws work image
+unfolding loadOn loadWith
+load-cases s ws work image = go (fits s) refl (imageCheck image) refl
+  where
+    go : (b : Bool) → fits s ≡ b → (k : ImageCheck) → imageCheck image ≡ k → LoadCase s ws work image
+    go false f k e = by-lengths f (rw f refl)
+    go true f WrongLength e = by-blocks (rw (f, e) refl)
+    go true f WrongCheck e = by-check (rw (f, e) refl)
+    go true f Good e = elim (decided (ltb (length work) (nodesIn image))) [
+      | inl l ↦ by-work (rw (f, e, l) refl)
+      | inr l ↦ elim (decided (isSound (stateIn image) (poolWith ws image))) [
+        | inl q ↦ taken (record { good = e; sound-read = q; is = rw (f, e, l, q) refl })
+        | inr q ↦ by-soundness (rw (f, e, l, q) refl)
+      ]
+    ]
+
+pub load-taken : (s : State) (ws work image : List ℕ) → loadOn s ws work image .result ≡ 0 → LoadTaken s ws work image
+load-taken s ws work image e = elim (load-cases s ws work image) [
+  | by-lengths f q ↦ absurd (omega (arith, e, ap (λ (o : LoadResult). o .result) q))
+  | by-blocks q ↦ absurd (omega (arith, e, ap (λ (o : LoadResult). o .result) q))
+  | by-check q ↦ absurd (omega (arith, e, ap (λ (o : LoadResult). o .result) q))
+  | by-work q ↦ absurd (omega (arith, e, ap (λ (o : LoadResult). o .result) q))
+  | by-soundness q ↦ absurd (omega (arith, e, ap (λ (o : LoadResult). o .result) q))
+  | taken T ↦ T
+]
+
+abbrev result-of : {a b : LoadResult} → a ≡ b → a .result ≡ b .result
+result-of q = ap (λ (o : LoadResult). o .result) q
+
+-- refused before anything is read
+early : (s : State) (ws work image : List ℕ) (r : Refusal) → refusalNumber r < 99 → refusalNumber r ≢ 6 → loadOn s ws work image ≡ loadRefused ws work r → RefusedLoad s ws work image
+early s ws work image r low other q = record {
+  state = λ t. absurd (omega (arith, t, result-of q, low));
+  zero = λ t. ap (λ (o : LoadResult). o .state) q;
+  pool = λ t. ap (λ (o : LoadResult). o .pool) q;
+  zero-nodes = λ t. absurd (other (sym (result-of q) ∙ t));
+}
+
+pub refused-load : (s : State) (ws work image : List ℕ) → 0 < loadOn s ws work image .result → RefusedLoad s ws work image
+refused-load s ws work image h = elim (load-cases s ws work image) [
+  | by-lengths f q ↦ record {
+    state = λ t. ap (λ (o : LoadResult). o .state) q;
+    zero = λ t. absurd (omega (arith, t, result-of q));
+    pool = λ t. ap (λ (o : LoadResult). o .pool) q;
+    zero-nodes = λ t. absurd (omega (arith, t, result-of q));
+  }
+  | by-blocks q ↦ early s ws work image Blocks (omega arith) (λ t. omega (arith, t)) q
+  | by-check q ↦ early s ws work image BlockCheck (omega arith) (λ t. omega (arith, t)) q
+  | by-work q ↦ early s ws work image Work (omega arith) (λ t. omega (arith, t)) q
+  | by-soundness q ↦ record {
+    state = λ t. absurd (omega (arith, t, result-of q));
+    zero = λ t. ap (λ (o : LoadResult). o .state) q;
+    pool = λ t. absurd (t (result-of q));
+    zero-nodes = λ t. ap (λ (o : LoadResult). o .pool) q;
+  }
+  | taken T ↦ absurd (omega (arith, h, result-of (T .is)))
+]
+
+pub work-after-load : (s : State) (ws work image : List ℕ) → WorkAfterLoad s ws work image
+work-after-load s ws work image = elim (load-cases s ws work image) [
+  | by-lengths f q ↦ rw q refl
+  | by-blocks q ↦ rw q refl
+  | by-check q ↦ rw q refl
+  | by-work q ↦ rw q refl
+  | by-soundness q ↦ rw q refl
+  | taken T ↦ rw (T .is) refl
+]
+
+-- a state of zeros has no worker
+zeros-unsound : (ws : List ℕ) → isSound zeros ws ≡ false
+unfolding sound numbersSound
+zeros-unsound ws = refl
+
+-- a reading that is refused leaves no state
+abbrev leftBy : State → List ℕ → List ℕ → List ℕ → StateAndPool
+leftBy s ws work image = record { state = loadOn s ws work image .state; pool = loadOn s ws work image .pool }
+
+no-state : (s : State) (ws work image ws′ work′ : List ℕ) (r : Refusal) → loadOn s ws work image ≡ loadRefused ws′ work′ r → Refuses (leftBy s ws work image)
+no-state s ws work image ws′ work′ r q = subst Refuses (ap (λ (o : LoadResult). record { state = o .state; pool = o .pool }) (sym q)) (unsound (zeros-unsound ws′))
+
+pub load-leaves-none : (s : State) (ws work image : List ℕ) → eqb (loadOn s ws work image .result) 0 ≡ false → Refuses (leftBy s ws work image)
+load-leaves-none s ws work image e = elim (load-cases s ws work image) [
+  | by-lengths f q ↦ subst Refuses (ap (λ (o : LoadResult). record { state = o .state; pool = o .pool }) (sym q)) (unfit f)
+  | by-blocks q ↦ no-state s ws work image ws work Blocks q
+  | by-check q ↦ no-state s ws work image ws work BlockCheck q
+  | by-work q ↦ no-state s ws work image ws work Work q
+  | by-soundness q ↦ no-state s ws work image (nodesZero ws) (cleared (nodesIn image) work) Refusal.Unsound q
+  | taken T ↦ absurd (eqb-false (loadOn s ws work image .result) 0 e (result-of (T .is)))
+]
+
+-- parts that had their lengths have them after it
+pub load-fits : (s : State) (ws work image : List ℕ) → Fits s → Fits (loadOn s ws work image .state)
+load-fits s ws work image F = elim (load-cases s ws work image) [
+  | by-lengths f q ↦ absurd (true≢false (sym (fits-true s F) ∙ f))
+  | by-blocks q ↦ zeroed Blocks q
+  | by-check q ↦ zeroed BlockCheck q
+  | by-work q ↦ zeroed Work q
+  | by-soundness q ↦ zeroed Refusal.Unsound q
+  | taken T ↦ (
+      let L = parts-lengths image (T .good) in
+      subst Fits (ap (λ (o : LoadResult). o .state) (sym (T .is))) (record { numbers = L .numbers; deques = L .deques; frames = L .frames }))
+]
+  where
+    zeroed : {ws′ work′ : List ℕ} (r : Refusal) → loadOn s ws work image ≡ loadRefused ws′ work′ r → Fits (loadOn s ws work image .state)
+    zeroed r q = subst Fits (ap (λ (o : LoadResult). o .state) (sym q)) (record { numbers = refl; deques = refl; frames = refl })
+
+-- the pool holds the nodes that were read, and has them in its front
+module _ (s : State) (ws work image : List ℕ) (T : LoadTaken s ws work image) where
+  pub load-room : 4 * nodesIn image ≤ length ws
+  load-room = elim (decided (leb (4 * nodesIn image) (length ws))) [
+    | inl l ↦ leb-true (4 * nodesIn image) (length ws) l
+    | inr l ↦ (
+        let pool : poolWith ws image ≡ ws = ap (λ (b : Bool). cond b (stored (poolIn image) ws) ws) l in
+        omega (arith, sound-room (stateIn image) (poolWith ws image) (T .sound-read), ap length pool, same-nodes image (T .good)))
+  ]
+
+  pub load-pool : loadOn s ws work image .pool ≡ stored (poolIn image) ws
+  load-pool = ap (λ (o : LoadResult). o .pool) (T .is) ∙ ap (λ (b : Bool). cond b (stored (poolIn image) ws) ws) (le-leb (4 * nodesIn image) (length ws) load-room)
+
+pub accepted-load : (s : State) (ws work image : List ℕ) → loadOn s ws work image .result ≡ 0 → AcceptedLoad s ws work image
+accepted-load s ws work image e =
+    let T = load-taken s ws work image e in
+    let state : loadOn s ws work image .state ≡ stateIn image = ap (λ (o : LoadResult). o .state) (T .is) in
+    let pool = load-pool s ws work image T in
+    let long = pool-length image (T .good) in
+    record {
+      state = state;
+      sound = ap (isSound (stateIn image)) (ap (λ (o : LoadResult). o .pool) (T .is)) ∙ T .sound-read;
+      again = λ h. ap (λ (t : State). savedImage t (loadOn s ws work image .pool)) state
+          ∙ saved-again image (T .good) h (stateIn image .numbers) (stateIn image .deques) (stateIn image .frames) ws (loadOn s ws work image .pool) (record { numbers = refl; deques = refl; frames = refl; pool = pool });
+      same-length = ap length pool ∙ stored-long (poolIn image) ws (omega (arith, long, load-room s ws work image T));
+      beyond = ap (drop (4 * nodesIn image)) pool ∙ drop-at (poolIn image) (drop (length (poolIn image)) ws) (4 * nodesIn image) long ∙ ap (λ (k : ℕ). drop k ws) long;
+    }
+
+-- ---- the work slice after a save; a refused save leaves the target
+
+-- the ways out
+data SaveCase (h : StateAndPool) (work target : List ℕ) : Type 0 where
+  before : saveResult h work target .work ≡ work → saveResult h work target .target ≡ target → beforeCheck (saveResult h work target .result) ≡ true → SaveCase h work target
+  after : saveResult h work target .work ≡ cleared (numbersOf (h .state) .nodes) work → beforeCheck (saveResult h work target .result) ≡ false
+      → ((saveResult h work target .target ≡ target) ⊎ (saveResult h work target .result ≡ 0)) → SaveCase h work target
+
+save-cases : (h : StateAndPool) (work target : List ℕ) → SaveCase h work target
+unfolding saveOn saveWith checked
+save-cases h work target = go (fits (h .state)) refl
+  where
+    go : (b : Bool) → fits (h .state) ≡ b → SaveCase h work target
+    go false f = before (rw f refl) (rw f refl) (rw f refl)
+    go true f = elim (decided (leb (numbersOf (h .state) .nodes) (length work))) [
+      | inr l ↦ before (rw (f, l) refl) (rw (f, l) refl) (rw (f, l) refl)
+      | inl l ↦ elim (decided (isSound (h .state) (h .pool))) [
+        | inr q ↦ after (rw (f, l, q) refl) (rw (f, l, q) refl) (inl (rw (f, l, q) refl))
+        | inl q ↦ elim (decided (ltb (length target) (imageBytes (numbersOf (h .state) .nodes)))) [
+          | inl t ↦ after (rw (f, l, q, t) refl) (rw (f, l, q, t) refl) (inl (rw (f, l, q, t) refl))
+          | inr t ↦ after (rw (f, l, q, t) refl) (rw (f, l, q, t) refl) (inr (rw (f, l, q, t) refl))
+        ]
+      ]
+    ]
+
+pub work-after-save : (h : StateAndPool) (work target : List ℕ) → WorkAfterSave h work target
+work-after-save h work target = elim (save-cases h work target) [
+  | before w t b ↦ w ∙ sym (ap (λ (q : Bool). cond q work (cleared (numbersOf (h .state) .nodes) work)) b)
+  | after w b t ↦ w ∙ sym (ap (λ (q : Bool). cond q work (cleared (numbersOf (h .state) .nodes) work)) b)
+]
+
+pub save-refused-target : (h : StateAndPool) (work target : List ℕ) → 0 < saveResult h work target .result → saveResult h work target .target ≡ target
+save-refused-target h work target p = elim (save-cases h work target) [
+  | before w t b ↦ t
+  | after w b (inl t) ↦ t
+  | after w b (inr z) ↦ absurd (omega (arith, p, z))
+]
+
+-- ---- an image that was saved, read into another pool
+
+-- the image says the core's state and nodes
+abbrev pub SaysCore : List ℕ → Core → Type 0
+SaysCore image c = Says image (stateOf c .numbers) (c .deques) (c .frames) (c .pool)
+
+pub saved-says : (c : Core) → StateWords (stateOf c) (c .pool) → Fits (stateOf c) → 4 * c .head .numbers .nodes ≤ length (c .pool) → SaysCore (savedImage (stateOf c) (c .pool)) c
+saved-says c W F room =
+    says-what-was-written (stateOf c .numbers) (c .deques) (c .frames) (c .pool) (lengths-of (stateOf c) F) room (record { numbers = W .numbers; deques = W .deques; frames = W .frames; pool = W .pool })
+
+-- parts that fit and a work slice that is long enough: nothing is refused, if state and nodes are sound there
+pub load-takes : (image : List ℕ) (c : Core) → SaysCore image c → (s : State) (ws work : List ℕ) → fits s ≡ true → c .head .numbers .nodes ≤ length work → isSound (stateIn image) (poolWith ws image) ≡ true → LoadTaken s ws work image
+unfolding loadOn loadWith
+load-takes image c Y s ws work f long q =
+    let l : ltb (length work) (nodesIn image) ≡ false = le-ltb (length work) (nodesIn image) (omega (arith, long, Y .nodes)) in
+    record { good = Y .good; sound-read = q; is = rw (f, Y .good, l, q) refl }
+
+-- the lent pool with the saved nodes in its front
+pub pool-with : (image : List ℕ) (c : Core) → SaysCore image c → 4 * c .head .numbers .nodes ≤ length (c .pool) → (ws : List ℕ) → 4 * c .head .numbers .nodes ≤ length ws
+    → poolWith ws image ≡ take (4 * c .head .numbers .nodes) (c .pool) ++ drop (4 * c .head .numbers .nodes) ws
+pool-with image c Y room ws held =
+    ap (λ (b : Bool). cond b (stored (poolIn image) ws) ws) (le-leb (4 * nodesIn image) (length ws) (omega (arith, held, Y .nodes)))
+    ∙ ap (λ (l : List ℕ). stored l ws) (Y .pool)
+    ∙ ap (λ (k : ℕ). take (4 * c .head .numbers .nodes) (c .pool) ++ drop k ws) (length-take-le (4 * c .head .numbers .nodes) (c .pool) room)
+
+-- the same nodes in another pool
+pub front-same : (N : ℕ) (ws₀ ws : List ℕ) → 4 * N ≤ length ws₀ → 4 * N ≤ length ws → SameNodes N ws₀ (take (4 * N) ws₀ ++ drop (4 * N) ws)
+front-same N ws₀ ws room held =
+    let front = length-take-le (4 * N) ws₀ room in
+    record {
+      room = omega (arith, length-append (take (4 * N) ws₀) (drop (4 * N) ws), front);
+      same = λ i b. List·getD-append (take (4 * N) ws₀) (drop (4 * N) ws) 0 i (omega (arith, b, front)) ∙ getD-take (4 * N) ws₀ i 0 b;
+    }
+
+module _ (image : List ℕ) (c : Core) (Y : SaysCore image c) (room : 4 * c .head .numbers .nodes ≤ length (c .pool)) (s : State) (ws work : List ℕ) (T : LoadTaken s ws work image) where
+  W : ℕ
+  W = 4 * c .head .numbers .nodes
+
+  pub loaded-state : loadOn s ws work image .state ≡ stateOf c
+  loaded-state = ap (λ (o : LoadResult). o .state) (T .is) ∙ (λ i. record { numbers = Y .numbers i; deques = Y .deques i; frames = Y .frames i })
+
+  front : length (take W (c .pool)) ≡ W
+  unfolding W
+  front = length-take-le (4 * c .head .numbers .nodes) (c .pool) room
+
+  held : W ≤ length ws
+  unfolding W
+  held = omega (arith, load-room s ws work image T, Y .nodes)
+
+  -- the saved nodes, in the front of the lent pool
+  loaded-pool : loadOn s ws work image .pool ≡ take W (c .pool) ++ drop W ws
+  unfolding W
+  loaded-pool = ap (λ (o : LoadResult). o .pool) (T .is) ∙ pool-with image c Y room ws held
+
+  long : length (take W (c .pool) ++ drop W ws) ≡ length ws
+  long = omega (arith, length-append (take W (c .pool)) (drop W ws), front, length-drop W ws, held)
+
+  pub loaded-front : take (4 * c .head .numbers .nodes) (loadOn s ws work image .pool) ≡ take (4 * c .head .numbers .nodes) (c .pool)
+  unfolding W
+  loaded-front = ap (take W) loaded-pool ∙ take-at (take W (c .pool)) (drop W ws) W front
+
+  pub loaded-nodes : SameNodes (c .head .numbers .nodes) (c .pool) (loadOn s ws work image .pool)
+  unfolding W
+  loaded-nodes = subst (SameNodes (c .head .numbers .nodes) (c .pool)) (sym loaded-pool) (front-same (c .head .numbers .nodes) (c .pool) ws room held)
+
+  pub loaded-words : Words (c .pool) → Words ws → Words (loadOn s ws work image .pool)
+  loaded-words h k =
+      subst Words (sym loaded-pool) (below-append 4294967296 (take W (c .pool)) (drop W ws) (below-take 4294967296 W (c .pool) (omega arith) h) (below-drop 4294967296 W ws k))
+
+  pub loaded-beyond : Beyond (c .head .numbers .nodes) ws (loadOn s ws work image .pool)
+  unfolding W
+  loaded-beyond = (ap length loaded-pool ∙ long, ap (drop W) loaded-pool ∙ drop-at (take W (c .pool)) (drop W ws) W front)
