@@ -4,6 +4,7 @@ SPLITRUN=PATH names the program (default target/bin/splitrun); tests that need i
 import os
 import random
 import re
+import struct
 import subprocess
 import sys
 import tempfile
@@ -15,7 +16,7 @@ HERE = Path(__file__).resolve().parent
 ROOT = HERE.parent
 sys.path.insert(0, str(HERE))
 
-from tapelib import cli, draw, explain, machine, script  # noqa: E402
+from tapelib import cli, draw, explain, image, machine, script, soundness  # noqa: E402
 
 SPLITRUN = os.path.abspath(os.environ.get("SPLITRUN", ROOT / "target/bin/splitrun"))
 STDIN = Path(os.environ.get("SPLITRUN_STDIN", ROOT / "crates/splitrun/stdin"))
@@ -254,6 +255,201 @@ class Pictures(unittest.TestCase):
         words = [box[4] for box in text_boxes(svg)]
         for part in ("write 255", ":= 4294967294", "read 255", "= 4294967294"):
             self.assertIn(part, words)
+
+
+NONE = 0xFFFFFFFF
+
+
+def start_words(workers, values, nodes):
+    """Document 01's start, in the order of document 02's image: for 5 splitters T(n) is 5 + 3 + 2 + 1."""
+    widths = [len(values)]
+    while widths[-1] > 1:
+        widths.append((widths[-1] + 1) // 2)
+    tree, below = [], 0
+    for width, under in zip(widths[::-1], widths[-2::-1]):
+        below += width
+        tree += [(1, below + 2 * g, below + 2 * g + 1 if 2 * g + 1 < under else NONE, 0) for g in range(width)]
+    tree += [(1, NONE, NONE, value) for value in values]
+    used = len(tree)
+    tree += [(0, at + 1 if at + 1 < nodes else NONE, 0, 0) for at in range(used, nodes)]
+    frames = [(1, NONE, 0, 0, 0, 0)] + [(0, at + 1 if at < 63 else NONE, 0, 0, 0, 0) for at in range(1, 64)]
+    numbers = [workers, len(values), nodes, used if used < nodes else NONE, 1]
+    return numbers + [1] + [0] * (8 * 65 - 1) + [word for record in frames + tree for word in record]
+
+
+def image_bytes(words):
+    """Blocks of 127 words and their sum: a byte's power of 256 is its place in its word."""
+    words = words + [0] * (-len(words) % 127)
+    blocks = [words[at : at + 127] for at in range(0, len(words), 127)]
+    return b"".join(struct.pack("<128I", *block, sum(block) % 2**32) for block in blocks)
+
+
+FIVE = start_words(2, [10, 20, 30, 40, 50], 20)
+DEQUES, RECORDS, POOL = 5, 525, 909  # the first words of the deques, the frame records, the pool
+
+
+def changed(changes, words=FIVE):
+    """The words with some of them changed, as {place: word}."""
+    return [changes.get(at, word) for at, word in enumerate(words)]
+
+
+def stolen():
+    """Main, stolen by worker 1, waits in its sync; its child, in place 1, is on worker 0, and both hold the tree."""
+    main, child = {3: 1, 4: 1}, {0: 1, 1: 0, 2: 1}
+    changes = {4: 2, DEQUES + 1: 1, POOL: 2}
+    changes.update({RECORDS + at: word for at, word in main.items()})
+    changes.update({RECORDS + 6 + at: word for at, word in child.items()})
+    return changed(changes)
+
+
+class Images(unittest.TestCase):
+    def told(self, data, taken, *parts):
+        """The verdict is right, and each part is in the text."""
+        text, got = image.described("x", data)
+        self.assertEqual(got, taken, text)
+        for part in parts:
+            self.assertIn(part, text)
+        return text
+
+    def test_checks(self):
+        for offset in range(508):
+            data = bytearray(508)
+            data[offset] = 3
+            self.assertEqual(image.check(data), 3 << 8 * (offset % 4))
+        self.assertEqual(image.check(bytes([255]) * 508), 2**32 - 127)
+        self.assertEqual([image.called_for(n) for n in (0, 26, 27, 122, 123, 16384)], [8, 8, 9, 11, 12, 524])
+
+    def test_a_good_image(self):
+        text = self.told(
+            image_bytes(FIVE),
+            True,
+            "x: 4096 bytes, 8 blocks\n",
+            "2 workers, 5 splitters, 20 nodes, first free node 11, first free frame place 1\n",
+            "worker 0: 0\n         worker 1: idle\n",
+            "place 0: Main, depth 0, 0 outstanding, on worker 0, root 0\n",
+            "free: 1 to 63\n",
+            "11 nodes in use, 9 free\n",
+            "all 8 are right\n",
+            "a reading takes it, with 20 nodes of pool and 20 words of work, or more\n",
+        )
+        self.assertNotIn("refuse", text)
+
+    def test_good_images_of_other_sizes(self):
+        for n in (*range(1, 40), 255, 256):
+            nodes = machine.tree_nodes(n)
+            for more in (0, 1, 100):
+                words = start_words(8, list(range(n)), nodes + more)
+                self.told(image_bytes(words), True, f"{nodes} nodes in use, {more} free\n")
+
+    def test_a_run_under_way(self):
+        words = stolen()
+        self.told(image_bytes(words), True, "place 0: Main, depth 0, 1 outstanding, suspended, root 0\n",
+                  "place 1: child of 0, depth 1, 0 outstanding, on worker 0, root 0\n", "free: 2 to 63\n")  # fmt: skip
+        over = changed({DEQUES: 0, 4: 0, RECORDS: 0, RECORDS + 1: 1})
+        over[3], over[POOL:] = 0, [w for at in range(20) for w in (0, at + 1 if at < 19 else NONE, 0, 0)]
+        self.told(image_bytes(over), True, "worker 0: idle\n", "free: 0 to 63\n", "0 nodes in use, 20 free\n")
+
+    def test_a_damaged_block(self):
+        data = bytearray(image_bytes(FIVE))
+        right = struct.unpack_from("<I", data, 4 * 512 + 508)[0]
+        data[4 * 512 + 80] ^= 8
+        found = image.Image(bytes(data)).wrong_checks()
+        self.assertEqual([(number, stored) for number, stored, _ in found], [(4, right)])
+        words = f"block 4 (bytes 2048 to 2559) is damaged: stored {right}, right {found[0][2]}\n"
+        self.told(bytes(data), False, words, "refuses it by 18: a check is wrong", "with right checks 6: not: Outstanding")
+        data = bytearray(image_bytes(FIVE))
+        data[511] ^= 255
+        self.told(bytes(data), False, "block 0 (bytes 0 to 511) is damaged", "by 18")
+
+    def test_a_rest_that_is_not_zero(self):
+        words = FIVE + [0] * (1016 - len(FIVE))
+        words[1000] = 5
+        self.told(image_bytes(words), False, "word 1000 of the data is 5\n", "refuses it by 18")
+
+    def test_cut_images(self):
+        data = image_bytes(FIVE)
+        for length in (1, 511):
+            self.told(data[:length], False, "0 blocks", f"{length} bytes are no whole block", "by 17")
+        for length in (512, 513, 3584, 4095, 4097, 4608):
+            whole = (data + bytes(600))[:length]
+            self.told(whole, False, "by 17", f"20 nodes call for 8 blocks, 4096 bytes; the file has {length}\n")
+        large = image_bytes(start_words(1, [1], 200))
+        self.told(large[:-512], False, "185 of 200 nodes are in the file", "by 17")
+
+    def test_a_node_count_that_is_not_true(self):
+        for nodes in (27, 16384, 2**30 + 20, NONE):
+            self.told(image_bytes(changed({2: nodes})), False, f"{nodes} nodes call for", "by 17")
+        for nodes in (0, 1, 10, 19):
+            self.told(image_bytes(changed({2: nodes})), False, "by 18", "with right checks 6: not: ")
+        others = "not: All other nodes are free and lie once on the free chain. (node 20 is not reached"
+        self.told(image_bytes(changed({2: 21})), False, "by 6", others, "1 neither in use nor on the free chain")
+
+    def test_each_sentence(self):
+        node = lambda number, word: POOL + 4 * number + word  # noqa: E731
+        one = {
+            "Workers are 1 to 8.": {0: 9},
+            "n is 1 to 256.": {1: 257},
+            "The recorded node count is T(n) to 16,384.": {1: 11},
+            "Live and suspended are 0 or 1, and": {RECORDS: 2},
+            "For each of 8 workers there are 64 places": {DEQUES: 65},
+            "Either no frame lives and all deques": {RECORDS + 1: 5},
+            "Every other live frame has a live parent one shallower.": {RECORDS + 2: 3},
+            "Outstanding counts are right.": {RECORDS + 3: 1},
+            "Each live frame is either in just one place": {RECORDS + 4: 1},
+            "Deques hold live frames only.": {DEQUES + 65: 1, DEQUES + 66: 9},
+            "A worker that does not exist has an empty": {DEQUES + 2 * 65: 1},
+            "Deque places past a deque's frames are zero.": {DEQUES + 64: 1},
+            "Each frame in a deque is a child of the one above it.": {DEQUES: 2},
+            "Walking from each live frame gives a tree": {node(0, 3): 7},
+            "Nodes reached have right holders.": {node(6, 0): 2},
+            "All other nodes are free and lie once": {node(19, 1): 11},
+            "Free frame places lie once on their chain": {RECORDS + 8: 1},
+        }
+        for sentence, changes in one.items():
+            self.told(image_bytes(changed(changes)), False, "refuses it by 6: State and pool are not sound\n", f"not: {sentence}")
+        # Main, its child in place 1 and that one's in place 2 on one deque; place 3 is another child of 1, suspended
+        chained = changed({DEQUES: 3, DEQUES + 2: 1, DEQUES + 3: 2, 4: 4, POOL: 4, RECORDS + 3: 1})
+        chained[RECORDS + 6 : RECORDS + 24] = [1, 0, 1, 2, 0, 0] + [1, 1, 2, 0, 0, 0] * 2
+        top = "not: A frame that is not a top has only the child below it, if any. (worker 0: frame place 1 is not a top and has the child 3)"
+        self.told(image_bytes(chained), False, top)
+        asked = {*one, "A frame that is not a top has only the child below it, if any."}
+        self.assertEqual(len(asked), len(soundness.SENTENCES))
+
+    def test_no_image_is_too_bad_to_be_told(self):
+        chance = random.Random(7)
+        for turn in range(300):
+            words = list(chance.choice((FIVE, stolen())))
+            for _ in range(chance.choice((1, 2, 50, 2000))):
+                words[chance.randrange(len(words))] = chance.choice((0, 1, 2, 5, 63, 64, NONE, chance.randrange(2**32)))
+            data = bytearray(image_bytes(words))
+            if turn % 2:
+                data[chance.randrange(len(data))] ^= 1 << chance.randrange(8)
+                data = data[: chance.choice((600, len(data)))]
+            text, taken = image.described("x", bytes(data))
+            self.assertEqual("takes it" in text, taken)
+
+    def test_command_line(self):
+        with tempfile.TemporaryDirectory() as folder:
+            file = Path(folder) / "saved"
+            for data, code in ((image_bytes(FIVE), 0), (image_bytes(FIVE)[:-1], 1)):
+                file.write_bytes(data)
+                done = tape("image", file)
+                self.assertEqual((done.returncode, done.stderr), (code, b""))
+            file.write_bytes(b"")
+            for path, words in ((file, b"empty"), (Path(folder) / "none", b"No such file"), (folder, b"Is a directory")):
+                done = tape("image", path)
+                self.assertEqual((done.returncode, done.stdout), (2, b""))
+                self.assertIn(words, done.stderr)
+                self.assertTrue(done.stderr.startswith(b"tape.py: ") and done.stderr.count(b"\n") == 1)
+
+    def test_the_page_shows_what_the_tool_prints(self):
+        page = (ROOT / "docs/TAPES.md").read_text()
+        data = bytearray(image_bytes(stolen()))
+        texts = [image.described("evening.image", bytes(data))[0]]
+        data[4 * 512 + 80] ^= 1
+        texts.append(image.described("evening.image", bytes(data))[0])
+        for line in "".join(texts).splitlines():
+            self.assertIn(f"    {line}\n", page)
 
 
 @needs_splitrun

@@ -21,32 +21,38 @@ uint64_t same(const char *what, uint64_t got, uint64_t wanted) {
 uint32_t checked_start(struct checked *run, unsigned workers, const uint32_t *values, size_t values_len) {
     uint32_t got = splitter_lent_start(&run->lent, workers, values, values_len);
     same("start", got, plain_start(&run->plain, workers, values, values_len, run->lent.pool_len / SPLITTER_NODE_WORDS));
+    run->alone = 0;
     return got;
 }
 
+/* The library's answer to a step, which must be the plain machine's, if there is one. */
+static uint64_t beside(struct checked *run, const char *what, uint64_t got, uint32_t kind, uint32_t worker, uint32_t field,
+                       uint32_t value) {
+    return run->alone ? got : same(what, got, plain_step(&run->plain, kind, worker, field, value));
+}
+
 uint64_t checked_spawn(struct checked *run, unsigned worker) {
-    return same("spawn", splitter_spawn(&run->lent, worker), plain_step(&run->plain, SPLITTER_SPAWN, worker, 0, 0));
+    return beside(run, "spawn", splitter_spawn(&run->lent, worker), SPLITTER_SPAWN, worker, 0, 0);
 }
 
 uint64_t checked_return(struct checked *run, unsigned worker) {
-    return same("return", splitter_return(&run->lent, worker), plain_step(&run->plain, SPLITTER_RETURN, worker, 0, 0));
+    return beside(run, "return", splitter_return(&run->lent, worker), SPLITTER_RETURN, worker, 0, 0);
 }
 
 uint64_t checked_steal(struct checked *run, unsigned worker, unsigned victim) {
-    return same("steal", splitter_steal(&run->lent, worker, victim), plain_step(&run->plain, SPLITTER_STEAL, worker, victim, 0));
+    return beside(run, "steal", splitter_steal(&run->lent, worker, victim), SPLITTER_STEAL, worker, victim, 0);
 }
 
 uint64_t checked_sync(struct checked *run, unsigned worker) {
-    return same("sync", splitter_sync(&run->lent, worker), plain_step(&run->plain, SPLITTER_SYNC, worker, 0, 0));
+    return beside(run, "sync", splitter_sync(&run->lent, worker), SPLITTER_SYNC, worker, 0, 0);
 }
 
 uint64_t checked_read(struct checked *run, unsigned worker, unsigned splitter) {
-    return same("read", splitter_read(&run->lent, worker, splitter), plain_step(&run->plain, SPLITTER_READ, worker, splitter, 0));
+    return beside(run, "read", splitter_read(&run->lent, worker, splitter), SPLITTER_READ, worker, splitter, 0);
 }
 
 uint64_t checked_write(struct checked *run, unsigned worker, unsigned splitter, uint32_t value) {
-    uint64_t wanted = plain_step(&run->plain, SPLITTER_WRITE, worker, splitter, value);
-    return same("write", splitter_write(&run->lent, worker, splitter, value), wanted);
+    return beside(run, "write", splitter_write(&run->lent, worker, splitter, value), SPLITTER_WRITE, worker, splitter, value);
 }
 
 /* What the plain machine answers to a record. */

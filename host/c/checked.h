@@ -5,10 +5,12 @@
 
 #include "plain.h"
 
-/* A run: the memory lent to the library, and the plain machine beside it. */
+/* A run: the memory lent to the library, and the plain machine beside it. A run read from an image may be alone: a plain machine in
+ * another process knew it. */
 struct checked {
     struct splitter_lent lent;
     struct plain plain;
+    int alone;
 };
 
 /* Says what is wrong, and exits. */

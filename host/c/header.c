@@ -28,14 +28,14 @@ static void records(void) {
 static void names(void) {
     unsigned named = 0;
     for (uint32_t i = 0; i < 1000; i++) {
-        unsigned known = i <= SPLITTER_POOL_FULL || i == SPLITTER_BAD_STATE || (i >= SPLITTER_SPAWNED && i <= SPLITTER_WRITTEN);
+        unsigned known = i <= SPLITTER_SHORT_TARGET || i == SPLITTER_BAD_STATE || (i >= SPLITTER_SPAWNED && i <= SPLITTER_WRITTEN);
         EXPECT(strcmp(splitter_name(i), "unknown number") != 0, known);
         named += known;
         for (uint32_t j = 0; known && j < i; j++) {
             EXPECT(strcmp(splitter_name(i), splitter_name(j)) == 0, 0);
         }
     }
-    EXPECT(named, 24);
+    EXPECT(named, 27);
 }
 
 /* The parts lie one after the other, with nothing between them. */
@@ -54,6 +54,11 @@ static void sizes(void) {
     EXPECT(splitter_tree_nodes(5), 11);
     EXPECT(splitter_tree_nodes(256), 511);
     EXPECT(splitter_tree_nodes(UINT32_MAX), UINT64_C(8589934590));
+    EXPECT(splitter_image_bytes(1), 4096);
+    EXPECT(splitter_image_bytes(UINT32_MAX), UINT64_C(69260578816));
+    for (uint32_t nodes = 0; nodes <= SPLITTER_MAX_NODES; nodes++) {
+        EXPECT(splitter_image_bytes(nodes), SPLITTER_IMAGE_BYTES(nodes));
+    }
 }
 
 static void steps(const struct splitter_lent *lent) {
@@ -88,6 +93,23 @@ static void tapes(const struct splitter_lent *lent) {
            SPLITTER_VALUE, 10);
 }
 
+/* A run saved over lent memory and read over a state, and the other way; both images are the same, and go on. */
+static void images(const struct splitter_lent *lent) {
+    static uint8_t image[SPLITTER_IMAGE_BYTES(6)], again[SPLITTER_IMAGE_BYTES(6) + 1];
+    again[sizeof image] = 7;
+    EXPECT(splitter_lent_save(lent, image, sizeof image - 1), SPLITTER_SHORT_TARGET);
+    EXPECT(splitter_lent_save(lent, image, sizeof image), SPLITTER_OK);
+    EXPECT(splitter_state_load(lent->state, lent->pool, lent->pool_len, lent->work, lent->work_len, image, sizeof image - 1),
+           SPLITTER_BAD_BLOCKS);
+    EXPECT(lent->state->numbers[SPLITTER_NUMBER_WORKERS], 0);
+    EXPECT(splitter_state_load(lent->state, lent->pool, lent->pool_len, lent->work, lent->work_len, image, sizeof image), SPLITTER_OK);
+    EXPECT(splitter_state_save(lent->state, lent->pool, lent->pool_len, lent->work, lent->work_len, again, sizeof again), SPLITTER_OK);
+    EXPECT(memcmp(image, again, sizeof image) == 0 && again[sizeof image] == 7, 1);
+    ANSWER(splitter_write(lent, 0, 1, 98), SPLITTER_WRITTEN, 3);
+    EXPECT(splitter_lent_load(lent, again, sizeof image), SPLITTER_OK);
+    ANSWER(splitter_read(lent, 0, 1), SPLITTER_VALUE, 99);
+}
+
 /* A step's arguments are words: none is cut down to a record's field. */
 static void wide_fields(const struct splitter_lent *lent) {
     ANSWER(splitter_lent_step(lent, 256 + SPLITTER_SPAWN, 0, 0, 0), SPLITTER_BAD_RECORD, 0);
@@ -114,6 +136,7 @@ int main(void) {
     numbers(&state);
     steps(&lent);
     tapes(&lent);
+    images(&lent);
     wide_fields(&lent);
     return failures == 0 ? 0 : 1;
 }

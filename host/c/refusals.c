@@ -57,6 +57,24 @@ static void refused_calls(void) {
     printf("    the bit flipped back, block 3 reads %u\n", splitter_answer_number(checked_read(&run, 0, 3)));
 }
 
+/* A refused save leaves the run. A refused reading leaves a state of zeros: the host reads another image, or this one in a better way. */
+static void refused_images(void) {
+    static uint8_t image[SPLITTER_IMAGE_BYTES(NODES)];
+    struct splitter_lent lent = run.lent;
+    const size_t len = (size_t)splitter_image_bytes(lent.state->numbers[SPLITTER_NUMBER_NODES]);
+    show(splitter_lent_save(&lent, image, len - 1), SPLITTER_SHORT_TARGET, "a target with a byte too few");
+    same("save", splitter_lent_save(&lent, image, sizeof image), SPLITTER_OK);
+    show(splitter_lent_load(&lent, image, len - 1), SPLITTER_BAD_BLOCKS, "an image with a byte too few");
+    image[0] ^= 1;
+    show(splitter_lent_load(&lent, image, len), SPLITTER_BAD_CHECK, "a bit of the image has flipped");
+    image[0] ^= 1;
+    lent.pool_len -= SPLITTER_NODE_WORDS;
+    show(splitter_lent_load(&lent, image, len), SPLITTER_UNSOUND, "an image read into a pool with a node too few");
+    same("state of zeros", lent.state->numbers[SPLITTER_NUMBER_WORKERS], 0);
+    same("load", splitter_lent_load(&run.lent, image, len), SPLITTER_OK);
+    printf("    the image read as it was saved, block 3 reads %u\n", splitter_answer_number(checked_read(&run, 0, 3)));
+}
+
 static void refused_steps(void) {
     const uint8_t tape[SPLITTER_RECORD_BYTES] = {9};
     uint32_t answers[2];
@@ -108,6 +126,7 @@ void show_refusals(void) {
     lend((unsigned)splitter_tree_nodes(BLOCKS) + 5);
     same("start", checked_start(&run, 2, factory_marks, BLOCKS), SPLITTER_OK);
     refused_calls();
+    refused_images();
     refused_steps();
     refused_steals();
     refused_return();

@@ -1,272 +1,22 @@
-/* A worked host in C: a flash controller's search for a block layout, on workers that steal.
- *
- * Of 16 blocks the factory marked 3 and 9 bad and 12 to 15 spare. Each bad block needs a spare that passes its erase test. The search
- * spawns a branch for each choice. A branch marks its choice in its own view of the blocks, so nobody has to undo it.
+/* A worked host in C: a flash controller's search for a block layout, on workers that steal (layout.c has the search).
  *
  * A controller has a core for each worker and a lock around each call. Here the workers take turns, so that the report is always the
- * same (the file expected). Every answer is compared with the plain machine's; a surprise gives exit status 1. */
-#include "search.h"
-
-#include <stdarg.h>
-#include <stdbool.h>
+ * same (the file expected). Every answer is compared with the plain machine's; a surprise gives exit status 1.
+ *
+ * Usage: search                           the whole report
+ *        search shift FOLDER TURNS MORE   a shift of so many turns; images are kept in the folder (shift.c) */
 #include <stdio.h>
+#include <stdlib.h>
+#include <string.h>
 
-enum { FIRST_SPARE = 12, BAD_BLOCKS = 2, WORKERS = 3, BRANCHES = 16 };
-
-/* A block's state, kept in its splitter. A spare in use holds STANDS_FOR plus the number of the bad block. */
-enum { GOOD = 0, BAD = 1, SPARE = 2, STANDS_FOR = 100 };
-
-const uint32_t factory_marks[BLOCKS] = {GOOD, GOOD, GOOD, BAD,  GOOD,  GOOD,  GOOD,  GOOD,
-                                        GOOD, BAD,  GOOD, GOOD, SPARE, SPARE, SPARE, SPARE};
-static const unsigned bad_blocks[BAD_BLOCKS] = {3, 9};
-
-/* The memory lent to the library, and what may be used of it. */
-static struct splitter_state state;
-static uint32_t pool[NODES * SPLITTER_NODE_WORDS], work[NODES];
-struct checked run;
-
-void lend(unsigned nodes) {
-    struct splitter_lent lent = {&state, pool, nodes * SPLITTER_NODE_WORDS, work, nodes};
-    run.lent = lent;
-}
-
-/* What the host keeps of a frame: how far this branch of the search has come. */
-struct branch {
-    struct branch *parent;
-    enum { TAKE, LOOK, WAIT, SCORE, END } stage;
-    unsigned depth;  /* so many bad blocks have a spare */
-    unsigned spare;  /* its own choice, for the last of them */
-    unsigned next;   /* the spare to look at next */
-    unsigned failed; /* a spare that failed its test here and was marked bad, or 0 */
-};
-
-static struct branch branches[BRANCHES];
-static struct branch *runs[WORKERS]; /* the branch that a worker runs, or NULL */
-
-/* The search so far. */
-struct search {
-    bool told, finished;
-    unsigned made, turn, waits, given_up, least_free, layouts, least_cost;
-    const struct branch *best;
-};
-static struct search search;
-
-static void print_name(const struct branch *b) {
-    if (b->depth == 0) {
-        printf("Main");
-        return;
-    }
-    if (b->depth > 1) {
-        print_name(b->parent);
-        printf(" ");
-    }
-    printf("%u>%u", bad_blocks[b->depth - 1], b->spare);
-}
-
-/* A line of the report: the turn, the worker, its branch, and what it did. */
-static void tell(unsigned worker, const struct branch *b, const char *format, ...) {
-    va_list arguments;
-    if (!search.told) {
-        return;
-    }
-    printf("%2u  worker %u, ", search.turn, worker);
-    print_name(b);
-    printf(": ");
-    va_start(arguments, format);
-    vprintf(format, arguments);
-    va_end(arguments);
-    printf("\n");
-}
-
-/* Stands for the controller's own test. */
-static bool passes_erase_test(unsigned block) {
-    return block != 13;
-}
-
-static unsigned read_block(unsigned worker, unsigned block) {
-    return splitter_answer_number(checked_read(&run, worker, block));
-}
-
-/* False where the pool has no room; then nothing has changed. */
-static bool write_block(unsigned worker, unsigned block, unsigned value) {
-    uint64_t answer = checked_write(&run, worker, block, value);
-    if (splitter_answer_kind(answer) == SPLITTER_POOL_FULL) {
-        return false;
-    }
-    if (splitter_answer_number(answer) < search.least_free) {
-        search.least_free = splitter_answer_number(answer);
-    }
-    return true;
-}
-
-/* An idle worker steals where it can. The answer's depth tells which frame it got: each frame in a deque is a child of the one above. */
-static bool steal_turn(unsigned thief) {
-    for (unsigned victim = 0; victim < WORKERS; victim++) {
-        uint64_t answer = checked_steal(&run, thief, victim);
-        if (splitter_answer_kind(answer) == SPLITTER_NO_VICTIM) {
-            continue;
-        }
-        struct branch *stolen = runs[victim];
-        while (stolen->depth > splitter_answer_number(answer)) {
-            stolen = stolen->parent;
-        }
-        runs[thief] = stolen;
-        tell(thief, stolen, "stolen from worker %u", victim);
-        return true;
-    }
-    return false;
-}
-
-/* A new branch marks its choice. Where the pool has no room it tries again in its next turn: other branches end and free their nodes. */
-static bool take_turn(unsigned worker, struct branch *b) {
-    if (!write_block(worker, b->spare, STANDS_FOR + bad_blocks[b->depth - 1])) {
-        search.waits += 1;
-        tell(worker, b, "no room in the pool, waits");
-        return false;
-    }
-    b->stage = b->depth < BAD_BLOCKS ? LOOK : SCORE;
-    tell(worker, b, "takes %u", b->spare);
-    return true;
-}
-
-static void spawn_branch(unsigned worker, struct branch *parent, unsigned spare) {
-    if (search.made == BRANCHES) {
-        surprise("more branches than the host has places for");
-    }
-    struct branch *child = &branches[search.made++];
-    struct branch begun = {parent, TAKE, parent->depth + 1, spare, FIRST_SPARE, 0};
-    checked_spawn(&run, worker);
-    *child = begun;
-    runs[worker] = child;
-    tell(worker, parent, "%u is a good spare: spawns a branch", spare);
-}
-
-/* A spare that fails its test is marked bad, in this branch's view. The mark saves later branches the test; without room, no mark. */
-static void mark_failed(unsigned worker, struct branch *b, unsigned spare) {
-    bool marked = write_block(worker, spare, BAD);
-    if (marked) {
-        b->failed = spare;
-    }
-    tell(worker, b, "%u fails its erase test: %s", spare, marked ? "marks it bad" : "no room for a mark");
-}
-
-static bool look_turn(unsigned worker, struct branch *b) {
-    unsigned spare = b->next++;
-    unsigned is = read_block(worker, spare);
-    if (b->next == BLOCKS) {
-        b->stage = WAIT;
-    }
-    if (is != SPARE) {
-        tell(worker, b, "%u is %s", spare, is == BAD ? "bad" : "taken");
-    } else if (passes_erase_test(spare)) {
-        spawn_branch(worker, b, spare);
-    } else {
-        mark_failed(worker, b, spare);
-    }
-    return true;
-}
-
-static bool wait_turn(unsigned worker, struct branch *b) {
-    uint64_t answer = checked_sync(&run, worker);
-    b->stage = END;
-    if (splitter_answer_number(answer) == SPLITTER_SUSPENDED) {
-        runs[worker] = NULL;
-        tell(worker, b, "waits for its branches");
-    } else {
-        tell(worker, b, "all its branches have ended");
-    }
-    return true;
-}
-
-/* A whole layout, read from the branch's own view. The cost is the sum of the squared moves: no block should be far from its spare. */
-static bool score_turn(unsigned worker, struct branch *b) {
-    unsigned cost = 0;
-    for (unsigned spare = FIRST_SPARE; spare < BLOCKS; spare++) {
-        unsigned is = read_block(worker, spare);
-        unsigned move = is >= STANDS_FOR ? spare - (is - STANDS_FOR) : 0;
-        cost += move * move;
-    }
-    search.layouts += 1;
-    if (search.best == NULL || cost < search.least_cost) {
-        search.least_cost = cost;
-        search.best = b;
-    }
-    b->stage = END;
-    tell(worker, b, "a layout, cost %u", cost);
-    return true;
-}
-
-static bool end_turn(unsigned worker, struct branch *b) {
-    static const char *const outcomes[] = {"its parent goes on here", "the worker is idle", "its parent resumes here",
-                                           "the search is over"};
-    if (b->failed != 0) {
-        same("own mark", read_block(worker, b->failed), BAD);
-        tell(worker, b, "%u still reads bad", b->failed);
-    }
-    unsigned outcome = splitter_answer_number(checked_return(&run, worker));
-    runs[worker] = outcome == SPLITTER_CONTINUED || outcome == SPLITTER_RESUMED ? b->parent : NULL;
-    search.finished = outcome == SPLITTER_FINISHED;
-    tell(worker, b, "ends; %s", outcomes[outcome]);
-    return true;
-}
-
-/* True if the worker got something done. */
-static bool take_a_turn(unsigned worker) {
-    struct branch *b = runs[worker];
-    if (b == NULL) {
-        return steal_turn(worker);
-    }
-    switch (b->stage) {
-    case TAKE: return take_turn(worker, b);
-    case LOOK: return look_turn(worker, b);
-    case WAIT: return wait_turn(worker, b);
-    case SCORE: return score_turn(worker, b);
-    default: return end_turn(worker, b);
-    }
-}
-
-/* Every running branch waits for room, so none will end: one must, without its search. */
-static void give_up_a_branch(void) {
-    for (unsigned worker = 0; worker < WORKERS; worker++) {
-        if (runs[worker] != NULL) {
-            runs[worker]->stage = END;
-            search.given_up += 1;
-            return;
-        }
-    }
-    surprise("no worker runs a branch");
-}
-
-static void begin(unsigned workers, unsigned nodes, bool told) {
-    struct search begun = {.told = told, .made = 1, .least_free = nodes - (unsigned)splitter_tree_nodes(BLOCKS)};
-    struct branch main_branch = {.stage = LOOK, .next = FIRST_SPARE};
-    lend(nodes);
-    same("start", checked_start(&run, workers, factory_marks, BLOCKS), SPLITTER_OK);
-    search = begun;
-    branches[0] = main_branch;
-    runs[0] = &branches[0];
-}
+#include "search.h"
 
 static void search_with(unsigned workers, unsigned nodes, bool told) {
     begin(workers, nodes, told);
     while (!search.finished) {
-        bool moved = false;
-        search.turn += 1;
-        for (unsigned worker = 0; worker < workers && !search.finished; worker++) {
-            moved = take_a_turn(worker) || moved;
-        }
-        if (!moved) {
-            give_up_a_branch();
-        }
+        take_turns();
     }
-    printf("nodes %u, workers %u: least free %u, waits %u, given up %u, layouts %u, best ", nodes, workers, search.least_free,
-           search.waits, search.given_up, search.layouts);
-    if (search.best == NULL) {
-        printf("none\n");
-    } else {
-        print_name(search.best);
-        printf(", cost %u\n", search.least_cost);
-    }
+    tell_result();
 }
 
 /* The search in smaller pools. A branch given up may have been the best: then one worker searches again, which takes least room. */
@@ -281,11 +31,22 @@ static void show_smaller_pools(void) {
     }
 }
 
-int main(void) {
+static void show_all(void) {
     printf("Search: bad blocks 3 and 9, spares 12 to 15\n");
     search_with(WORKERS, NODES, true);
     show_smaller_pools();
     show_tape();
     show_refusals();
+}
+
+int main(int argc, char **argv) {
+    if (argc == 5 && strcmp(argv[1], "shift") == 0) {
+        work_a_shift(argv[2], (unsigned)atoi(argv[3]), (unsigned)atoi(argv[4]));
+    } else if (argc == 1) {
+        show_all();
+    } else {
+        fprintf(stderr, "usage: search [shift FOLDER TURNS MORE]\n");
+        return 2;
+    }
     return 0;
 }

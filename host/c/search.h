@@ -2,16 +2,38 @@
 #ifndef SEARCH_H
 #define SEARCH_H
 
+#include <stdbool.h>
+
 #include "checked.h"
 
-enum { BLOCKS = 16, NODES = 72 };
+enum { BLOCKS = 16, NODES = 72, MOST_NODES = 96, WORKERS = 3, OWN_WORDS = 107 };
 
 /* The run, its lent memory, and the blocks as the factory marked them. */
 extern struct checked run;
 extern const uint32_t factory_marks[BLOCKS];
 
-/* Lends the state, and pool and work for so many nodes, at most NODES. */
+/* Lends the state, and pool and work for so many nodes, at most MOST_NODES. */
 void lend(unsigned nodes);
+
+/* The search so far. */
+struct search {
+    bool told, finished;
+    unsigned workers, made, turn, waits, given_up, least_free, layouts, least_cost;
+    const struct branch *best;
+};
+extern struct search search;
+
+/* Begins the search, takes a turn of each worker, prints what was found. */
+void begin(unsigned workers, unsigned nodes, bool told);
+void take_turns(void);
+void tell_result(void);
+
+/* The host's own part of the search as words, at most OWN_WORDS; and back, once the run has been read. */
+void put_search(uint32_t *words);
+void get_search(const uint32_t *words, bool told);
+
+/* One shift: goes on from the newest image in the folder that can be read, into a pool of so many nodes more; saves every third turn. */
+void work_a_shift(const char *folder, unsigned turns, unsigned more);
 
 /* Document 01's example, run as a tape. */
 void show_tape(void);

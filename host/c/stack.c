@@ -15,14 +15,16 @@ static uint32_t pool[NODES * SPLITTER_NODE_WORDS], work[NODES], values[SPLITTER_
 static const struct splitter_lent lent = {&state, pool, NODES * SPLITTER_NODE_WORDS, work, NODES};
 static uint8_t tape[RECORDS * SPLITTER_RECORD_BYTES];
 static uint32_t answers[2 * RECORDS];
+static uint8_t image[SPLITTER_IMAGE_BYTES(NODES)];
+static uint32_t saved, loaded; /* what the calls answered */
 static unsigned char stack[1 << 17];
 
 static void start(void) {
     splitter_lent_start(&lent, 2, values, SPLITTER_MAX_SPLITTERS);
 }
 
-/* Down to the deepest frame, a write in each; a steal and a sync; then all the way back. */
-static void steps(void) {
+/* Down to the deepest frame, a write in each; a steal and a sync. */
+static void steps_down(void) {
     for (unsigned i = 1; i < FRAMES; i++) {
         splitter_spawn(&lent, 0);
         splitter_write(&lent, 0, SPLITTER_MAX_SPLITTERS - i, i);
@@ -30,9 +32,21 @@ static void steps(void) {
     }
     splitter_steal(&lent, 1, 0);
     splitter_sync(&lent, 1);
+}
+
+/* All the way back. */
+static void steps_up(void) {
     for (unsigned i = 0; i < FRAMES; i++) {
         splitter_return(&lent, 0);
     }
+}
+
+static void save(void) {
+    saved = splitter_lent_save(&lent, image, sizeof image);
+}
+
+static void load(void) {
+    loaded = splitter_lent_load(&lent, image, sizeof image);
 }
 
 static void tapes(void) {
@@ -79,15 +93,30 @@ static void check_end(void) {
     }
 }
 
+static size_t larger(size_t a, size_t b) {
+    return a > b ? a : b;
+}
+
+/* Saved and read back with all frames live; the run goes on from the image. */
+static void check_image(void) {
+    if (saved != SPLITTER_OK || loaded != SPLITTER_OK) {
+        printf("surprise: the save answered %u, the load %u\n", saved, loaded);
+        exit(1);
+    }
+}
+
 int main(void) {
     write_tape();
-    size_t starts = stack_of(start), stepped = stack_of(steps);
+    size_t starts = stack_of(start), stepped = stack_of(steps_down);
+    size_t saves = stack_of(save), loads = stack_of(load);
+    check_image();
+    stepped = larger(stepped, stack_of(steps_up));
     check_end();
     start();
     size_t taped = stack_of(tapes);
     check_end();
-    printf("stack: a start takes %zu bytes, a step %zu, a tape %zu\n", starts, stepped, taped);
-    if (starts > SPLITTER_STACK_BYTES || stepped > SPLITTER_STACK_BYTES || taped > SPLITTER_STACK_BYTES) {
+    printf("stack: a start takes %zu bytes, a step %zu, a tape %zu, a save %zu, a load %zu\n", starts, stepped, taped, saves, loads);
+    if (larger(larger(starts, stepped), larger(taped, larger(saves, loads))) > SPLITTER_STACK_BYTES) {
         printf("surprise: splitter.h promises at most %u\n", SPLITTER_STACK_BYTES);
         return 1;
     }

@@ -2,7 +2,7 @@
  *
  * Beyond the answers: words around the state, past each other slice and past the last whole node never change; the work slice is zero
  * after each call; a refused call or step leaves state and pool as they were; a pool with a wrong count of holders is refused, and so is a
- * part of the state with another length. */
+ * part of the state with another length. Runs are saved and read back into garbage, and go on as the plain machine of that moment does. */
 #include <stdio.h>
 #include <stdlib.h>
 #include <string.h>
@@ -22,6 +22,9 @@ static struct splitter_state old_state;
 static uint32_t pool[NODES * SPLITTER_NODE_WORDS + GUARD], old_pool[NODES * SPLITTER_NODE_WORDS];
 static uint32_t work[NODES + GUARD], answers[2 * RECORDS + GUARD], values[SPLITTER_MAX_SPLITTERS];
 static struct checked run;
+static uint8_t image[SPLITTER_IMAGE_BYTES(NODES) + GUARD], spare[SPLITTER_IMAGE_BYTES(NODES)];
+static size_t image_len;         /* of the run's last save, or 0 */
+static struct plain saved_plain; /* the plain machine of that moment */
 static unsigned long counts[SPLITTER_WRITTEN + 1]; /* by first answer word */
 
 static uint32_t seed;
@@ -154,7 +157,74 @@ static void stress_short_work(void) {
     stress_refused(&lent, SPLITTER_SHORT_WORK);
 }
 
-/* The three calls over parts of these lengths, one of them wrong; other refusals' conditions may hold as well. */
+/* State and pool are only read; the bytes past the image stay. */
+static void stress_save(void) {
+    image_len = (size_t)splitter_image_bytes(run.plain.nodes);
+    memset(image, 0x5a, sizeof image);
+    soil_work();
+    remember();
+    same("save", splitter_lent_save(&run.lent, image, image_len + any(GUARD + 1)), SPLITTER_OK);
+    check_unchanged();
+    for (unsigned i = 0; i < GUARD; i++) {
+        same("byte past the image", image[image_len + i], 0x5a);
+    }
+    saved_plain = run.plain;
+}
+
+/* Whatever state and pool hold, the run is the saved one again. */
+static void stress_load(void) {
+    memset(state, 0xa5, sizeof *state);
+    memset(pool, 0xa5, run.plain.nodes * SPLITTER_NODE_WORDS * sizeof pool[0]);
+    soil_work();
+    same("load", splitter_lent_load(&run.lent, image, image_len), SPLITTER_OK);
+    run.plain = saved_plain;
+}
+
+/* A bit of the image or of its length is wrong: a state of zeros, and the pool as it was. Then the right image. */
+static void stress_bad_image(void) {
+    static const struct splitter_state zeros;
+    size_t len = image_len;
+    remember();
+    memcpy(spare, image, image_len);
+    if (any(2) == 0) {
+        len = any((uint32_t)image_len);
+    } else {
+        spare[SPLITTER_BLOCK_BYTES + any((uint32_t)image_len - SPLITTER_BLOCK_BYTES)] ^= (uint8_t)(1u << any(8));
+    }
+    uint32_t wanted = len < image_len ? SPLITTER_BAD_BLOCKS : SPLITTER_BAD_CHECK;
+    same("bad image", splitter_lent_load(&run.lent, spare, len), wanted);
+    if (memcmp(state, &zeros, sizeof zeros) != 0) {
+        surprise("a refused reading left a state");
+    }
+    old_state = zeros;
+    check_unchanged();
+    counts[wanted] += 1;
+    stress_load();
+}
+
+static void stress_short_target(void) {
+    size_t len = any((uint32_t)splitter_image_bytes(run.plain.nodes));
+    memset(spare, 0x5a, sizeof spare);
+    soil_work();
+    remember();
+    same("short target", splitter_lent_save(&run.lent, spare, len), SPLITTER_SHORT_TARGET);
+    check_unchanged();
+    for (size_t i = 0; i < sizeof spare; i++) {
+        same("byte of a target too short", spare[i], 0x5a);
+    }
+    counts[SPLITTER_SHORT_TARGET] += 1;
+}
+
+static void stress_image(void) {
+    switch (image_len == 0 ? 0 : any(4)) {
+    case 0: stress_save(); break;
+    case 1: stress_load(); break;
+    case 2: stress_bad_image(); break;
+    default: stress_short_target(); break;
+    }
+}
+
+/* The five calls over parts of these lengths, one of them wrong; other refusals' conditions may hold as well. */
 static void call_bad_state(uint32_t *const parts[3], const size_t lengths[3]) {
     const uint8_t tape[SPLITTER_RECORD_BYTES] = {0};
     uint32_t words[2] = {GUARD_WORD, GUARD_WORD};
@@ -166,10 +236,14 @@ static void call_bad_state(uint32_t *const parts[3], const size_t lengths[3]) {
                                lent->work, any(2), s.kind, s.worker, s.field, s.value), SPLITTER_BAD_STATE);
     same("tape", splitter_tape(parts[0], lengths[0], parts[1], lengths[1], parts[2], lengths[2], lent->pool, lent->pool_len,
                                lent->work, any(2), tape, 7 + any(2), words, any(3)), SPLITTER_BAD_STATE);
+    same("save", splitter_save(parts[0], lengths[0], parts[1], lengths[1], parts[2], lengths[2], lent->pool, lent->pool_len,
+                               lent->work, any(2), image, any(2)), SPLITTER_BAD_STATE);
+    same("load", splitter_load(parts[0], lengths[0], parts[1], lengths[1], parts[2], lengths[2], lent->pool, lent->pool_len,
+                               lent->work, any(2), image, image_len - any(2) * (image_len > 0)), SPLITTER_BAD_STATE);
     if (words[0] != GUARD_WORD || words[1] != GUARD_WORD) {
         surprise("a refused tape changed its answers");
     }
-    counts[SPLITTER_BAD_STATE] += 3;
+    counts[SPLITTER_BAD_STATE] += 5;
 }
 
 /* Any other length of a part, shorter or longer: nothing changes. */
@@ -201,6 +275,7 @@ static void stress_call(void) {
     case 2: stress_bad_state(); break;
     case 3:
     case 4: stress_tape(); break;
+    case 5: stress_image(); break;
     default: stress_step(); break;
     }
 }
@@ -216,6 +291,7 @@ static void stress_run(void) {
         values[i] = any(5);
     }
     memset(work, 0, sizeof work);
+    image_len = 0;
     guard(guarded.before);
     guard(guarded.after);
     guard(pool + nodes * SPLITTER_NODE_WORDS);
@@ -241,7 +317,7 @@ static unsigned long argument(const char *text) {
 static unsigned long count_answers(void) {
     unsigned long sum = 0;
     for (uint32_t kind = SPLITTER_SHORT_WORK; kind <= SPLITTER_WRITTEN; kind++) {
-        int comes = kind <= SPLITTER_POOL_FULL || kind == SPLITTER_BAD_STATE || kind >= SPLITTER_SPAWNED;
+        int comes = kind <= SPLITTER_SHORT_TARGET || kind == SPLITTER_BAD_STATE || kind >= SPLITTER_SPAWNED;
         if (comes && counts[kind] == 0) {
             printf("never answered: %u (%s)\n", kind, splitter_name(kind));
             exit(1);

@@ -10,12 +10,19 @@
  *   pool      SPLITTER_NODE_WORDS words for each node, T(n) to SPLITTER_MAX_NODES nodes: splitter_tree_nodes(n) gives T(n).
  *   work      a word for each node of the pool, for the check of state and pool; the words are zero afterwards.
  *   answers   two words for each record of a tape.
+ *   target    the bytes of an image, to save a run in: splitter_image_bytes(nodes), SPLITTER_IMAGE_BYTES(nodes) for an array.
  *
- * Order of calls: splitter_start, then any of splitter_step and splitter_tape, each with the state and the pool as the call before left
- * them. Every call checks what it is handed: state and pool that are not sound are refused (SPLITTER_UNSOUND), not used. A foreign
- * change that leaves them sound, such as another value in a leaf, cannot be seen.
+ * Order of calls: splitter_start or splitter_load, then any of splitter_step, splitter_tape and splitter_save, each with the state and the
+ * pool as the call before left them. Every call checks what it is handed: state and pool that are not sound are refused
+ * (SPLITTER_UNSOUND), not used. A foreign change that leaves them sound, such as another value in a leaf, cannot be seen.
  *
- * The four functions are the library. Below them are inline helpers: the same calls over struct splitter_state and over struct
+ * An image is a whole run between two calls: its state and its pool's nodes, the same bytes on every machine. splitter_load goes on from
+ * it, in another process or on another day, as at the save; what came after the save is forgotten. The host's own part of the search is
+ * not in it. Each block has a check, a sum: it finds a changed byte, but not blocks that changed places, nor words that did within a
+ * block. Such an image is read if it is sound. A host that needs more keeps a sequence number and a CRC of its own around the image
+ * (docs/INTEGRATION.md, host/c/kept.c).
+ *
+ * The seven functions are the library. Below them are inline helpers: the same calls over struct splitter_state and over struct
  * splitter_lent, a call for each kind of step, records, texts. A host needs no others than those over struct splitter_lent.
  */
 #ifndef SPLITTER_H
@@ -37,7 +44,15 @@ extern "C" {
 #define SPLITTER_MAX_WORKERS 8u
 #define SPLITTER_MAX_FRAMES 64u
 #define SPLITTER_RECORD_BYTES 8u
+#define SPLITTER_BLOCK_BYTES 512u  /* of an image: data, then a check of 4 bytes */
+#define SPLITTER_BLOCK_WORDS 127u  /* of a block's data */
 #define SPLITTER_STACK_BYTES 2048u /* a call takes at most this much stack, on x86-64; measured (host/c/stack.c) */
+
+/* splitter_image_bytes as a constant, to size an array: for 0 to SPLITTER_MAX_NODES nodes. */
+#define SPLITTER_STATE_WORDS (SPLITTER_NUMBERS_WORDS + SPLITTER_DEQUES_WORDS + SPLITTER_FRAMES_WORDS)
+#define SPLITTER_IMAGE_WORDS(nodes) (SPLITTER_STATE_WORDS + SPLITTER_NODE_WORDS * (size_t)(nodes))
+#define SPLITTER_IMAGE_BYTES(nodes) \
+    ((SPLITTER_IMAGE_WORDS(nodes) + SPLITTER_BLOCK_WORDS - 1u) / SPLITTER_BLOCK_WORDS * SPLITTER_BLOCK_BYTES)
 
 /* The state of a run. The calls write it; a host may read and copy it. */
 struct splitter_state {
@@ -90,15 +105,15 @@ enum {
     SPLITTER_SUSPENDED = 1 /* the frame waits for its children; its worker is idle */
 };
 
-/* Refusals. Of a whole call: nothing has changed but the work slice's words (zero), and after a start refused by 1, 2 or 3 the state
- * (zeros). */
+/* Refusals. Of a whole call: nothing has changed but the work slice's words (zero), the state after a start refused by 1, 2 or 3 and after
+ * a reading refused by 17, 18, 5 or 6 (zeros), and the pool's whole nodes after a reading refused by 6 (zeros). */
 enum {
     SPLITTER_NO_VALUES = 1,  /* start: 0 or more than 256 initial values */
     SPLITTER_NO_WORKERS = 2, /* start: 0 or more than 8 workers */
     SPLITTER_NO_NODES = 3,   /* start: the pool has fewer than T(n) or more than 16,384 nodes */
     SPLITTER_BAD_TAPE = 4,   /* tape: not a multiple of 8 bytes, or fewer than two answer words for each record */
-    SPLITTER_SHORT_WORK = 5, /* the work slice has fewer words than the state's nodes */
-    SPLITTER_UNSOUND = 6,    /* state and pool are not sound */
+    SPLITTER_SHORT_WORK = 5, /* the work slice has fewer words than the state's nodes, or than the image's */
+    SPLITTER_UNSOUND = 6,    /* state and pool are not sound, or the image's are not; a reading: the pool has fewer nodes than the image */
     /* Of one step or record: state and pool are as they were. */
     SPLITTER_BAD_RECORD = 7,    /* the kind is not 1 to 6, or an unused field is not zero */
     SPLITTER_NO_WORKER = 8,     /* the worker does not exist */
@@ -110,6 +125,10 @@ enum {
     SPLITTER_CHILD_LIVES = 14,  /* a return, and the frame has a live child */
     SPLITTER_NO_SPLITTER = 15,  /* a read or write, and the splitter is not below n */
     SPLITTER_POOL_FULL = 16,    /* a write, and fewer than H + 1 nodes are free */
+    /* Of a reading, before 5 and 6, and of a save, after 6. */
+    SPLITTER_BAD_BLOCKS = 17,   /* the image is not just as many whole blocks as its first block calls for, or has no whole block */
+    SPLITTER_BAD_CHECK = 18,    /* a check is wrong or the rest of the last block is not zero */
+    SPLITTER_SHORT_TARGET = 19, /* the target is too short */
     /* Of the interface, before all others: a part of the state has another length than it must have; nothing at all has changed. */
     SPLITTER_BAD_STATE = 99
 };
@@ -130,6 +149,21 @@ uint32_t splitter_tape(uint32_t *numbers, size_t numbers_len, uint32_t *deques, 
                        uint32_t *pool, size_t pool_len, uint32_t *work, size_t work_len,
                        const uint8_t *tape, size_t tape_len, uint32_t *answers, size_t answers_len);
 
+/* Saves the run: its image in the front of the target. State and pool are only read. SPLITTER_OK, or a refusal: 99, 5, 6, 19; then nothing
+ * has changed but the work slice. Target bytes past the image never change. */
+uint32_t splitter_save(const uint32_t *numbers, size_t numbers_len, const uint32_t *deques, size_t deques_len,
+                       const uint32_t *frames, size_t frames_len, const uint32_t *pool, size_t pool_len, uint32_t *work, size_t work_len,
+                       uint8_t *target, size_t target_len);
+
+/* Reads an image of just image_len bytes, whatever state and pool hold before. SPLITTER_OK, and the run goes on as at its save, or a
+ * refusal: 99, 17, 18, 5, 6. Refused by 99 nothing has changed. Refused by another, the three parts of the state are zero, and by 6
+ * every whole node of the pool too. The pool may be longer than the image's nodes: pool words past these never change but by 6. */
+uint32_t splitter_load(uint32_t *numbers, size_t numbers_len, uint32_t *deques, size_t deques_len, uint32_t *frames, size_t frames_len,
+                       uint32_t *pool, size_t pool_len, uint32_t *work, size_t work_len, const uint8_t *image, size_t image_len);
+
+/* The bytes of an image of so many nodes, for any number of them: whole blocks. */
+uint64_t splitter_image_bytes(uint32_t nodes);
+
 /* T(n): the nodes that one full view of n splitters takes, the least that a pool can have. The sum over the tree's levels for any n, 0 for 0;
  * a start takes 1 to SPLITTER_MAX_SPLITTERS splitters. */
 uint64_t splitter_tree_nodes(uint32_t n);
@@ -148,7 +182,7 @@ static inline uint64_t splitter_answer(uint32_t kind, uint32_t number) {
     return (uint64_t)number << 32 | kind;
 }
 
-/* The three calls over a whole state: SPLITTER_BAD_STATE never comes. */
+/* The calls over a whole state: SPLITTER_BAD_STATE never comes. */
 static inline uint32_t splitter_state_start(struct splitter_state *state, uint32_t workers, const uint32_t *values, size_t values_len,
                                             uint32_t *pool, size_t pool_len) {
     return splitter_start(state->numbers, SPLITTER_NUMBERS_WORDS, state->deques, SPLITTER_DEQUES_WORDS,
@@ -167,6 +201,18 @@ static inline uint32_t splitter_state_tape(struct splitter_state *state, uint32_
                          state->frames, SPLITTER_FRAMES_WORDS, pool, pool_len, work, work_len, tape, tape_len, answers, answers_len);
 }
 
+static inline uint32_t splitter_state_save(const struct splitter_state *state, const uint32_t *pool, size_t pool_len,
+                                           uint32_t *work, size_t work_len, uint8_t *target, size_t target_len) {
+    return splitter_save(state->numbers, SPLITTER_NUMBERS_WORDS, state->deques, SPLITTER_DEQUES_WORDS,
+                         state->frames, SPLITTER_FRAMES_WORDS, pool, pool_len, work, work_len, target, target_len);
+}
+
+static inline uint32_t splitter_state_load(struct splitter_state *state, uint32_t *pool, size_t pool_len, uint32_t *work, size_t work_len,
+                                           const uint8_t *image, size_t image_len) {
+    return splitter_load(state->numbers, SPLITTER_NUMBERS_WORDS, state->deques, SPLITTER_DEQUES_WORDS,
+                         state->frames, SPLITTER_FRAMES_WORDS, pool, pool_len, work, work_len, image, image_len);
+}
+
 /* What a host lends to every call of a run: lengths are in words. */
 struct splitter_lent {
     struct splitter_state *state;
@@ -176,7 +222,7 @@ struct splitter_lent {
     size_t work_len;
 };
 
-/* The three calls over lent memory, then one for each kind of step. */
+/* The calls over lent memory, then one for each kind of step. */
 static inline uint32_t splitter_lent_start(const struct splitter_lent *lent, uint32_t workers, const uint32_t *values, size_t values_len) {
     return splitter_state_start(lent->state, workers, values, values_len, lent->pool, lent->pool_len);
 }
@@ -190,6 +236,14 @@ static inline uint32_t splitter_lent_tape(const struct splitter_lent *lent, cons
                                           uint32_t *answers, size_t answers_len) {
     return splitter_state_tape(lent->state, lent->pool, lent->pool_len, lent->work, lent->work_len,
                                tape, tape_len, answers, answers_len);
+}
+
+static inline uint32_t splitter_lent_save(const struct splitter_lent *lent, uint8_t *target, size_t target_len) {
+    return splitter_state_save(lent->state, lent->pool, lent->pool_len, lent->work, lent->work_len, target, target_len);
+}
+
+static inline uint32_t splitter_lent_load(const struct splitter_lent *lent, const uint8_t *image, size_t image_len) {
+    return splitter_state_load(lent->state, lent->pool, lent->pool_len, lent->work, lent->work_len, image, image_len);
 }
 
 static inline uint64_t splitter_spawn(const struct splitter_lent *lent, uint32_t worker) {
@@ -255,6 +309,9 @@ static inline const char *splitter_name(uint32_t number) {
     case SPLITTER_CHILD_LIVES: return "the frame has a live child";
     case SPLITTER_NO_SPLITTER: return "no such splitter";
     case SPLITTER_POOL_FULL: return "too few free nodes";
+    case SPLITTER_BAD_BLOCKS: return "the image is not just as many whole blocks as it calls for";
+    case SPLITTER_BAD_CHECK: return "a check is wrong or the rest of the last block is not zero";
+    case SPLITTER_SHORT_TARGET: return "the target is too short";
     case SPLITTER_BAD_STATE: return "a part of the state has another length than it must have";
     default: return "unknown number";
     }

@@ -29,38 +29,40 @@ static uint32_t word(FILE *file)
     return value;
 }
 
-/* The tape's bytes, from as many words. */
-static uint8_t *narrow(const uint32_t *words, size_t length)
-{
-    uint8_t *bytes = malloc(length);
-    for (size_t i = 0; bytes && i < length; i++)
-        bytes[i] = (uint8_t)words[i];
-    return bytes;
-}
-
 /* One call, its entry already read. */
 static void call(FILE *file, uint32_t entry, unsigned long number)
 {
     uint32_t *argument = block(file, 4 * sizeof *argument), *result = block(file, 2 * sizeof *result);
-    size_t inputs = word(file), length[SLICES];
-    uint32_t *input = block(file, inputs * 4), *slice[SLICES], *after[SLICES];
+    size_t values = word(file);
+    uint32_t *value = block(file, values * 4);
+    size_t bytes = word(file);
+    uint8_t *byte = block(file, bytes), *byte_after = block(file, bytes);
+    size_t length[SLICES];
+    uint32_t *slice[SLICES], *after[SLICES];
     for (int i = 0; i < SLICES; i++) {
         length[i] = word(file);
         slice[i] = block(file, length[i] * 4);
         after[i] = block(file, length[i] * 4);
     }
-    uint8_t *bytes = narrow(input, inputs);
     uint64_t got = 0;
     if (entry == 1)
         got = splitter_start(slice[NUMBERS], length[NUMBERS], slice[DEQUES], length[DEQUES], slice[FRAMES], length[FRAMES],
-                             argument[0], input, inputs, slice[POOL], length[POOL]);
+                             argument[0], value, values, slice[POOL], length[POOL]);
     else if (entry == 2)
         got = splitter_step(slice[NUMBERS], length[NUMBERS], slice[DEQUES], length[DEQUES], slice[FRAMES], length[FRAMES],
                             slice[POOL], length[POOL], slice[WORK], length[WORK],
                             argument[0], argument[1], argument[2], argument[3]);
-    else
+    else if (entry == 3)
         got = splitter_tape(slice[NUMBERS], length[NUMBERS], slice[DEQUES], length[DEQUES], slice[FRAMES], length[FRAMES],
-                            slice[POOL], length[POOL], slice[WORK], length[WORK], bytes, inputs, slice[ANSWERS], length[ANSWERS]);
+                            slice[POOL], length[POOL], slice[WORK], length[WORK], byte, bytes, slice[ANSWERS], length[ANSWERS]);
+    else if (entry == 4)
+        got = splitter_save(slice[NUMBERS], length[NUMBERS], slice[DEQUES], length[DEQUES], slice[FRAMES], length[FRAMES],
+                            slice[POOL], length[POOL], slice[WORK], length[WORK], byte, bytes);
+    else if (entry == 5)
+        got = splitter_load(slice[NUMBERS], length[NUMBERS], slice[DEQUES], length[DEQUES], slice[FRAMES], length[FRAMES],
+                            slice[POOL], length[POOL], slice[WORK], length[WORK], byte, bytes);
+    else
+        stop("no such entry", number);
     if ((uint32_t)got != result[0] || (uint32_t)(got >> 32) != result[1])
         stop("another result", number);
     for (int i = 0; i < SLICES; i++) {
@@ -69,8 +71,11 @@ static void call(FILE *file, uint32_t entry, unsigned long number)
         free(slice[i]);
         free(after[i]);
     }
-    free(bytes);
-    free(input);
+    if (memcmp(byte, byte_after, bytes))
+        stop("another byte", number);
+    free(byte);
+    free(byte_after);
+    free(value);
     free(argument);
     free(result);
 }

@@ -1,9 +1,9 @@
-"""The commands of tape.py. Exit codes: 0 well, 1 splitrun differs from the plain machine, 2 cannot be done."""
+"""The commands of tape.py. Exit codes: 0 well, 1 splitrun differs from the plain machine or an image would be refused, 2 cannot be done."""
 import argparse
 import subprocess
 import sys
 
-from . import draw, explain, machine, script
+from . import draw, explain, image, machine, script
 
 DEFAULT = "target/bin/splitrun"
 
@@ -92,6 +92,30 @@ def do_compare(arguments):
     return 0
 
 
+def read_image(path):
+    """The bytes of the file at path (- is standard input)."""
+    try:
+        if path == "-":
+            data = sys.stdin.buffer.read(image.LARGEST + 1)
+        else:
+            with open(path, "rb") as file:
+                data = file.read(image.LARGEST + 1)
+    except OSError as error:
+        raise Trouble(f"{path}: {error.strerror or error}") from None
+    if not data:
+        raise Trouble(f"{path}: empty; an image has at least {image.called_for(1)} blocks of {image.BLOCK} bytes")
+    if len(data) > image.LARGEST:
+        largest = image.called_for(16384) * image.BLOCK
+        raise Trouble(f"{path}: more than {image.LARGEST} bytes; an image of 16,384 nodes, the most, has {largest}")
+    return data
+
+
+def do_image(arguments):
+    text, taken = image.described(arguments.image, read_image(arguments.image))
+    sys.stdout.write(text)
+    return 0 if taken else 1
+
+
 def parser():
     top = argparse.ArgumentParser(prog="tape.py", description="Tapes for splitrun; see docs/TAPES.md.")
     commands = top.add_subparsers(dest="command", required=True)
@@ -101,10 +125,13 @@ def parser():
         ("run", do_run, "run splitrun on a script and explain each answer"),
         ("draw", do_draw, "run splitrun on a script and draw the run as SVG"),
         ("compare-note-b", do_compare, "a script by document 01's rule and by note B's"),
+        ("image", do_image, "a saved image in words, and whether a reading would take it"),
     ):
         command = commands.add_parser(name, help=words, description=words)
         command.set_defaults(action=action)
-        if name != "decode":
+        if name == "image":
+            command.add_argument("image", help="the image's file, - for standard input")
+        elif name != "decode":
             command.add_argument("script", help="the script's file, - for standard input")
         if name in ("run", "draw"):
             command.add_argument("--splitrun", default=DEFAULT, help=f"the program (default {DEFAULT})")

@@ -48,9 +48,10 @@ pub enum Refusal {
     NoNodes,
     /// A tape that is not a multiple of 8 bytes, or fewer than two answer words for each record.
     BadTape,
-    /// Fewer words in the work slice than nodes in the state.
+    /// Fewer words in the work slice than nodes in the state or the image.
     ShortWork,
-    /// State and pool are not sound: somebody else wrote to them, or there was no start.
+    /// State and pool are not sound: somebody else wrote to them, or there was no start. Of a reading: the
+    /// image's are not, or the pool has fewer nodes than the image.
     Unsound,
     /// A record whose kind is not 1 to 6, or with an unused field that is not zero. No
     /// [`Step`](crate::Step) makes one.
@@ -73,6 +74,12 @@ pub enum Refusal {
     NoSplitter,
     /// A write while fewer than H + 1 nodes are free.
     PoolFull,
+    /// An image that is not just as many whole blocks as its first block calls for, or has no whole block.
+    BadBlocks,
+    /// An image with a wrong check, or with a rest of its last block that is not zero.
+    BadCheck,
+    /// A target shorter than the image.
+    ShortTarget,
     /// A part of the state has another length than it must have. No [`State`](crate::State) has such
     /// a part.
     BadState,
@@ -84,7 +91,7 @@ pub enum Refusal {
 pub type Answer = Result<Done, Refusal>;
 
 /// The known refusals, with their numbers and texts.
-const REFUSALS: [(Refusal, u32, &str); 17] = [
+const REFUSALS: [(Refusal, u32, &str); 20] = [
     (Refusal::NoValues, 1, "0 or more than 256 initial values"),
     (Refusal::NoWorkers, 2, "0 or more than 8 workers"),
     (Refusal::NoNodes, 3, "too few or too many nodes in the pool"),
@@ -101,6 +108,9 @@ const REFUSALS: [(Refusal, u32, &str); 17] = [
     (Refusal::ChildLives, 14, "the frame has a live child"),
     (Refusal::NoSplitter, 15, "no such splitter"),
     (Refusal::PoolFull, 16, "too few free nodes"),
+    (Refusal::BadBlocks, 17, "the image is not just as many whole blocks as it calls for"),
+    (Refusal::BadCheck, 18, "a check is wrong or the rest of the last block is not zero"),
+    (Refusal::ShortTarget, 19, "the target is too short"),
     (Refusal::BadState, 99, "a part of the state has another length than it must have"),
 ];
 

@@ -20,6 +20,25 @@
 //! assert_eq!(engine.read(0, 4)?, 99); // and reads its own value
 //! # Ok::<(), splitter::Refusal>(())
 //! ```
+//!
+//! A run can be saved as an image and read back, in another process too:
+//!
+//! ```
+//! use splitter::{image_array_bytes, Engine, State, NODE_WORDS};
+//!
+//! let mut image = [0; image_array_bytes(20)];
+//! let (mut state, mut pool, mut work) = (State::ZERO, [0; 20 * NODE_WORDS], [0; 20]);
+//! let mut engine = Engine { state: &mut state, pool: &mut pool, work: &mut work };
+//! engine.start(2, &[10, 20, 30, 40, 50])?;
+//! engine.write(0, 4, 99)?;
+//! engine.save(&mut image)?;
+//!
+//! let (mut state, mut pool, mut work) = (State::ZERO, [7; 30 * NODE_WORDS], [7; 30]);
+//! let mut engine = Engine { state: &mut state, pool: &mut pool, work: &mut work };
+//! engine.load(&image)?; // whatever the memory held
+//! assert_eq!(engine.read(0, 4)?, 99);
+//! # Ok::<(), splitter::Refusal>(())
+//! ```
 #![no_std]
 #![deny(unsafe_code)]
 
@@ -48,6 +67,22 @@ pub const MAX_SPLITTERS: usize = 256;
 pub const MAX_WORKERS: usize = 8;
 /// The most live frames.
 pub const MAX_FRAMES: usize = 64;
+
+/// The bytes of a block of an image.
+pub const BLOCK_BYTES: usize = 512;
+/// The words of a block's data; its check follows them.
+pub const BLOCK_WORDS: usize = 127;
+
+/// The bytes of an image of so many nodes, whole blocks.
+pub fn image_bytes(nodes: u32) -> u64 {
+    raw::image_bytes(nodes)
+}
+
+/// The same as a constant, to size an array: for 0 to [`MAX_NODES`] nodes.
+pub const fn image_array_bytes(nodes: usize) -> usize {
+    let words = NUMBERS_WORDS + DEQUES_WORDS + FRAMES_WORDS + NODE_WORDS * nodes;
+    words.div_ceil(BLOCK_WORDS) * BLOCK_BYTES
+}
 
 /// T(n): the nodes that one full view of n splitters takes, the least that a pool can have.
 pub fn tree_nodes(n: u32) -> u64 {
@@ -130,6 +165,19 @@ impl Engine<'_> {
     /// refused record does not stop the tape.
     pub fn tape(&mut self, tape: &[u8], answers: &mut [u32]) -> Result<(), Refusal> {
         call(raw::tape(self.state.parts(), self.pool, self.work, tape, answers))
+    }
+
+    /// Saves the run: its image, [`image_bytes`] of its nodes, in the front of the target. The bytes past
+    /// it never change, and none if the save is refused.
+    pub fn save(&mut self, target: &mut [u8]) -> Result<(), Refusal> {
+        call(raw::save(self.state.parts(), self.pool, self.work, target))
+    }
+
+    /// Goes on with a saved run as it was at its save, whatever the lent memory holds. The image is just its
+    /// bytes; the pool may be longer than its nodes. A refused reading leaves [`State::ZERO`], by
+    /// [`Refusal::Unsound`] every whole node of the pool zero as well.
+    pub fn load(&mut self, image: &[u8]) -> Result<(), Refusal> {
+        call(raw::load(self.state.parts(), self.pool, self.work, image))
     }
 }
 

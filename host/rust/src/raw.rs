@@ -1,4 +1,4 @@
-//! The library's four functions, over slices of any length and with their numbers: for tests and
+//! The library's seven functions, over slices of any length and with their numbers: for tests and
 //! measurements. A product needs only [`Engine`](crate::Engine). The C functions are declared here and
 //! nowhere else in Rust.
 //!
@@ -55,6 +55,38 @@ mod c {
             answers: *mut u32,
             answers_len: usize,
         ) -> u32;
+
+        pub fn splitter_save(
+            numbers: *const u32,
+            numbers_len: usize,
+            deques: *const u32,
+            deques_len: usize,
+            frames: *const u32,
+            frames_len: usize,
+            pool: *const u32,
+            pool_len: usize,
+            work: *mut u32,
+            work_len: usize,
+            target: *mut u8,
+            target_len: usize,
+        ) -> u32;
+
+        pub fn splitter_load(
+            numbers: *mut u32,
+            numbers_len: usize,
+            deques: *mut u32,
+            deques_len: usize,
+            frames: *mut u32,
+            frames_len: usize,
+            pool: *mut u32,
+            pool_len: usize,
+            work: *mut u32,
+            work_len: usize,
+            image: *const u8,
+            image_len: usize,
+        ) -> u32;
+
+        pub fn splitter_image_bytes(nodes: u32) -> u64;
 
         pub fn splitter_tree_nodes(n: u32) -> u64;
     }
@@ -134,6 +166,54 @@ pub fn tape(state: Parts, pool: &mut [u32], work: &mut [u32], tape: &[u8], answe
             answers.len(),
         )
     }
+}
+
+/// 0, with the image in the front of the target, or a refusal.
+pub fn save(state: Parts, pool: &[u32], work: &mut [u32], target: &mut [u8]) -> u32 {
+    // SAFETY: each pointer and length is a borrowed slice's.
+    unsafe {
+        c::splitter_save(
+            state.numbers.as_ptr(),
+            state.numbers.len(),
+            state.deques.as_ptr(),
+            state.deques.len(),
+            state.frames.as_ptr(),
+            state.frames.len(),
+            pool.as_ptr(),
+            pool.len(),
+            work.as_mut_ptr(),
+            work.len(),
+            target.as_mut_ptr(),
+            target.len(),
+        )
+    }
+}
+
+/// 0, with the image's state and pool, or a refusal.
+pub fn load(state: Parts, pool: &mut [u32], work: &mut [u32], image: &[u8]) -> u32 {
+    // SAFETY: each pointer and length is a borrowed slice's.
+    unsafe {
+        c::splitter_load(
+            state.numbers.as_mut_ptr(),
+            state.numbers.len(),
+            state.deques.as_mut_ptr(),
+            state.deques.len(),
+            state.frames.as_mut_ptr(),
+            state.frames.len(),
+            pool.as_mut_ptr(),
+            pool.len(),
+            work.as_mut_ptr(),
+            work.len(),
+            image.as_ptr(),
+            image.len(),
+        )
+    }
+}
+
+/// The bytes of an image of so many nodes, any number.
+pub fn image_bytes(nodes: u32) -> u64 {
+    // SAFETY: the function takes and gives numbers only.
+    unsafe { c::splitter_image_bytes(nodes) }
 }
 
 /// T(n), for any n.

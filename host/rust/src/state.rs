@@ -14,7 +14,7 @@ pub struct State {
 }
 
 impl State {
-    /// Zeros: what there is before a start, and after a refused one.
+    /// Zeros: what there is before a start, after a refused one and after a refused reading.
     pub const ZERO: State = State { numbers: [0; NUMBERS_WORDS], deques: [0; DEQUES_WORDS], frames: [0; FRAMES_WORDS] };
 
     /// The parts to lend.

@@ -1,6 +1,7 @@
 //! The binding's numbers, and document 01's example through it.
 
 use splitter::{answer, answers, raw, tree_nodes, Done, Engine, Refusal, Returned, State, Step, Synced};
+use splitter::{image_array_bytes, image_bytes, BLOCK_BYTES, BLOCK_WORDS};
 use splitter::{DEQUES_WORDS, FRAMES_WORDS, NODE_WORDS, NUMBERS_WORDS};
 use splitter::{MAX_FRAMES, MAX_NODES, MAX_SPLITTERS, MAX_WORKERS};
 use std::mem::{offset_of, size_of};
@@ -9,7 +10,7 @@ use std::mem::{offset_of, size_of};
 fn refusals_keep_their_numbers() {
     for number in 0..200 {
         let refusal = Refusal::from_number(number);
-        let known = (1..=16).contains(&number) || number == 99;
+        let known = (1..=19).contains(&number) || number == 99;
         assert_eq!(refusal.number(), number);
         assert_eq!(refusal == Refusal::Unknown(number), !known);
         assert_eq!(refusal.to_string() == format!("unknown number {number}"), !known);
@@ -43,7 +44,7 @@ fn name_in_c(name: &str) -> String {
 
 #[test]
 fn the_header_has_the_same_refusals() {
-    for number in (1..=16).chain([99]) {
+    for number in (1..=19).chain([99]) {
         let refusal = Refusal::from_number(number);
         let name = format!("SPLITTER_{}", name_in_c(&format!("{refusal:?}")));
         let given = HEADER.split_once(&format!(" {name} = ")).expect(&name).1;
@@ -65,6 +66,8 @@ fn the_header_has_the_same_sizes() {
         ("MAX_WORKERS", MAX_WORKERS),
         ("MAX_FRAMES", MAX_FRAMES),
         ("RECORD_BYTES", Step::RECORD_BYTES),
+        ("BLOCK_BYTES", BLOCK_BYTES),
+        ("BLOCK_WORDS", BLOCK_WORDS),
     ] {
         assert!(HEADER.contains(&format!("#define SPLITTER_{name} {size}u")), "{name}");
     }
@@ -88,6 +91,14 @@ fn a_record_is_little_endian() {
 #[test]
 fn sizes_of_trees() {
     assert_eq!([1, 5, 256].map(tree_nodes), [1, 11, 511]);
+}
+
+#[test]
+fn sizes_of_images() {
+    assert_eq!(image_bytes(u32::MAX), 69_260_578_816);
+    for nodes in 0..=MAX_NODES {
+        assert_eq!(image_bytes(nodes as u32), image_array_bytes(nodes) as u64);
+    }
 }
 
 /// Document 01's example: its steps, and the answers that its lines show.
@@ -148,6 +159,40 @@ fn a_refused_start_leaves_zeros() {
     });
 }
 
+/// The example, saved before each step and read into other garbage: it goes on.
+#[test]
+fn the_example_saved_and_read_at_each_step() {
+    let mut image = [0; image_array_bytes(20) + 1];
+    with_example(|engine| engine.save(&mut image).expect("room for the image"));
+    for (step, answer) in EXAMPLE {
+        let (mut state, mut pool, mut work) = (State::ZERO, [7; 23 * NODE_WORDS + 1], [9; 21]);
+        let mut engine = Engine { state: &mut state, pool: &mut pool, work: &mut work };
+        engine.load(&image[..image_array_bytes(20)]).expect("an image as it was saved");
+        assert_eq!(engine.step(step), answer);
+        engine.save(&mut image).expect("room for the image");
+        assert!(pool[20 * NODE_WORDS..].iter().all(|word| *word == 7) && work[20] == 9);
+    }
+    assert_eq!(image[image_array_bytes(20)], 0);
+}
+
+#[test]
+fn what_refused_saves_and_readings_leave() {
+    with_example(|engine| {
+        let mut image = [5; image_array_bytes(20)];
+        let (old, short) = (engine.state.clone(), image.len() - 1);
+        assert_eq!(engine.save(&mut image[..short]), Err(Refusal::ShortTarget));
+        assert!(*engine.state == old && image == [5; image_array_bytes(20)]);
+        engine.save(&mut image).expect("room for the image");
+        let pool = engine.pool.to_vec();
+        assert_eq!(engine.load(&image[..short]), Err(Refusal::BadBlocks));
+        image[600] ^= 64;
+        assert_eq!(engine.load(&image), Err(Refusal::BadCheck));
+        assert!(*engine.state == State::ZERO && engine.pool == pool);
+        assert_eq!(engine.load(&[0; image_array_bytes(0)]), Err(Refusal::Unsound));
+        assert!(*engine.state == State::ZERO && engine.pool.iter().all(|word| *word == 0));
+    });
+}
+
 /// A part is cut short by a word; nothing changes.
 #[test]
 fn a_part_of_another_length_is_refused() {
@@ -163,6 +208,12 @@ fn a_part_of_another_length_is_refused() {
             cut(&mut parts);
             let words = raw::step(parts, engine.pool, engine.work, [1, 0, 0, 0]);
             assert_eq!(answer(words), Err(Refusal::BadState));
+            let mut parts = engine.state.parts();
+            cut(&mut parts);
+            assert_eq!(raw::save(parts, engine.pool, engine.work, &mut []), 99);
+            let mut parts = engine.state.parts();
+            cut(&mut parts);
+            assert_eq!(raw::load(parts, engine.pool, engine.work, &[]), 99);
             assert_eq!(*engine.state, old);
         }
         assert_eq!(engine.spawn(0), Ok(1));

@@ -1,5 +1,6 @@
 //! One call with all that is lent to it, made through the library or through plain.rs, and all that it leaves.
 
+use crate::image;
 use crate::lent::Lent;
 use crate::parts::Parts;
 use crate::plain;
@@ -14,6 +15,8 @@ pub enum Entry {
     Start { workers: u32, values: Vec<u32> },
     Step([u32; 4]),
     Tape { bytes: Vec<u8>, answers: Vec<u32> },
+    Save { target: Vec<u8> },
+    Load { image: Vec<u8> },
 }
 
 #[derive(Clone)]
@@ -24,7 +27,7 @@ pub struct Call {
     pub entry: Entry,
 }
 
-/// What a call leaves. The second word of the result is a step's; `input` is what was lent for reading only.
+/// What a call leaves. The second word of the result is a step's; `bytes` are the tape, the target or the image.
 #[derive(Clone, PartialEq)]
 pub struct Outcome {
     pub result: [u32; 2],
@@ -32,7 +35,8 @@ pub struct Outcome {
     pub pool: Vec<u32>,
     pub work: Vec<u32>,
     pub answers: Vec<u32>,
-    pub input: Vec<u32>,
+    pub values: Vec<u32>,
+    pub bytes: Vec<u8>,
 }
 
 impl Call {
@@ -44,7 +48,8 @@ impl Call {
             pool: self.pool.clone(),
             work: self.work.clone(),
             answers: self.answers().to_vec(),
-            input: self.input(),
+            values: self.values().to_vec(),
+            bytes: self.bytes().to_vec(),
         }
     }
 
@@ -55,12 +60,19 @@ impl Call {
         }
     }
 
-    /// Values or tape bytes, as words.
-    pub fn input(&self) -> Vec<u32> {
+    pub fn values(&self) -> &[u32] {
         match &self.entry {
-            Entry::Start { values, .. } => values.clone(),
-            Entry::Step(_) => Vec::new(),
-            Entry::Tape { bytes, .. } => words(bytes),
+            Entry::Start { values, .. } => values,
+            _ => &[],
+        }
+    }
+
+    pub fn bytes(&self) -> &[u8] {
+        match &self.entry {
+            Entry::Start { .. } | Entry::Step(_) => &[],
+            Entry::Tape { bytes, .. } => bytes,
+            Entry::Save { target } => target,
+            Entry::Load { image } => image,
         }
     }
 
@@ -82,6 +94,13 @@ impl Call {
             Entry::Tape { bytes, .. } => {
                 after.result[0] = plain::tape(&mut state, pool, work, bytes, &mut after.answers);
             }
+            Entry::Save { .. } => {
+                after.result[0] = image::save(&self.state, pool, work, &mut after.bytes);
+            }
+            Entry::Load { image } => {
+                after.result[0] = image::load(&mut after.state, pool, work, image);
+                return after;
+            }
         }
         after.state = Parts::of(&state);
         after
@@ -91,36 +110,23 @@ impl Call {
     pub fn by_library(&self, guard: usize) -> Option<Outcome> {
         let lend = |words: &[u32]| Lent::new(words, guard, 0x5AFE_C0DE);
         let [mut numbers, mut deques, mut frames] = self.state.each().map(|part| lend(part));
-        let state = raw::Parts {
-            numbers: numbers.slice(),
-            deques: deques.slice(),
-            frames: frames.slice(),
-        };
         let mut pool = lend(&self.pool);
         let mut work = lend(&self.work);
         let mut answers = lend(self.answers());
-        let (result, input) = match &self.entry {
-            Entry::Start { workers, values } => {
-                let mut values = lend(values);
-                let result = raw::start(state, *workers, values.slice(), pool.slice());
-                ([result, 0], values.back()?)
-            }
-            Entry::Step(step) => {
-                let result = raw::step(state, pool.slice(), work.slice(), *step);
-                (result, Vec::new())
-            }
-            Entry::Tape { bytes, .. } => {
-                let mut bytes = Lent::new(bytes, guard, 0xC5);
-                let result = raw::tape(
-                    state,
-                    pool.slice(),
-                    work.slice(),
-                    bytes.slice(),
-                    answers.slice(),
-                );
-                ([result, 0], words(&bytes.back()?))
-            }
-        };
+        let mut values = lend(self.values());
+        let mut bytes = Lent::new(self.bytes(), guard, 0xC5);
+        let result = self.enter(
+            raw::Parts {
+                numbers: numbers.slice(),
+                deques: deques.slice(),
+                frames: frames.slice(),
+            },
+            pool.slice(),
+            work.slice(),
+            answers.slice(),
+            values.slice(),
+            bytes.slice(),
+        );
         Some(Outcome {
             result,
             state: Parts {
@@ -131,17 +137,33 @@ impl Call {
             pool: pool.back()?,
             work: work.back()?,
             answers: answers.back()?,
-            input,
+            values: values.back()?,
+            bytes: bytes.back()?,
         })
+    }
+
+    /// The library's function, over what is lent; its result.
+    fn enter(
+        &self,
+        state: raw::Parts,
+        pool: &mut [u32],
+        work: &mut [u32],
+        answers: &mut [u32],
+        values: &[u32],
+        bytes: &mut [u8],
+    ) -> [u32; 2] {
+        match &self.entry {
+            Entry::Start { workers, .. } => [raw::start(state, *workers, values, pool), 0],
+            Entry::Step(step) => raw::step(state, pool, work, *step),
+            Entry::Tape { .. } => [raw::tape(state, pool, work, bytes, answers), 0],
+            Entry::Save { .. } => [raw::save(state, pool, work, bytes), 0],
+            Entry::Load { .. } => [raw::load(state, pool, work, bytes), 0],
+        }
     }
 }
 
-fn words(bytes: &[u8]) -> Vec<u32> {
-    bytes.iter().map(|&byte| byte.into()).collect()
-}
-
 impl Outcome {
-    /// The first word in which this outcome, the library's, differs from the other.
+    /// The first word or byte in which this outcome, the library's, differs from the other.
     pub fn difference(&self, other: &Outcome) -> Option<String> {
         let slices: [(&str, &[u32], &[u32]); 8] = [
             ("result", &self.result, &other.result),
@@ -151,16 +173,25 @@ impl Outcome {
             ("pool", &self.pool, &other.pool),
             ("work", &self.work, &other.work),
             ("answers", &self.answers, &other.answers),
-            ("input", &self.input, &other.input),
+            ("values", &self.values, &other.values),
         ];
-        slices.into_iter().find_map(|(name, mine, its)| {
-            let word = mine.iter().zip(its).position(|(a, b)| a != b)?;
-            Some(format!(
-                "{name} word {word}: {} instead of {}",
-                mine[word], its[word]
-            ))
-        })
+        slices
+            .into_iter()
+            .find_map(|(name, mine, its)| first_difference(name, mine, its))
+            .or_else(|| first_difference("bytes", &self.bytes, &other.bytes))
     }
+}
+
+fn first_difference<T: PartialEq + fmt::Display>(
+    name: &str,
+    mine: &[T],
+    its: &[T],
+) -> Option<String> {
+    let at = mine.iter().zip(its).position(|(a, b)| a != b)?;
+    Some(format!(
+        "{name}, place {at}: {} instead of {}",
+        mine[at], its[at]
+    ))
 }
 
 impl fmt::Display for Call {
@@ -179,6 +210,8 @@ impl fmt::Display for Call {
                 bytes.len(),
                 answers.len()
             )?,
+            Entry::Save { target } => write!(f, "save, {} target bytes", target.len())?,
+            Entry::Load { image } => write!(f, "load, {} image bytes", image.len())?,
         }
         let [numbers, deques, frames] = self.state.each().map(Vec::len);
         write!(

@@ -1,7 +1,11 @@
 //! libsplitter.a beside document 01's engine in plain Rust: see README.md.
 
+pub mod base;
 pub mod call;
 pub mod corrupt;
+pub mod damage;
+pub mod image;
+pub mod images;
 pub mod lent;
 pub mod parts;
 pub mod plain;

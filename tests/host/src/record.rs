@@ -1,7 +1,7 @@
-//! Calls and their outcomes written to a file, for sanitized.c to make them again. All is little-endian words: the entry (1 start,
-//! 2 step, 3 tape), four words (a start's workers or a step's entry), the two words of the result, what was lent for reading only, then
-//! numbers, deques, frames, pool, work and answers. Each of these has its length first; the last six are followed by what the call left
-//! there. Calls with large pools are left out, for the file's size.
+//! Calls and their outcomes written to a file, for sanitized.c to make them again. All but the bytes is little-endian words: the entry
+//! (1 start, 2 step, 3 tape, 4 save, 5 load), four words (a start's workers or a step's entry), the two words of the result, the values,
+//! the bytes (tape, target or image), then numbers, deques, frames, pool, work and answers. Each of these has its length first; all but
+//! the values are followed by what the call left there. Calls with large pools are left out, for the file's size.
 
 use crate::call::{Call, Entry, Outcome};
 use std::fs::File;
@@ -24,11 +24,16 @@ impl Recorder {
             Entry::Start { workers, .. } => (1, [workers, 0, 0, 0]),
             Entry::Step(step) => (2, step),
             Entry::Tape { .. } => (3, [0; 4]),
+            Entry::Save { .. } => (4, [0; 4]),
+            Entry::Load { .. } => (5, [0; 4]),
         };
         self.words(&[entry])?;
         self.words(&arguments)?;
         self.words(&after.result)?;
-        self.slice(&call.input())?;
+        self.slice(call.values())?;
+        self.words(&[call.bytes().len() as u32])?;
+        self.0.write_all(call.bytes())?;
+        self.0.write_all(&after.bytes)?;
         let slices = [
             (call.state.numbers.as_slice(), &after.state.numbers),
             (&call.state.deques, &after.state.deques),

@@ -1,13 +1,14 @@
 //! Corrupted states: the sentences, plain.rs and the library must agree on each, and go on alike from the sound ones.
 
+use crate::base;
 use crate::call::{Call, Entry, Outcome};
 use crate::corrupt::{self, Expected, Pair, KINDS};
 use crate::parts::Parts;
-use crate::plain::{self, Refusal, State, SPAWN, STATE_WORDS};
+use crate::plain::{Refusal, SPAWN, STATE_WORDS};
 use crate::random::Random;
 use crate::sentences::{self, SENTENCES};
 use crate::session::{Failure, Session};
-use crate::steps::{self, Driver};
+use crate::steps;
 
 /// Pairs made from one base: as many as are judged under one seed.
 pub const PER_SEED: usize = 40;
@@ -46,7 +47,7 @@ pub fn group(
     counts: &mut Counts,
 ) -> Result<(), Failure> {
     let random = Random::new(!seed);
-    let base = base(&random);
+    let base = base::any(&random);
     let mut judged = 0;
     while judged < pairs.min(PER_SEED) {
         let mut pair = base.clone();
@@ -63,43 +64,6 @@ pub fn group(
         }
     }
     Ok(())
-}
-
-/// A sound pair, as a run of plain.rs leaves it.
-fn base(random: &Random) -> Pair {
-    let splitters = match random.below(120) {
-        0 => random.pick(&[100, 255, 256]),
-        1..12 => 1 + random.below(40),
-        _ => 1 + random.below(9),
-    };
-    let tree = plain::tree_nodes(splitters as u32);
-    let nodes = tree + random.word_below(5 * tree);
-    let workers = 1 + random.word_below(8);
-    let mut pool = vec![0; 4 * nodes as usize];
-    let (mut state, _) = plain::start(workers, &random.words(splitters), &mut pool);
-    let mut free_nodes = nodes - tree;
-    let mut driver = Driver::new(200, 100);
-    let mut take = |state: &mut State, step| {
-        let record = steps::record(step);
-        free_nodes = plain::run_tape(state, free_nodes, &mut pool, &record, &mut [0; 2]);
-    };
-    for _ in 0..random.below(150) {
-        let step = driver.next(&state, random);
-        take(&mut state, step);
-    }
-    match random.below(24) {
-        0 | 1 => (0..64).for_each(|_| {
-            let step = steps::homeward(&state);
-            take(&mut state, step);
-        }),
-        2 => (0..64).for_each(|_| take(&mut state, [SPAWN, 0, 0, 0])),
-        _ => {}
-    }
-    Pair {
-        state,
-        pool,
-        turn: 0,
-    }
 }
 
 fn judge(
@@ -156,7 +120,7 @@ fn asking(pair: &Pair, random: &Random) -> Call {
     }
 }
 
-fn expect(right: bool, otherwise: &str) -> Result<(), Failure> {
+pub fn expect(right: bool, otherwise: &str) -> Result<(), Failure> {
     right.then_some(()).ok_or_else(|| otherwise.to_string())
 }
 

@@ -1,4 +1,4 @@
-//! The search for a block layout, as in `host/c/search.c`: a branch for each choice of a spare.
+//! The search for a block layout, as in `host/c/layout.c`: a branch for each choice of a spare.
 
 use splitter::{tree_nodes, Engine, Refusal, Returned, State, Synced, NODE_WORDS};
 
@@ -42,6 +42,8 @@ enum Stage {
     End,
 }
 
+const STAGES: [Stage; 5] = [Stage::Take, Stage::Look, Stage::Wait, Stage::Score, Stage::End];
+
 /// What the host keeps of a frame: how far this branch of the search has come.
 #[derive(Clone, Copy)]
 struct Branch {
@@ -57,9 +59,21 @@ struct Branch {
     failed: Option<u16>,
 }
 
+/// The most words of the host's own part of a search: 8 numbers, a branch for each worker, 16 branches of 6.
+pub const OWN_WORDS: usize = 8 + MAX_WORKERS + 16 * 6;
+
+/// A branch as a word: its place and 1, or 0 for none.
+fn branch_word(branch: Option<usize>) -> u32 {
+    branch.map_or(0, |place| place as u32 + 1)
+}
+
+fn branch_of(word: u32) -> Option<usize> {
+    (word as usize).checked_sub(1)
+}
+
 /// A search, and its result so far.
 pub struct Search<'a> {
-    engine: Engine<'a>,
+    pub engine: Engine<'a>,
     branches: Vec<Branch>,
     /// The branch that each worker runs.
     runs: [Option<usize>; MAX_WORKERS],
@@ -97,6 +111,53 @@ impl<'a> Search<'a> {
             layouts: 0,
             best: None,
         })
+    }
+
+    /// The host's own part of the search as words.
+    pub fn own_words(&self) -> Vec<u32> {
+        let (best, cost) = self.best.map_or((None, 0), |(branch, cost)| (Some(branch), cost));
+        let mut words = vec![self.branches.len() as u32, self.turn, self.waits, self.given_up];
+        words.extend([self.least_free, self.layouts, cost, branch_word(best)]);
+        words.extend(self.runs.map(branch_word));
+        for b in &self.branches {
+            let failed = b.failed.map_or(0, u32::from);
+            words.extend([
+                branch_word(b.parent),
+                b.stage as u32,
+                b.depth as u32,
+                b.spare.into(),
+                b.next.into(),
+                failed,
+            ]);
+        }
+        words
+    }
+
+    /// The search whose own part these words are, over its run that has been read.
+    pub fn resume(engine: Engine<'a>, words: &[u32]) -> Search<'a> {
+        let branch = |b: &[u32]| Branch {
+            parent: branch_of(b[0]),
+            stage: STAGES[b[1] as usize],
+            depth: b[2] as usize,
+            spare: b[3] as u16,
+            next: b[4] as u16,
+            failed: Some(b[5] as u16).filter(|spare| *spare != 0),
+        };
+        let (numbers, rest) = words.split_at(8);
+        let (runs, branches) = rest.split_at(MAX_WORKERS);
+        Search {
+            engine,
+            branches: branches.chunks_exact(6).take(numbers[0] as usize).map(branch).collect(),
+            runs: [0, 1, 2].map(|worker| branch_of(runs[worker])),
+            told: true,
+            turn: numbers[1],
+            finished: false,
+            least_free: numbers[4],
+            waits: numbers[2],
+            given_up: numbers[3],
+            layouts: numbers[5],
+            best: branch_of(numbers[7]).map(|branch| (branch, numbers[6])),
+        }
     }
 
     /// The choices of a branch, as `3>12 9>14`.
@@ -137,6 +198,28 @@ impl<'a> Search<'a> {
             Err(Refusal::PoolFull) => Ok(false),
             Err(other) => Err(other),
         }
+    }
+
+    /// A turn of each worker.
+    pub fn take_turns(&mut self, workers: u8) -> Result<(), Refusal> {
+        let mut moved = false;
+        self.turn += 1;
+        for worker in 0..workers {
+            if !self.finished {
+                moved = self.take_a_turn(worker)? || moved;
+            }
+        }
+        if !moved {
+            self.give_up_a_branch();
+        }
+        Ok(())
+    }
+
+    /// What was found.
+    pub fn tell_result(&self, nodes: usize, workers: u8) {
+        let Search { least_free, waits, given_up, layouts, .. } = self;
+        print!("nodes {nodes}, workers {workers}: least free {least_free}, waits {waits}, ");
+        println!("given up {given_up}, layouts {layouts}, best {}", self.best());
     }
 
     /// One turn of a worker; true if it got something done.
@@ -286,7 +369,7 @@ impl<'a> Search<'a> {
     }
 
     /// Every running branch waits for room, so none will end: one must, without its search.
-    pub fn give_up_a_branch(&mut self) {
+    fn give_up_a_branch(&mut self) {
         if let Some(branch) = self.runs.into_iter().flatten().next() {
             self.branches[branch].stage = Stage::End;
             self.given_up += 1;

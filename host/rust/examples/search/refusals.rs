@@ -1,7 +1,7 @@
 //! A tape, and each refusal once.
 
 use crate::layout::{Memory, BLOCKS, FACTORY_MARKS};
-use splitter::{answer, answers, raw, tree_nodes, Engine, Refusal, Returned, Step};
+use splitter::{answer, answers, image_bytes, raw, tree_nodes, Engine, Refusal, Returned, State, Step, NODE_WORDS};
 use std::error::Error;
 use std::fmt::Debug;
 
@@ -78,6 +78,29 @@ fn refused_calls(memory: &mut Memory) -> Outcome {
     Ok(())
 }
 
+/// A refused save leaves the run. A refused reading leaves a state of zeros: the host reads another image,
+/// or this one in a better way.
+fn refused_images(memory: &mut Memory) -> Outcome {
+    let mut image = vec![0; image_bytes(memory.work.len() as u32) as usize];
+    let short = image.len() - 1;
+    let mut engine = memory.lend();
+    show(engine.save(&mut image[..short]), Refusal::ShortTarget, "a target with a byte too few")?;
+    engine.save(&mut image)?;
+    show(engine.load(&image[..short]), Refusal::BadBlocks, "an image with a byte too few")?;
+    image[0] ^= 1;
+    show(engine.load(&image), Refusal::BadCheck, "a bit of the image has flipped")?;
+    image[0] ^= 1;
+    let Memory { state, pool, work } = memory;
+    let short = pool.len() - NODE_WORDS;
+    let mut engine = Engine { state, pool: &mut pool[..short], work };
+    show(engine.load(&image), Refusal::Unsound, "an image read into a pool with a node too few")?;
+    assert_eq!(*engine.state, State::ZERO);
+    let mut engine = memory.lend();
+    engine.load(&image)?;
+    println!("    the image read as it was saved, block 3 reads {}", engine.read(0, 3)?);
+    Ok(())
+}
+
 fn refused_steps(engine: &mut Engine) -> Outcome {
     let mut words = [0; 2];
     engine.tape(&[9, 0, 0, 0, 0, 0, 0, 0], &mut words)?;
@@ -128,6 +151,7 @@ pub fn refusals() -> Outcome {
     let mut memory = Memory::new(tree_nodes(BLOCKS.into()) as usize + 5);
     memory.lend().start(2, &FACTORY_MARKS)?;
     refused_calls(&mut memory)?;
+    refused_images(&mut memory)?;
     let engine = &mut memory.lend();
     refused_steps(engine)?;
     refused_steals(engine)?;

@@ -1,6 +1,7 @@
-//! The library beside plain.rs, call by call and word for word: seeded runs, then corrupted states.
+//! The library beside plain.rs, call by call and word for word: seeded runs, then corrupted states, then images.
 
 use host_tests::corrupt::KINDS;
+use host_tests::images;
 use host_tests::record::Recorder;
 use host_tests::runs;
 use host_tests::sentences::SENTENCES;
@@ -10,7 +11,7 @@ use splitter::raw;
 use std::process::ExitCode;
 use std::time::Instant;
 
-const USAGE: &str = "usage: compare [--runs N] [--corrupt N] [--seed S] [--quick] [--record FILE]
+const USAGE: &str = "usage: compare [--runs N] [--corrupt N] [--images N] [--damaged N] [--seed S] [--quick] [--record FILE]
 --quick: few runs, and each slice a heap block of its own, for memcheck
 --record: writes all calls and what they left to FILE, for sanitized.c";
 
@@ -19,10 +20,14 @@ const GUARD: usize = 7;
 /// From so many on, every event, kind and sentence must have been met.
 const ENOUGH_RUNS: u64 = 1_000;
 const ENOUGH_PAIRS: usize = 50_000;
+const ENOUGH_IMAGES: u64 = 10_000;
+const ENOUGH_DAMAGED: usize = 50_000;
 
 struct Options {
     runs: u64,
     corrupt: usize,
+    images: u64,
+    damaged: usize,
     seed: u64,
     guard: usize,
     record: Option<String>,
@@ -32,6 +37,8 @@ fn options() -> Option<Options> {
     let mut options = Options {
         runs: 5_000,
         corrupt: 150_000,
+        images: 20_000,
+        damaged: 120_000,
         seed: 1,
         guard: GUARD,
         record: None,
@@ -39,9 +46,14 @@ fn options() -> Option<Options> {
     let mut arguments = std::env::args().skip(1);
     while let Some(argument) = arguments.next() {
         match argument.as_str() {
-            "--quick" => (options.runs, options.corrupt, options.guard) = (150, 3_000, 0),
+            "--quick" => {
+                (options.runs, options.corrupt, options.guard) = (150, 3_000, 0);
+                (options.images, options.damaged) = (100, 1_500);
+            }
             "--runs" => options.runs = arguments.next()?.parse().ok()?,
             "--corrupt" => options.corrupt = arguments.next()?.parse().ok()?,
+            "--images" => options.images = arguments.next()?.parse().ok()?,
+            "--damaged" => options.damaged = arguments.next()?.parse().ok()?,
             "--seed" => options.seed = arguments.next()?.parse().ok()?,
             "--record" => options.record = Some(arguments.next()?),
             _ => return None,
@@ -77,6 +89,7 @@ fn compare(options: &Options) -> Result<(), Failure> {
     compare_sizes()?;
     compare_runs(options, &mut session)?;
     compare_corrupted(options, &mut session)?;
+    compare_images(options, &mut session)?;
     match session.recorder {
         Some(recorder) => recorder.finish().map_err(say),
         None => Ok(()),
@@ -97,8 +110,9 @@ fn compare_sizes() -> Result<(), Failure> {
 fn compare_runs(options: &Options, session: &mut Session) -> Result<(), Failure> {
     for run in 0..options.runs {
         let seed = options.seed.wrapping_add(run);
-        runs::run(seed, session)
-            .map_err(|failure| format!("{failure}\n(--runs 1 --corrupt 0 --seed {seed})"))?;
+        runs::run(seed, session).map_err(|failure| {
+            format!("{failure}\n(--runs 1 --corrupt 0 --images 0 --damaged 0 --seed {seed})")
+        })?;
     }
     println!(
         "{} runs, {} calls, {} records on tapes",
@@ -118,7 +132,9 @@ fn compare_corrupted(options: &Options, session: &mut Session) -> Result<(), Fai
     let mut seed = options.seed;
     while left > 0 {
         soundness::group(seed, left, session, &mut counts).map_err(|failure| {
-            format!("{failure}\n(--runs 0 --corrupt {PER_SEED} --seed {seed})")
+            format!(
+                "{failure}\n(--runs 0 --corrupt {PER_SEED} --images 0 --damaged 0 --seed {seed})"
+            )
         })?;
         left -= left.min(PER_SEED);
         seed = seed.wrapping_add(1);
@@ -128,6 +144,59 @@ fn compare_corrupted(options: &Options, session: &mut Session) -> Result<(), Fai
     }
     if options.corrupt >= ENOUGH_PAIRS {
         return all_met(&counts);
+    }
+    Ok(())
+}
+
+fn compare_images(options: &Options, session: &mut Session) -> Result<(), Failure> {
+    images::compare_sizes()?;
+    let began = Instant::now();
+    let mut counts = images::Counts::default();
+    saved_images(options, session, &mut counts)?;
+    damaged_images(options, session, &mut counts)?;
+    if options.images > 0 || options.damaged > 0 {
+        let seconds = began.elapsed().as_secs_f64();
+        println!(
+            "{} images and {} damaged ones: {seconds:.1} s",
+            options.images, options.damaged
+        );
+        counts.lines().iter().for_each(|line| println!("{line}"));
+    }
+    let enough = options.images >= ENOUGH_IMAGES && options.damaged >= ENOUGH_DAMAGED;
+    match counts.missing() {
+        Some(missing) if enough => Err(missing),
+        _ => Ok(()),
+    }
+}
+
+fn saved_images(
+    options: &Options,
+    session: &mut Session,
+    counts: &mut images::Counts,
+) -> Result<(), Failure> {
+    for image in 0..options.images {
+        let seed = options.seed.wrapping_add(image);
+        images::image(seed, session, counts).map_err(|failure| {
+            format!("{failure}\n(--runs 0 --corrupt 0 --images 1 --damaged 0 --seed {seed})")
+        })?;
+    }
+    Ok(())
+}
+
+fn damaged_images(
+    options: &Options,
+    session: &mut Session,
+    counts: &mut images::Counts,
+) -> Result<(), Failure> {
+    let mut left = options.damaged;
+    let mut seed = options.seed;
+    while left > 0 {
+        images::group(seed, left, session, counts).map_err(|failure| {
+            let most = images::PER_SEED;
+            format!("{failure}\n(--runs 0 --corrupt 0 --images 0 --damaged {most} --seed {seed})")
+        })?;
+        left -= left.min(images::PER_SEED);
+        seed = seed.wrapping_add(1);
     }
     Ok(())
 }

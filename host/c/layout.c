@@ -1,0 +1,301 @@
+/* The search: a branch for each choice of a spare. A branch marks its choice in its own view of the blocks, so nobody has to undo it.
+ * Of 16 blocks the factory marked 3 and 9 bad and 12 to 15 spare. Each bad block needs a spare that passes its erase test. */
+#include <stdarg.h>
+#include <stdio.h>
+
+#include "search.h"
+
+enum { FIRST_SPARE = 12, BAD_BLOCKS = 2, BRANCHES = 16, BRANCH_WORDS = 6, SEARCH_WORDS = 8 };
+
+/* A block's state, kept in its splitter. A spare in use holds STANDS_FOR plus the number of the bad block. */
+enum { GOOD = 0, BAD = 1, SPARE = 2, STANDS_FOR = 100 };
+
+const uint32_t factory_marks[BLOCKS] = {GOOD, GOOD, GOOD, BAD,  GOOD,  GOOD,  GOOD,  GOOD,
+                                        GOOD, BAD,  GOOD, GOOD, SPARE, SPARE, SPARE, SPARE};
+static const unsigned bad_blocks[BAD_BLOCKS] = {3, 9};
+
+/* The memory lent to the library, and what may be used of it. */
+static struct splitter_state state;
+static uint32_t pool[MOST_NODES * SPLITTER_NODE_WORDS], work[MOST_NODES];
+struct checked run;
+
+void lend(unsigned nodes) {
+    struct splitter_lent lent = {&state, pool, nodes * SPLITTER_NODE_WORDS, work, nodes};
+    run.lent = lent;
+}
+
+enum stage { TAKE, LOOK, WAIT, SCORE, END };
+
+/* What the host keeps of a frame: how far this branch of the search has come. */
+struct branch {
+    struct branch *parent;
+    enum stage stage;
+    unsigned depth;  /* so many bad blocks have a spare */
+    unsigned spare;  /* its own choice, for the last of them */
+    unsigned next;   /* the spare to look at next */
+    unsigned failed; /* a spare that failed its test here and was marked bad, or 0 */
+};
+
+static struct branch branches[BRANCHES];
+static struct branch *runs[WORKERS]; /* the branch that a worker runs, or NULL */
+
+struct search search;
+
+static void print_name(const struct branch *b) {
+    if (b->depth == 0) {
+        printf("Main");
+        return;
+    }
+    if (b->depth > 1) {
+        print_name(b->parent);
+        printf(" ");
+    }
+    printf("%u>%u", bad_blocks[b->depth - 1], b->spare);
+}
+
+/* A line of the report: the turn, the worker, its branch, and what it did. */
+static void tell(unsigned worker, const struct branch *b, const char *format, ...) {
+    va_list arguments;
+    if (!search.told) {
+        return;
+    }
+    printf("%2u  worker %u, ", search.turn, worker);
+    print_name(b);
+    printf(": ");
+    va_start(arguments, format);
+    vprintf(format, arguments);
+    va_end(arguments);
+    printf("\n");
+}
+
+/* Stands for the controller's own test. */
+static bool passes_erase_test(unsigned block) {
+    return block != 13;
+}
+
+static unsigned read_block(unsigned worker, unsigned block) {
+    return splitter_answer_number(checked_read(&run, worker, block));
+}
+
+/* False where the pool has no room; then nothing has changed. */
+static bool write_block(unsigned worker, unsigned block, unsigned value) {
+    uint64_t answer = checked_write(&run, worker, block, value);
+    if (splitter_answer_kind(answer) == SPLITTER_POOL_FULL) {
+        return false;
+    }
+    if (splitter_answer_number(answer) < search.least_free) {
+        search.least_free = splitter_answer_number(answer);
+    }
+    return true;
+}
+
+/* An idle worker steals where it can. The answer's depth tells which frame it got: each frame in a deque is a child of the one above. */
+static bool steal_turn(unsigned thief) {
+    for (unsigned victim = 0; victim < WORKERS; victim++) {
+        uint64_t answer = checked_steal(&run, thief, victim);
+        if (splitter_answer_kind(answer) == SPLITTER_NO_VICTIM) {
+            continue;
+        }
+        struct branch *stolen = runs[victim];
+        while (stolen->depth > splitter_answer_number(answer)) {
+            stolen = stolen->parent;
+        }
+        runs[thief] = stolen;
+        tell(thief, stolen, "stolen from worker %u", victim);
+        return true;
+    }
+    return false;
+}
+
+/* A new branch marks its choice. Where the pool has no room it tries again in its next turn: other branches end and free their nodes. */
+static bool take_turn(unsigned worker, struct branch *b) {
+    if (!write_block(worker, b->spare, STANDS_FOR + bad_blocks[b->depth - 1])) {
+        search.waits += 1;
+        tell(worker, b, "no room in the pool, waits");
+        return false;
+    }
+    b->stage = b->depth < BAD_BLOCKS ? LOOK : SCORE;
+    tell(worker, b, "takes %u", b->spare);
+    return true;
+}
+
+static void spawn_branch(unsigned worker, struct branch *parent, unsigned spare) {
+    if (search.made == BRANCHES) {
+        surprise("more branches than the host has places for");
+    }
+    struct branch *child = &branches[search.made++];
+    struct branch begun = {parent, TAKE, parent->depth + 1, spare, FIRST_SPARE, 0};
+    checked_spawn(&run, worker);
+    *child = begun;
+    runs[worker] = child;
+    tell(worker, parent, "%u is a good spare: spawns a branch", spare);
+}
+
+/* A spare that fails its test is marked bad, in this branch's view. The mark saves later branches the test; without room, no mark. */
+static void mark_failed(unsigned worker, struct branch *b, unsigned spare) {
+    bool marked = write_block(worker, spare, BAD);
+    if (marked) {
+        b->failed = spare;
+    }
+    tell(worker, b, "%u fails its erase test: %s", spare, marked ? "marks it bad" : "no room for a mark");
+}
+
+static bool look_turn(unsigned worker, struct branch *b) {
+    unsigned spare = b->next++;
+    unsigned is = read_block(worker, spare);
+    if (b->next == BLOCKS) {
+        b->stage = WAIT;
+    }
+    if (is != SPARE) {
+        tell(worker, b, "%u is %s", spare, is == BAD ? "bad" : "taken");
+    } else if (passes_erase_test(spare)) {
+        spawn_branch(worker, b, spare);
+    } else {
+        mark_failed(worker, b, spare);
+    }
+    return true;
+}
+
+static bool wait_turn(unsigned worker, struct branch *b) {
+    uint64_t answer = checked_sync(&run, worker);
+    b->stage = END;
+    if (splitter_answer_number(answer) == SPLITTER_SUSPENDED) {
+        runs[worker] = NULL;
+        tell(worker, b, "waits for its branches");
+    } else {
+        tell(worker, b, "all its branches have ended");
+    }
+    return true;
+}
+
+/* A whole layout, read from the branch's own view. The cost is the sum of the squared moves: no block should be far from its spare. */
+static bool score_turn(unsigned worker, struct branch *b) {
+    unsigned cost = 0;
+    for (unsigned spare = FIRST_SPARE; spare < BLOCKS; spare++) {
+        unsigned is = read_block(worker, spare);
+        unsigned move = is >= STANDS_FOR ? spare - (is - STANDS_FOR) : 0;
+        cost += move * move;
+    }
+    search.layouts += 1;
+    if (search.best == NULL || cost < search.least_cost) {
+        search.least_cost = cost;
+        search.best = b;
+    }
+    b->stage = END;
+    tell(worker, b, "a layout, cost %u", cost);
+    return true;
+}
+
+static bool end_turn(unsigned worker, struct branch *b) {
+    static const char *const outcomes[] = {"its parent goes on here", "the worker is idle", "its parent resumes here",
+                                           "the search is over"};
+    if (b->failed != 0) {
+        same("own mark", read_block(worker, b->failed), BAD);
+        tell(worker, b, "%u still reads bad", b->failed);
+    }
+    unsigned outcome = splitter_answer_number(checked_return(&run, worker));
+    runs[worker] = outcome == SPLITTER_CONTINUED || outcome == SPLITTER_RESUMED ? b->parent : NULL;
+    search.finished = outcome == SPLITTER_FINISHED;
+    tell(worker, b, "ends; %s", outcomes[outcome]);
+    return true;
+}
+
+/* True if the worker got something done. */
+static bool take_a_turn(unsigned worker) {
+    struct branch *b = runs[worker];
+    if (b == NULL) {
+        return steal_turn(worker);
+    }
+    switch (b->stage) {
+    case TAKE: return take_turn(worker, b);
+    case LOOK: return look_turn(worker, b);
+    case WAIT: return wait_turn(worker, b);
+    case SCORE: return score_turn(worker, b);
+    default: return end_turn(worker, b);
+    }
+}
+
+/* Every running branch waits for room, so none will end: one must, without its search. */
+static void give_up_a_branch(void) {
+    for (unsigned worker = 0; worker < WORKERS; worker++) {
+        if (runs[worker] != NULL) {
+            runs[worker]->stage = END;
+            search.given_up += 1;
+            return;
+        }
+    }
+    surprise("no worker runs a branch");
+}
+
+void begin(unsigned workers, unsigned nodes, bool told) {
+    struct search begun = {.told = told, .workers = workers, .made = 1, .least_free = nodes - (unsigned)splitter_tree_nodes(BLOCKS)};
+    struct branch main_branch = {.stage = LOOK, .next = FIRST_SPARE};
+    lend(nodes);
+    same("start", checked_start(&run, workers, factory_marks, BLOCKS), SPLITTER_OK);
+    search = begun;
+    branches[0] = main_branch;
+    runs[0] = &branches[0];
+}
+
+void take_turns(void) {
+    bool moved = false;
+    search.turn += 1;
+    for (unsigned worker = 0; worker < search.workers && !search.finished; worker++) {
+        moved = take_a_turn(worker) || moved;
+    }
+    if (!moved) {
+        give_up_a_branch();
+    }
+}
+
+void tell_result(void) {
+    printf("nodes %u, workers %u: least free %u, waits %u, given up %u, layouts %u, best ", run.lent.state->numbers[SPLITTER_NUMBER_NODES],
+           search.workers, search.least_free, search.waits, search.given_up, search.layouts);
+    if (search.best == NULL) {
+        printf("none\n");
+    } else {
+        print_name(search.best);
+        printf(", cost %u\n", search.least_cost);
+    }
+}
+
+/* A branch as a word: its place and 1, or 0 for none. */
+static uint32_t branch_word(const struct branch *b) {
+    return b == NULL ? 0 : (uint32_t)(b - branches) + 1;
+}
+
+static struct branch *branch_of(uint32_t word) {
+    return word == 0 ? NULL : &branches[word - 1];
+}
+
+void put_search(uint32_t *words) {
+    const uint32_t numbers[SEARCH_WORDS] = {search.made, search.turn, search.waits, search.given_up, search.least_free,
+                                            search.layouts, search.least_cost, branch_word(search.best)};
+    for (unsigned i = 0; i < SEARCH_WORDS; i++) {
+        *words++ = numbers[i];
+    }
+    for (unsigned worker = 0; worker < WORKERS; worker++) {
+        *words++ = branch_word(runs[worker]);
+    }
+    for (const struct branch *b = branches; b < branches + search.made; b++) {
+        const uint32_t branch[BRANCH_WORDS] = {branch_word(b->parent), (uint32_t)b->stage, b->depth, b->spare, b->next, b->failed};
+        for (unsigned i = 0; i < BRANCH_WORDS; i++) {
+            *words++ = branch[i];
+        }
+    }
+}
+
+void get_search(const uint32_t *words, bool told) {
+    struct search read = {.told = told, .workers = run.lent.state->numbers[SPLITTER_NUMBER_WORKERS], .made = words[0], .turn = words[1],
+                          .waits = words[2], .given_up = words[3], .least_free = words[4], .layouts = words[5],
+                          .least_cost = words[6], .best = branch_of(words[7])};
+    search = read;
+    words += SEARCH_WORDS;
+    for (unsigned worker = 0; worker < WORKERS; worker++) {
+        runs[worker] = branch_of(*words++);
+    }
+    for (struct branch *b = branches; b < branches + search.made; b++, words += BRANCH_WORDS) {
+        struct branch branch = {branch_of(words[0]), (enum stage)words[1], words[2], words[3], words[4], words[5]};
+        *b = branch;
+    }
+}

@@ -1,0 +1,58 @@
+//! Sound pairs of a state and a pool, as runs of plain.rs leave them.
+
+use crate::corrupt::Pair;
+use crate::plain::{self, State, SPAWN};
+use crate::random::Random;
+use crate::steps::{self, Driver, StepWords};
+
+/// Mostly a small one.
+pub fn any(random: &Random) -> Pair {
+    let splitters = match random.below(120) {
+        0 => random.pick(&[100, 255, 256]),
+        1..12 => 1 + random.below(40),
+        _ => 1 + random.below(9),
+    };
+    let tree = plain::tree_nodes(splitters as u32);
+    played(splitters, tree + random.word_below(5 * tree), random)
+}
+
+/// With so many splitters and nodes.
+pub fn played(splitters: usize, nodes: u32, random: &Random) -> Pair {
+    let workers = 1 + random.word_below(8);
+    let mut pool = vec![0; 4 * nodes as usize];
+    let (state, _) = plain::start(workers, &random.words(splitters), &mut pool);
+    let mut pair = Pair {
+        state,
+        pool,
+        turn: 0,
+    };
+    play(&mut pair, random.below(150), random);
+    let homeward = |state: &State| steps::homeward(state);
+    match random.below(24) {
+        0 | 1 => take(&mut pair, 64, homeward),
+        2 => take(&mut pair, 64, |_| [SPAWN, 0, 0, 0]),
+        _ => {}
+    }
+    pair
+}
+
+/// Goes on with so many steps.
+pub fn play(pair: &mut Pair, steps: usize, random: &Random) {
+    let mut driver = Driver::new(200, 100);
+    take(pair, steps, |state| driver.next(state, random));
+}
+
+fn take(pair: &mut Pair, steps: usize, mut choose: impl FnMut(&State) -> StepWords) {
+    let mut work = vec![0; pair.state.nodes as usize];
+    let mut free_nodes = plain::sound(&pair.state, &pair.pool, &mut work).unwrap_or(0);
+    for _ in 0..steps {
+        let record = steps::record(choose(&pair.state));
+        free_nodes = plain::run_tape(
+            &mut pair.state,
+            free_nodes,
+            &mut pair.pool,
+            &record,
+            &mut [0; 2],
+        );
+    }
+}

@@ -1,0 +1,464 @@
+//! Damaged images: bytes, blocks and words that are not what was saved, with checks that are wrong or put right again.
+#![allow(clippy::ptr_arg)] // every damage has the type Change
+
+use crate::corrupt::Pair;
+use crate::image::{self, BLOCK_BYTES, DATA_BYTES};
+use crate::parts::Parts;
+use crate::plain::MAX_NODES;
+use crate::random::Random;
+
+/// What a damaged image is made from.
+pub struct Source {
+    pub image: Vec<u8>,
+    /// Saved some steps earlier in the same run.
+    pub older: Vec<u8>,
+    /// Saved in another run.
+    pub other: Vec<u8>,
+}
+
+/// Damages an image; None if it offers no place for it.
+type Change = fn(&mut Vec<u8>, &Source, &Random) -> Option<()>;
+
+pub struct Damage {
+    pub name: &'static str,
+    /// What a reading may answer, with slices that are long enough; nothing listed: anything.
+    pub answers: &'static [u32],
+    pub change: Change,
+}
+
+const fn damage(name: &'static str, answers: &'static [u32], change: Change) -> Damage {
+    Damage {
+        name,
+        answers,
+        change,
+    }
+}
+
+/// No images have more nodes than this, but where they record more than they have.
+pub const MOST_NODES: usize = MAX_NODES + 100;
+
+pub const DAMAGES: [Damage; 36] = [
+    damage("none", &[0], |_, _, _| Some(())),
+    damage("a bit", &[17, 18], bit),
+    damage("a byte", &[17, 18], byte),
+    damage("bits", &[], bits),
+    damage("a burst", &[], burst),
+    damage("a check", &[18], check),
+    damage("checks big-endian", &[0, 18], checks_big_endian),
+    damage("checks without powers", &[0, 18], checks_without_powers),
+    damage("checks over 512 bytes", &[0, 18], checks_over_512),
+    damage("blocks cut", &[17], blocks_cut),
+    damage("a block cut out", &[], block_cut_out),
+    damage("bytes cut", &[17], bytes_cut),
+    damage("a block added", &[17], block_added),
+    damage("bytes added", &[17], bytes_added),
+    damage("blocks swapped", &[], blocks_swapped),
+    damage("a block repeated", &[], block_repeated),
+    damage("stale blocks", &[0, 6], stale_blocks),
+    damage("torn", &[0, 6], torn),
+    damage("older", &[0], older),
+    damage("another run", &[0], another_run),
+    damage("another run's length", &[0, 17], another_length),
+    damage("runs mixed", &[], runs_mixed),
+    damage("garbage", &[17, 18], garbage),
+    damage("garbage, right length", &[18], garbage_called_for),
+    damage("garbage, right checks", &[6, 18], garbage_checked),
+    damage("zeros", &[6, 17], zeros),
+    damage("nodes lied", &[6, 17, 18], nodes_lied),
+    damage("nodes lied wildly", &[17], nodes_lied_wildly),
+    damage("nodes wrapped", &[17], nodes_wrapped),
+    damage("nodes fewer", &[6], nodes_fewer),
+    damage("nodes more", &[6], nodes_more),
+    damage("a word, right check", &[], word_checked),
+    damage("words swapped", &[], words_swapped),
+    damage("rest not zero", &[18], rest_not_zero),
+    damage("big-endian", &[], big_endian),
+    damage("no checks", &[17, 18], no_checks),
+];
+
+/// The image of a pair, sound or not: of as many nodes as it records, zero where the pool has none. Of the pool's nodes, if it records
+/// far too many.
+pub fn image_of(pair: &Pair) -> Vec<u8> {
+    let recorded = pair.state.nodes as usize;
+    let nodes = if recorded <= MOST_NODES {
+        recorded
+    } else {
+        pair.pool.len() / 4
+    };
+    let state = Parts::of(&pair.state);
+    let words = state.each().into_iter().flatten();
+    let mut image = vec![0; image::bytes(nodes as u32) as usize];
+    image::put(
+        words.chain(pair.pool.iter().take(4 * nodes)).copied(),
+        &mut image,
+    );
+    image
+}
+
+fn blocks(image: &[u8]) -> usize {
+    image.len() / BLOCK_BYTES
+}
+
+fn block(image: &mut [u8], number: usize) -> &mut [u8] {
+    &mut image[number * BLOCK_BYTES..][..BLOCK_BYTES]
+}
+
+fn some_block(image: &[u8], random: &Random) -> Option<usize> {
+    (blocks(image) > 0).then(|| random.below(blocks(image)))
+}
+
+fn random_bytes(count: usize, random: &Random) -> Vec<u8> {
+    (0..count).map(|_| random.word() as u8).collect()
+}
+
+fn some_byte<'a>(image: &'a mut [u8], random: &Random) -> Option<&'a mut u8> {
+    let length = image.len();
+    (length > 0).then(|| &mut image[random.below(length)])
+}
+
+fn bit(image: &mut Vec<u8>, _: &Source, random: &Random) -> Option<()> {
+    *some_byte(image, random)? ^= 1 << random.below(8);
+    Some(())
+}
+
+fn byte(image: &mut Vec<u8>, _: &Source, random: &Random) -> Option<()> {
+    let byte = some_byte(image, random)?;
+    *byte = byte.wrapping_add(1 + random.below(255) as u8);
+    Some(())
+}
+
+fn bits(image: &mut Vec<u8>, source: &Source, random: &Random) -> Option<()> {
+    (0..2 + random.below(5)).try_for_each(|_| bit(image, source, random))
+}
+
+fn burst(image: &mut Vec<u8>, _: &Source, random: &Random) -> Option<()> {
+    let length = 2 + random.below(600);
+    let first = random.below(image.len().checked_sub(length)? + 1);
+    image[first..first + length].copy_from_slice(&random_bytes(length, random));
+    Some(())
+}
+
+fn check(image: &mut Vec<u8>, _: &Source, random: &Random) -> Option<()> {
+    let number = some_block(image, random)?;
+    let check = &mut block(image, number)[DATA_BYTES..];
+    let byte = random.below(4);
+    check[byte] = check[byte].wrapping_add(1 + random.below(255) as u8);
+    Some(())
+}
+
+fn each_check(image: &mut [u8], check: impl Fn(&[u8], [u8; 4]) -> [u8; 4]) -> Option<()> {
+    let (blocks, _) = image.as_chunks_mut::<BLOCK_BYTES>();
+    for block in blocks {
+        let (data, old) = block.split_at_mut(DATA_BYTES);
+        let new = check(data, old.try_into().ok()?);
+        old.copy_from_slice(&new);
+    }
+    Some(())
+}
+
+fn checks_big_endian(image: &mut Vec<u8>, _: &Source, _: &Random) -> Option<()> {
+    each_check(image, |_, [a, b, c, d]| [d, c, b, a])
+}
+
+fn checks_without_powers(image: &mut Vec<u8>, _: &Source, _: &Random) -> Option<()> {
+    let sum = |data: &[u8]| data.iter().map(|&byte| u32::from(byte)).sum::<u32>();
+    each_check(image, |data, _| sum(data).to_le_bytes())
+}
+
+/// A check that has itself among its bytes, as it was.
+fn checks_over_512(image: &mut Vec<u8>, _: &Source, _: &Random) -> Option<()> {
+    each_check(image, |data, old| {
+        let sum = image::check(data).wrapping_add(u32::from_le_bytes(old));
+        sum.to_le_bytes()
+    })
+}
+
+fn blocks_cut(image: &mut Vec<u8>, _: &Source, random: &Random) -> Option<()> {
+    let left = some_block(image, random)?;
+    image.truncate(left * BLOCK_BYTES);
+    Some(())
+}
+
+fn block_cut_out(image: &mut Vec<u8>, _: &Source, random: &Random) -> Option<()> {
+    let first = some_block(image, random)? * BLOCK_BYTES;
+    image.drain(first..first + BLOCK_BYTES);
+    Some(())
+}
+
+fn bytes_cut(image: &mut Vec<u8>, _: &Source, random: &Random) -> Option<()> {
+    let left = image.len().checked_sub(1 + random.below(BLOCK_BYTES - 1))?;
+    image.truncate(left);
+    Some(())
+}
+
+/// After the first block: a copy of another, zeros or garbage.
+fn block_added(image: &mut Vec<u8>, _: &Source, random: &Random) -> Option<()> {
+    let number = some_block(image, random)?;
+    let new = match random.below(3) {
+        0 => block(image, number).to_vec(),
+        1 => vec![0; BLOCK_BYTES],
+        _ => random_bytes(BLOCK_BYTES, random),
+    };
+    let at = (1 + random.below(blocks(image))) * BLOCK_BYTES;
+    image.splice(at..at, new);
+    Some(())
+}
+
+fn bytes_added(image: &mut Vec<u8>, _: &Source, random: &Random) -> Option<()> {
+    let more = 1 + random.below(BLOCK_BYTES - 1);
+    image.extend(random_bytes(more, random));
+    Some(())
+}
+
+fn blocks_swapped(image: &mut Vec<u8>, _: &Source, random: &Random) -> Option<()> {
+    let (one, two) = (some_block(image, random)?, some_block(image, random)?);
+    let old = block(image, one).to_vec();
+    image.copy_within(
+        two * BLOCK_BYTES..(two + 1) * BLOCK_BYTES,
+        one * BLOCK_BYTES,
+    );
+    block(image, two).copy_from_slice(&old);
+    Some(())
+}
+
+fn block_repeated(image: &mut Vec<u8>, _: &Source, random: &Random) -> Option<()> {
+    let (from, to) = (some_block(image, random)?, some_block(image, random)?);
+    image.copy_within(
+        from * BLOCK_BYTES..(from + 1) * BLOCK_BYTES,
+        to * BLOCK_BYTES,
+    );
+    Some(())
+}
+
+/// Each block with one chance in so many from another image, where that has it.
+fn mix(image: &mut [u8], from: &[u8], chances: usize, random: &Random) -> Option<()> {
+    for number in 0..blocks(image).min(blocks(from)) {
+        if random.one_in(chances) {
+            let at = number * BLOCK_BYTES..(number + 1) * BLOCK_BYTES;
+            image[at.clone()].copy_from_slice(&from[at]);
+        }
+    }
+    Some(())
+}
+
+fn stale_blocks(image: &mut Vec<u8>, source: &Source, random: &Random) -> Option<()> {
+    mix(image, &source.older, random.pick(&[2, 8]), random)
+}
+
+/// The front of one image, the rest of the other: a save that did not end.
+fn torn(image: &mut Vec<u8>, source: &Source, random: &Random) -> Option<()> {
+    let at = some_block(image, random)? * BLOCK_BYTES;
+    let older = source.older.get(at..image.len())?;
+    image[at..].copy_from_slice(older);
+    Some(())
+}
+
+fn older(image: &mut Vec<u8>, source: &Source, _: &Random) -> Option<()> {
+    image.clone_from(&source.older);
+    Some(())
+}
+
+fn another_run(image: &mut Vec<u8>, source: &Source, _: &Random) -> Option<()> {
+    image.clone_from(&source.other);
+    Some(())
+}
+
+fn another_length(image: &mut Vec<u8>, source: &Source, random: &Random) -> Option<()> {
+    let length = image.len();
+    image.clone_from(&source.other);
+    image.truncate(length);
+    let more = length - image.len();
+    image.extend(match random.below(2) {
+        0 => vec![0; more],
+        _ => random_bytes(more, random),
+    });
+    Some(())
+}
+
+fn runs_mixed(image: &mut Vec<u8>, source: &Source, random: &Random) -> Option<()> {
+    mix(image, &source.other, random.pick(&[2, 8]), random)
+}
+
+fn garbage(image: &mut Vec<u8>, _: &Source, random: &Random) -> Option<()> {
+    let lengths = [
+        0,
+        1,
+        511,
+        512,
+        513,
+        4_095,
+        4_096,
+        4_097,
+        random.below(9_000),
+    ];
+    *image = random_bytes(random.pick(&lengths), random);
+    Some(())
+}
+
+/// Random bytes, but just as many blocks as they call for.
+fn garbage_called_for(image: &mut Vec<u8>, _: &Source, random: &Random) -> Option<()> {
+    let nodes = random.word_below(200);
+    *image = random_bytes(image::bytes(nodes) as usize, random);
+    image::set_word(image, image::NODES, nodes);
+    Some(())
+}
+
+fn garbage_checked(image: &mut Vec<u8>, source: &Source, random: &Random) -> Option<()> {
+    garbage_called_for(image, source, random)?;
+    if random.one_in(2) {
+        clear_rest(image);
+    }
+    image::repair(image);
+    Some(())
+}
+
+/// Zeros in the words after the recorded nodes.
+fn clear_rest(image: &mut [u8]) {
+    let first = image::recorded(image).map_or(0, image::words) as usize;
+    for word in first..blocks(image) * 127 {
+        image::set_word(image, word, 0);
+    }
+}
+
+fn zeros(image: &mut Vec<u8>, _: &Source, random: &Random) -> Option<()> {
+    *image = vec![0; random.pick(&[0, 1, 7, 8, 8, 8, 9]) * BLOCK_BYTES];
+    Some(())
+}
+
+/// Records another number of nodes, with the checks right, and the length as it was.
+fn record(image: &mut [u8], nodes: u32) -> Option<()> {
+    let old = image::recorded(image)?;
+    image::set_word(image, image::NODES, nodes);
+    image::repair(image);
+    (nodes != old).then_some(())
+}
+
+fn nodes_lied(image: &mut Vec<u8>, _: &Source, random: &Random) -> Option<()> {
+    let old = image::recorded(image)?;
+    let near = random.word_below(40);
+    let (less, more) = (old.wrapping_sub(1), old.wrapping_add(1));
+    let lies = [
+        0,
+        1,
+        less,
+        more,
+        old.wrapping_sub(near),
+        old.wrapping_add(near),
+    ];
+    record(image, random.pick(&lies))
+}
+
+/// So many nodes take just 2^32 bytes of an image.
+const WRAP_BYTES: u32 = 127 << 21;
+
+/// Numbers that are not far from the truth in arithmetic of 32 bits.
+fn nodes_lied_wildly(image: &mut Vec<u8>, _: &Source, random: &Random) -> Option<()> {
+    let old = image::recorded(image)?;
+    let wrapped = old.wrapping_add((1 + random.word_below(3)) << 30);
+    let wrapped_bytes = old.wrapping_add((1 + random.word_below(15)) * WRAP_BYTES);
+    let far = 1 << 20 | random.word();
+    let lies = [
+        u32::MAX,
+        u32::MAX - 1,
+        1 << 31,
+        wrapped,
+        wrapped,
+        wrapped_bytes,
+        far,
+    ];
+    record(image, random.pick(&lies))
+}
+
+/// A few blocks, and a number of nodes that calls for as many if its words are counted modulo 2^32.
+fn nodes_wrapped(image: &mut Vec<u8>, _: &Source, random: &Random) -> Option<()> {
+    let words = 1 + 4 * random.word_below(227);
+    let quarter = random.word_below(4) << 30;
+    let nodes = (words.wrapping_sub(909) / 4).wrapping_add(quarter);
+    image.resize(words.div_ceil(127) as usize * BLOCK_BYTES, 0);
+    record(image, nodes)
+}
+
+/// Fewer nodes, and all else as they call for.
+fn nodes_fewer(image: &mut Vec<u8>, _: &Source, random: &Random) -> Option<()> {
+    let old = image::recorded(image).filter(|&nodes| nodes > 0)?;
+    let nodes = random.pick(&[0, old - 1, random.word_below(old)]);
+    image.truncate(image::bytes(nodes) as usize);
+    image::set_word(image, image::NODES, nodes);
+    clear_rest(image);
+    image::repair(image);
+    Some(())
+}
+
+/// More nodes, of zeros or of any words, and all else as they call for.
+fn nodes_more(image: &mut Vec<u8>, _: &Source, random: &Random) -> Option<()> {
+    let old = image::recorded(image).filter(|&nodes| (nodes as usize) < MOST_NODES)?;
+    let nodes = match random.below(500) {
+        0 => MAX_NODES as u32 + random.word_below(2),
+        _ => (old + 1 + random.word_below(40)).min(MOST_NODES as u32),
+    };
+    let length = image::bytes(nodes) as usize;
+    image.resize(length.max(image.len()), 0);
+    if random.one_in(2) {
+        let new = image::words(old.min(nodes))..image::words(nodes);
+        new.for_each(|word| image::set_word(image, word as usize, random.word()));
+    }
+    image.truncate(length);
+    record(image, nodes)
+}
+
+fn word_checked(image: &mut Vec<u8>, _: &Source, random: &Random) -> Option<()> {
+    let word = some_block(image, random)? * 127 + random.below(127);
+    let old = image::get(image).nth(word)?;
+    let news = [
+        0,
+        1,
+        2,
+        u32::MAX,
+        old ^ 1 << random.below(32),
+        random.word(),
+    ];
+    image::set_word(image, word, random.pick(&news));
+    image::repair(image);
+    Some(())
+}
+
+/// Two words of a block, which its check cannot tell.
+fn words_swapped(image: &mut Vec<u8>, _: &Source, random: &Random) -> Option<()> {
+    let number = some_block(image, random)?;
+    let (words, _) = block(image, number)[..DATA_BYTES].as_chunks_mut::<4>();
+    words.swap(random.below(127), random.below(127));
+    Some(())
+}
+
+fn rest_not_zero(image: &mut Vec<u8>, _: &Source, random: &Random) -> Option<()> {
+    let first = image::words(image::recorded(image)?) as usize;
+    let rest = (blocks(image) * 127).checked_sub(first)?;
+    let word = first + (rest > 0).then(|| random.below(rest))?;
+    image::set_word(image, word, 1 << random.below(32));
+    if !random.one_in(4) {
+        image::repair(image);
+    }
+    Some(())
+}
+
+fn big_endian(image: &mut Vec<u8>, _: &Source, random: &Random) -> Option<()> {
+    for block in image.chunks_exact_mut(BLOCK_BYTES) {
+        block
+            .as_chunks_mut::<4>()
+            .0
+            .iter_mut()
+            .for_each(|word| word.reverse());
+    }
+    if random.one_in(2) {
+        image::repair(image);
+    }
+    Some(())
+}
+
+/// The words one after the other, with no checks between them.
+fn no_checks(image: &mut Vec<u8>, _: &Source, _: &Random) -> Option<()> {
+    let length = image.len();
+    *image = image::get(image).flat_map(u32::to_le_bytes).collect();
+    image.resize(length, 0);
+    Some(())
+}

@@ -1,0 +1,168 @@
+//! The image once more, byte by byte as document 02 says it, for clarity and not for speed. It shares no code with image.rs: soundness is
+//! asked sentence by sentence, numbers are wide, and each byte of an image is said by its place.
+
+use crate::parts::{Parts, LENGTHS};
+use crate::sentences;
+use splitter::raw;
+
+/// "5 words, 8 times 65, 64 times 6; then the pool's nodes", of four words.
+fn words_of(nodes: u32) -> u128 {
+    5 + 8 * (1 + 64) + 64 * 6 + u128::from(nodes) * 4
+}
+
+/// "blocks of 512 bytes: 508 of data": the least number of blocks whose data has room.
+fn blocks_of(nodes: u32) -> u128 {
+    let data = 4 * words_of(nodes);
+    data / 508 + u128::from(data % 508 != 0)
+}
+
+/// The bytes of an image of so many nodes.
+pub fn image_bytes(nodes: u32) -> u64 {
+    (512 * blocks_of(nodes)) as u64
+}
+
+/// "the sum modulo 4,294,967,296 of each data byte times 256 raised to its offset modulo 4"
+fn check_of(data: &[u8]) -> u64 {
+    let mut sum = 0;
+    for offset in 0..508 {
+        sum += u64::from(data[offset]) * 256u64.pow(offset as u32 % 4);
+    }
+    sum % 4_294_967_296
+}
+
+/// "little-endian words": the byte of the data at this place, 0 after the last word.
+fn data_byte(words: &[u32], place: usize) -> u8 {
+    let word = words.get(place / 4).copied().unwrap_or(0);
+    (word / 256u32.pow(place as u32 % 4) % 256) as u8
+}
+
+/// A whole image of these words.
+fn written(words: &[u32], blocks: usize) -> Vec<u8> {
+    let mut image = Vec::new();
+    for block in 0..blocks {
+        let data: Vec<u8> = (0..508)
+            .map(|offset| data_byte(words, 508 * block + offset))
+            .collect();
+        let check = check_of(&data);
+        image.extend(data);
+        image.extend((0..4).map(|byte| (check / 256u64.pow(byte) % 256) as u8));
+    }
+    image
+}
+
+/// An image's data, without the checks.
+fn data_of(image: &[u8]) -> Vec<u8> {
+    let in_data = |place: &usize| place % 512 < 508;
+    (0..image.len())
+        .filter(in_data)
+        .map(|place| image[place])
+        .collect()
+}
+
+/// A word of the data.
+fn word_at(data: &[u8], word: usize) -> u32 {
+    (0..4)
+        .map(|byte| u32::from(data[4 * word + byte]) * 256u32.pow(byte as u32))
+        .sum()
+}
+
+fn whole(state: &raw::Parts) -> bool {
+    [state.numbers.len(), state.deques.len(), state.frames.len()] == LENGTHS
+}
+
+/// Whether they are sound; the work slice's first words, one for each recorded node, are zero afterwards.
+fn sound(state: &raw::Parts, pool: &[u32], work: &mut [u32]) -> bool {
+    let parts = Parts {
+        numbers: state.numbers.to_vec(),
+        deques: state.deques.to_vec(),
+        frames: state.frames.to_vec(),
+    };
+    for node in 0..state.numbers[2] {
+        work[node as usize] = 0;
+    }
+    sentences::broken(&parts, pool).is_empty()
+}
+
+/// Saving "checks 5, 6, 19".
+pub fn save(state: raw::Parts, pool: &[u32], work: &mut [u32], target: &mut [u8]) -> u32 {
+    if !whole(&state) {
+        return 99;
+    }
+    let nodes = state.numbers[2];
+    if (work.len() as u128) < u128::from(nodes) {
+        return 5;
+    }
+    if !sound(&state, pool, work) {
+        return 6;
+    }
+    if (target.len() as u128) < 512 * blocks_of(nodes) {
+        return 19;
+    }
+    let pool = &pool[..4 * nodes as usize];
+    let words = [state.numbers, state.deques, state.frames, pool].concat();
+    for (place, byte) in written(&words, blocks_of(nodes) as usize)
+        .into_iter()
+        .enumerate()
+    {
+        target[place] = byte;
+    }
+    0
+}
+
+/// 17 and 18: the data of an image that has neither.
+fn accepted(image: &[u8]) -> Result<Vec<u8>, u32> {
+    if image.len() < 512 {
+        return Err(17);
+    }
+    let nodes = word_at(&image[..508], 2);
+    if image.len() as u128 != 512 * blocks_of(nodes) {
+        return Err(17);
+    }
+    for block in 0..image.len() / 512 {
+        let check = word_at(&image[512 * block + 508..], 0);
+        if u64::from(check) != check_of(&image[512 * block..]) {
+            return Err(18);
+        }
+    }
+    let data = data_of(image);
+    let rest = 4 * words_of(nodes) as usize;
+    if (rest..data.len()).any(|place| data[place] != 0) {
+        return Err(18);
+    }
+    Ok(data)
+}
+
+/// "reading checks 17, 18, 5, 6".
+pub fn load(state: raw::Parts, pool: &mut [u32], work: &mut [u32], image: &[u8]) -> u32 {
+    if !whole(&state) {
+        return 99;
+    }
+    let (numbers, deques, frames) = (state.numbers.len(), state.deques.len(), state.frames.len());
+    let mut fill = |word: &dyn Fn(usize) -> u32| {
+        (0..numbers).for_each(|at| state.numbers[at] = word(at));
+        (0..deques).for_each(|at| state.deques[at] = word(numbers + at));
+        (0..frames).for_each(|at| state.frames[at] = word(numbers + deques + at));
+    };
+    fill(&|_| 0);
+    let data = match accepted(image) {
+        Ok(data) => data,
+        Err(refusal) => return refusal,
+    };
+    let nodes = word_at(&data, 2) as usize;
+    if work.len() < nodes {
+        return 5;
+    }
+    fill(&|at| word_at(&data, at));
+    let held = pool.len() / 4;
+    for at in 0..4 * nodes.min(held) {
+        pool[at] = word_at(&data, numbers + deques + frames + at);
+    }
+    if sound(&state, pool, work) {
+        return 0;
+    }
+    (0..4 * held).for_each(|at| pool[at] = 0);
+    for part in [state.numbers, state.deques, state.frames] {
+        (0..part.len()).for_each(|at| part[at] = 0);
+    }
+    6
+}

@@ -1,0 +1,243 @@
+"""Document 01's "Soundness", sentence by sentence, over the words of a saved state and its pool."""
+from collections import Counter
+
+from .machine import height, tree_nodes
+
+NONE = 0xFFFFFFFF
+WORKERS, FRAMES, MOST_NODES = 8, 64, 16384
+DEQUE_WORDS, FRAME_WORDS, NODE_WORDS = 1 + FRAMES, 6, 4
+STATE_WORDS = 5 + WORKERS * DEQUE_WORDS + FRAMES * FRAME_WORDS
+
+
+def pieces(words, size):
+    return [words[at : at + size] for at in range(0, len(words) - size + 1, size)]
+
+
+def link(word):
+    return "none" if word == NONE else str(word)
+
+
+class Frame:
+    """A frame place's record."""
+
+    def __init__(self, words):
+        self.live, self.parent, self.depth, self.outstanding, self.suspended, self.root = words
+
+
+class State:
+    """The words of a state and of its pool's nodes, read into records."""
+
+    def __init__(self, words):
+        self.workers, self.n, self.nodes, self.free_node, self.free_place = words[:5]
+        deques = pieces(words[5 : 5 + WORKERS * DEQUE_WORDS], DEQUE_WORDS)
+        self.lengths = [deque[0] for deque in deques]
+        self.deques = [deque[1 : 1 + min(deque[0], FRAMES)] for deque in deques]
+        self.past = [deque[1 + min(deque[0], FRAMES) :] for deque in deques]
+        self.frames = [Frame(record) for record in pieces(words[5 + WORKERS * DEQUE_WORDS : STATE_WORDS], FRAME_WORDS)]
+        self.pool = pieces(words[STATE_WORDS : STATE_WORDS + NODE_WORDS * self.nodes], NODE_WORDS)
+        self.live = {place: frame for place, frame in enumerate(self.frames) if frame.live}
+        self.children = {place: [p for p, f in self.live.items() if f.parent == place] for place in self.live}
+        self.reached, self.shape = set(), None
+        if self.has_trees():
+            for place, frame in self.live.items():
+                fault = self.walk(frame.root, height(self.n), 0)
+                if fault and not self.shape:
+                    self.shape = f"frame place {place}: {fault}"
+
+    def has_trees(self):
+        """Whether numbers are right, so that there is a shape to ask for."""
+        return 1 <= self.n <= 256 and tree_nodes(self.n) <= self.nodes <= min(MOST_NODES, len(self.pool))
+
+    def walk(self, number, level, group):
+        """Walks to all positions below one; what is first found wrong with the shape, or None."""
+        if number >= self.nodes:
+            return f"a link to {link(number)} on level {level}, where a node must stand"
+        self.reached.add(number)
+        _, left, right, value = self.pool[number]
+        if level == 0:
+            links = [word for word in (left, right) if word != NONE]
+            return f"node {number} is a leaf with a link to {links[0]}" if links else None
+        faults = [self.walk(left, level - 1, 2 * group)]
+        if 2 * group + 1 < (self.n + 2 ** (level - 1) - 1) >> (level - 1):
+            faults.append(self.walk(right, level - 1, 2 * group + 1))
+        elif right != NONE:
+            faults.append(f"node {number} has a right link, and nothing stands there")
+        faults.append(f"node {number} is an inner node with the value {value}" if value else None)
+        return first(fault for fault in faults if fault)
+
+
+def chain(first, following, count):
+    """(what lies on a chain, why it is broken or None); following gives the link after a number below count."""
+    met, seen, at = [], set(), first
+    while at != NONE:
+        if at >= count:
+            return met, f"a link to {at}, which does not exist"
+        if at in seen:
+            return met, f"{at} lies on it twice"
+        met.append(at)
+        seen.add(at)
+        at = following(at)
+    return met, None
+
+
+def free_nodes(state):
+    return chain(state.free_node, lambda at: state.pool[at][1], min(state.nodes, len(state.pool)))
+
+
+def free_places(state):
+    return chain(state.free_place, lambda at: state.frames[at].parent, FRAMES)
+
+
+def first(faults):
+    return next(iter(faults), None)
+
+
+def workers(s):
+    return None if 1 <= s.workers <= 8 else f"workers: {s.workers}"
+
+
+def splitters(s):
+    return None if 1 <= s.n <= 256 else f"n: {s.n}"
+
+
+def node_count(s):
+    least = tree_nodes(s.n) if 1 <= s.n <= 256 else 0
+    return None if least <= s.nodes <= MOST_NODES else f"recorded nodes: {s.nodes}, T(n): {least}"
+
+
+def flags(s):
+    named = ((p, what, getattr(f, what)) for p, f in enumerate(s.frames) for what in ("live", "suspended"))
+    return first(f"frame place {place}: {what} is {word}" for place, what, word in named if word > 1)
+
+
+def deque_lengths(s):
+    return first(f"worker {w}: a deque of {length} frames" for w, length in enumerate(s.lengths) if length > FRAMES)
+
+
+def one_main(s):
+    if not s.live:
+        return first(f"no frame lives, and worker {w} has {length}" for w, length in enumerate(s.lengths) if length)
+    mains = [place for place, frame in s.live.items() if frame.depth == 0]
+    if len(mains) != 1:
+        return f"live frames of depth 0: {len(mains)}"
+    parent = s.frames[mains[0]].parent
+    return None if parent == NONE else f"frame place {mains[0]} has depth 0 and parent {parent}"
+
+
+def parents(s):
+    for place, frame in s.live.items():
+        parent = s.live.get(frame.parent)
+        if frame.depth and (parent is None or parent.depth != frame.depth - 1):
+            depth = f"depth {parent.depth}" if parent else "not live"
+            return f"frame place {place}: depth {frame.depth}, parent {link(frame.parent)}, {depth}"
+    return None
+
+
+def outstanding(s):
+    wrong = ((p, f, s.children[p]) for p, f in s.live.items() if f.outstanding != len(s.children[p]))
+    return first(f"frame place {p}: outstanding is {f.outstanding}, its live children are {len(c)}" for p, f, c in wrong)
+
+
+def placed(s):
+    times = Counter(place for deque in s.deques for place in deque)
+    for place, frame in s.live.items():
+        waits = times[place] == 0 and frame.suspended and s.children[place]
+        if not waits and not (times[place] == 1 and not frame.suspended):
+            return f"frame place {place}: suspended {frame.suspended}, in {times[place]} deque places, {len(s.children[place])} live children"
+    return None
+
+
+def deques_live(s):
+    dead = ((w, p) for w, deque in enumerate(s.deques) for p in deque if p not in s.live)
+    return first(f"worker {w}: frame place {link(p)} is not live" for w, p in dead)
+
+
+def absent_workers(s):
+    return first(f"worker {w} does not exist and has {n} frames" for w, n in enumerate(s.lengths) if n and w >= s.workers)
+
+
+def past_the_end(s):
+    return first(f"worker {w}: a place past its frames holds {link(p)}" for w, past in enumerate(s.past) for p in past if p)
+
+
+def in_order(s):
+    for worker, deque in enumerate(s.deques):
+        for above, below in zip(deque, deque[1:]):
+            if below >= FRAMES or s.frames[below].parent != above:
+                return f"worker {worker}: frame place {link(below)} below {link(above)} is not its child"
+    return None
+
+
+def not_a_top(s):
+    for worker, deque in enumerate(s.deques):
+        for at in range(1, len(deque)):
+            more = [c for c in s.children.get(deque[at], []) if [c] != deque[at + 1 : at + 2]]
+            if more:
+                return f"worker {worker}: frame place {deque[at]} is not a top and has the child {more[0]}"
+    return None
+
+
+def shape(s):
+    return s.shape
+
+
+def holders(s):
+    if not s.has_trees():
+        return None
+    links = Counter(frame.root for frame in s.live.values())
+    for number in s.reached:
+        links.update(s.pool[number][1:3])
+    wrong = (number for number in sorted(s.reached) if s.pool[number][0] != links[number])
+    return first(f"node {number}: holders are {s.pool[number][0]}, links to it {links[number]}" for number in wrong)
+
+
+def others_free(s):
+    if not s.has_trees():
+        return None
+    others = set(range(s.nodes)) - s.reached
+    met, fault = free_nodes(s)
+    if fault:
+        return f"the free chain: {fault}"
+    for number in sorted(others ^ set(met)):
+        return f"node {number} is " + ("reached and on the free chain" if number in s.reached else "not reached and not on the free chain")
+    dirty = (n for n in met if s.pool[n][0] or s.pool[n][2] or s.pool[n][3])
+    return first(f"free node {number} holds {s.pool[number]}" for number in dirty)
+
+
+def places_free(s):
+    met, fault = free_places(s)
+    if fault:
+        return f"the chain of free places: {fault}"
+    for place in sorted(set(range(FRAMES)) - set(s.live) ^ set(met)):
+        return f"frame place {place} is " + ("live and on the chain" if place in s.live else "not live and not on the chain")
+    dirty = (p for p in met for f in [s.frames[p]] if f.depth or f.outstanding or f.suspended or f.root)
+    return first(f"free frame place {place} has a word that is not zero" for place in dirty)
+
+
+# Document 01's words; document 02's, R-1, for the flags and the places of a deque.
+SENTENCES = (
+    ("Workers are 1 to 8.", workers),
+    ("n is 1 to 256.", splitters),
+    ("The recorded node count is T(n) to 16,384.", node_count),
+    ("Live and suspended are 0 or 1, and another word there is unsound.", flags),
+    ("For each of 8 workers there are 64 places for its frames.", deque_lengths),
+    ("Either no frame lives and all deques are empty, or just one live frame has depth 0, with parent none.", one_main),
+    ("Every other live frame has a live parent one shallower.", parents),
+    ("Outstanding counts are right.", outstanding),
+    ("Each live frame is either in just one place of one deque and not suspended, or in none and suspended with a live child.", placed),
+    ("Deques hold live frames only.", deques_live),
+    ("A worker that does not exist has an empty deque.", absent_workers),
+    ("Deque places past a deque's frames are zero.", past_the_end),
+    ("Each frame in a deque is a child of the one above it.", in_order),
+    ("A frame that is not a top has only the child below it, if any.", not_a_top),
+    ("Walking from each live frame gives a tree of the shape above, in which a node may stand in several places.", shape),
+    ("Nodes reached have right holders.", holders),
+    ("All other nodes are free and lie once on the free chain.", others_free),
+    ("Free frame places lie once on their chain, all but the link to the next being zero.", places_free),
+)
+
+
+def broken(state):
+    """(sentence, what breaks it) for each sentence that does not hold; sound means none."""
+    found = ((sentence, holds(state)) for sentence, holds in SENTENCES)
+    return [(sentence, fault) for sentence, fault in found if fault]
