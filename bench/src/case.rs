@@ -123,6 +123,17 @@ impl Case {
         self
     }
 
+    /// The same start, and nothing after it.
+    pub fn started(&self) -> Self {
+        Case {
+            workers: self.workers,
+            values: self.values.clone(),
+            nodes: self.nodes,
+            prelude: Vec::new(),
+            tape: Vec::new(),
+        }
+    }
+
     /// An empty tape on a state with many frames.
     pub fn standing(standing: Standing) -> Self {
         let mut generator = Generator::new(2, 1, standing.n, standing.frames);

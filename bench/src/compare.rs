@@ -1,6 +1,7 @@
 //! Every peer must answer as the library does, before anything is measured.
 
 use crate::case::{Case, Workload};
+use crate::images;
 use crate::measure::{answers, step_answers};
 use crate::peer::{Peer, PEERS};
 use crate::steps;
@@ -46,8 +47,9 @@ fn assert_same_steps(case: &Case, what: &str) {
     }
 }
 
-/// Every workload at every size, and the single steps.
+/// Every workload at every size, the single steps, and the images.
 pub fn all(workloads: &[Workload], sizes: &[usize]) {
+    images::compare();
     for (workload, n, nodes) in steps::all() {
         let what = format!("single steps, {} {n}", workload.name());
         assert_same_steps(&Case::steps(workload, n, nodes), &what);

@@ -4,6 +4,7 @@ use crate::case::{Standing, WORKLOADS};
 use crate::checks::{self, CheckCost};
 use crate::compare;
 use crate::facts;
+use crate::images::{self, ImageCost};
 use crate::peer::PEERS;
 use crate::pictures;
 use crate::records::{self, Cost};
@@ -32,6 +33,8 @@ pub struct Figures {
     pub written: Vec<CheckCost>,
     /// Single steps.
     pub steps: Vec<StepCost>,
+    /// Saving and reading.
+    pub images: Vec<ImageCost>,
 }
 
 /// Writes BENCH.md, bench_records.svg and bench_check.svg to `docs`, and prints the first.
@@ -66,10 +69,13 @@ fn measure() -> Figures {
         |standings: fn(usize) -> Vec<Standing>| checks::count(&SIZES.map(standings).concat());
     eprintln!("bench: instructions of single steps");
     let steps = steps::count();
+    eprintln!("bench: instructions of saving and reading");
+    let images = images::count();
     Figures {
         facts,
         stack: stack::measure(),
         steps,
+        images,
         costs,
         times,
         over_nodes: all_sizes(checks::over_nodes),

@@ -12,6 +12,31 @@ pub enum Job {
     Check(Standing),
     /// A workload's records, each in a call of its own; n and the nodes of the pool.
     Steps(Workload, usize, usize),
+    /// What is done with the image of such a state.
+    Image(ImageCall, Standing),
+}
+
+#[derive(Clone, Copy, PartialEq, Eq, Debug)]
+pub enum ImageCall {
+    Save,
+    Load,
+    /// Its bytes are copied to another place, and nothing else.
+    Copy,
+}
+
+impl ImageCall {
+    fn name(self) -> &'static str {
+        match self {
+            ImageCall::Save => "save",
+            ImageCall::Load => "load",
+            ImageCall::Copy => "copy",
+        }
+    }
+
+    fn named(name: &str) -> Option<Self> {
+        let all = [ImageCall::Save, ImageCall::Load, ImageCall::Copy];
+        all.into_iter().find(|call| call.name() == name)
+    }
 }
 
 impl Job {
@@ -19,14 +44,9 @@ impl Job {
         match self {
             Job::Records(workload, n) => Case::records(workload, n),
             Job::NoRecords(workload, n) => Case::records(workload, n).without_records(),
-            Job::Check(standing) => Case::standing(standing),
+            Job::Check(standing) | Job::Image(_, standing) => Case::standing(standing),
             Job::Steps(workload, n, nodes) => Case::steps(workload, n, nodes),
         }
-    }
-
-    /// Whether each record has a call of its own.
-    pub fn is_single(self) -> bool {
-        matches!(self, Job::Steps(..))
     }
 
     pub fn words(self) -> Vec<String> {
@@ -35,10 +55,8 @@ impl Job {
             Job::NoRecords(workload, n) => {
                 vec![workload.name().into(), n.to_string(), "empty".into()]
             }
-            Job::Check(s) => {
-                let numbers = [s.n, s.nodes, s.frames, s.writes].map(|number| number.to_string());
-                [vec!["check".into()], numbers.to_vec()].concat()
-            }
+            Job::Check(standing) => standing_words("check", standing),
+            Job::Image(call, standing) => standing_words(call.name(), standing),
             Job::Steps(workload, n, nodes) => {
                 let numbers = [n, nodes].map(|number| number.to_string());
                 [
@@ -53,12 +71,18 @@ impl Job {
     pub fn from_words(words: &[&str]) -> Option<Self> {
         let number = |word: &str| word.parse::<usize>().ok();
         match words {
-            ["check", n, nodes, frames, writes] => Some(Job::Check(Standing {
-                n: number(n)?,
-                nodes: number(nodes)?,
-                frames: number(frames)?,
-                writes: number(writes)?,
-            })),
+            [name, n, nodes, frames, writes] => {
+                let standing = Standing {
+                    n: number(n)?,
+                    nodes: number(nodes)?,
+                    frames: number(frames)?,
+                    writes: number(writes)?,
+                };
+                match *name {
+                    "check" => Some(Job::Check(standing)),
+                    call => Some(Job::Image(ImageCall::named(call)?, standing)),
+                }
+            }
             ["steps", workload, n, nodes] => Some(Job::Steps(
                 Workload::named(workload)?,
                 number(n)?,
@@ -69,4 +93,9 @@ impl Job {
             _ => None,
         }
     }
+}
+
+fn standing_words(name: &str, s: Standing) -> Vec<String> {
+    let numbers = [s.n, s.nodes, s.frames, s.writes].map(|number| number.to_string());
+    [vec![name.into()], numbers.to_vec()].concat()
 }

@@ -1,6 +1,43 @@
-//! libsplitter.a through its C interface, as the binding declares it.
+//! libsplitter.a through its C interface, as the binding declares it. What the binding does not have yet, R-1's functions, is declared
+//! here.
 
 use splitter::{raw, State, NODE_WORDS};
+
+mod c {
+    extern "C" {
+        pub fn splitter_save(
+            numbers: *const u32,
+            numbers_len: usize,
+            deques: *const u32,
+            deques_len: usize,
+            frames: *const u32,
+            frames_len: usize,
+            pool: *const u32,
+            pool_len: usize,
+            work: *mut u32,
+            work_len: usize,
+            target: *mut u8,
+            target_len: usize,
+        ) -> u32;
+
+        pub fn splitter_load(
+            numbers: *mut u32,
+            numbers_len: usize,
+            deques: *mut u32,
+            deques_len: usize,
+            frames: *mut u32,
+            frames_len: usize,
+            pool: *mut u32,
+            pool_len: usize,
+            work: *mut u32,
+            work_len: usize,
+            image: *const u8,
+            image_len: usize,
+        ) -> u32;
+
+        pub fn splitter_image_bytes(nodes: u32) -> u64;
+    }
+}
 
 /// The memory that the calls are lent.
 pub struct Library {
@@ -30,4 +67,52 @@ impl Library {
     pub fn step(&mut self, fields: [u32; 4]) -> [u32; 2] {
         raw::step(self.state.parts(), &mut self.pool, &mut self.work, fields)
     }
+
+    pub fn save(&mut self, target: &mut [u8]) -> u32 {
+        let state = self.state.parts();
+        // SAFETY: each pointer and length is a borrowed slice's.
+        unsafe {
+            c::splitter_save(
+                state.numbers.as_ptr(),
+                state.numbers.len(),
+                state.deques.as_ptr(),
+                state.deques.len(),
+                state.frames.as_ptr(),
+                state.frames.len(),
+                self.pool.as_ptr(),
+                self.pool.len(),
+                self.work.as_mut_ptr(),
+                self.work.len(),
+                target.as_mut_ptr(),
+                target.len(),
+            )
+        }
+    }
+
+    pub fn load(&mut self, image: &[u8]) -> u32 {
+        let state = self.state.parts();
+        // SAFETY: each pointer and length is a borrowed slice's.
+        unsafe {
+            c::splitter_load(
+                state.numbers.as_mut_ptr(),
+                state.numbers.len(),
+                state.deques.as_mut_ptr(),
+                state.deques.len(),
+                state.frames.as_mut_ptr(),
+                state.frames.len(),
+                self.pool.as_mut_ptr(),
+                self.pool.len(),
+                self.work.as_mut_ptr(),
+                self.work.len(),
+                image.as_ptr(),
+                image.len(),
+            )
+        }
+    }
+}
+
+/// The bytes of an image of so many nodes.
+pub fn image_bytes(nodes: usize) -> u64 {
+    // SAFETY: the function takes and gives numbers only.
+    unsafe { c::splitter_image_bytes(nodes as u32) }
 }

@@ -1,8 +1,9 @@
-//! What is measured: one call with a tape, or single steps.
+//! What is measured: one call with a tape, single steps, or one call with an image.
 
 use crate::case::Case;
-use crate::job::Job;
-use crate::peer::{Peer, Run};
+use crate::images;
+use crate::job::{ImageCall, Job};
+use crate::peer::{Images, Peer, Run};
 use crate::tape::fields;
 
 /// The function that callgrind counts in; by its symbol, so it must stay a function of its own.
@@ -21,19 +22,65 @@ pub fn bench_measured_steps(run: &mut dyn Run, steps: &[[u32; 4]], answers: &mut
     }
 }
 
+/// The same for a save.
+#[no_mangle]
+#[inline(never)]
+pub fn bench_measured_save(run: &mut dyn Images, target: &mut [u8]) -> u32 {
+    run.save(target)
+}
+
+/// The same for a reading.
+#[no_mangle]
+#[inline(never)]
+pub fn bench_measured_load(run: &mut dyn Images, image: &[u8]) -> u32 {
+    run.load(image)
+}
+
+/// The same for a plain copy.
+#[no_mangle]
+#[inline(never)]
+pub fn bench_measured_copy(image: &[u8], target: &mut [u8]) {
+    target.copy_from_slice(image);
+}
+
 /// What is not measured, to warm the allocator up, then the same on a fresh run, measured.
 pub fn once(peer: Peer, job: Job) {
     let case = job.case();
-    if job.is_single() {
-        let steps = steps(&case);
-        let mut answers = step_answers(peer, &case);
-        bench_measured_steps(peer.begin(&case).as_mut(), &steps, &mut answers);
-    } else {
-        let mut answers = answers(peer, &case);
-        let mut run = peer.begin(&case);
-        let refusal = bench_measured(run.as_mut(), &case.tape, &mut answers);
-        assert_eq!(refusal, 0, "{}: the tape is refused", peer.name());
+    match job {
+        Job::Steps(..) => {
+            let steps = steps(&case);
+            let mut answers = step_answers(peer, &case);
+            bench_measured_steps(peer.begin(&case).as_mut(), &steps, &mut answers);
+        }
+        Job::Image(call, _) => {
+            let image = images::saved(peer, &case);
+            let again = images::read_and_saved(peer, &case, &image);
+            assert!(again == image, "{}: reads something else", peer.name());
+            image_call(peer, &case, call, &image);
+        }
+        Job::Records(..) | Job::NoRecords(..) | Job::Check(_) => {
+            let mut answers = answers(peer, &case);
+            let mut run = peer.begin(&case);
+            let refusal = bench_measured(run.as_mut(), &case.tape, &mut answers);
+            assert_eq!(refusal, 0, "{}: the tape is refused", peer.name());
+        }
     }
+}
+
+/// One call, measured, on a fresh run.
+fn image_call(peer: Peer, case: &Case, call: ImageCall, image: &[u8]) {
+    let mut run = peer.begin(case);
+    let run = images::images(run.as_mut());
+    let mut target = vec![0; image.len()];
+    let refusal = match call {
+        ImageCall::Save => bench_measured_save(run, &mut target),
+        ImageCall::Load => bench_measured_load(run, image),
+        ImageCall::Copy => {
+            bench_measured_copy(image, &mut target);
+            0
+        }
+    };
+    assert_eq!(refusal, 0, "{}: the call is refused", peer.name());
 }
 
 /// The answers to the case's tape on a fresh run.

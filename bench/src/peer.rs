@@ -3,6 +3,7 @@
 use crate::case::Case;
 use crate::library::Library;
 use crate::machine::Machine;
+use crate::plain_image::{self, Sum};
 use crate::tape::record;
 use crate::values::Values;
 use host_tests::plain;
@@ -11,6 +12,8 @@ use host_tests::plain;
 pub enum Peer {
     Library,
     Plain,
+    /// Plain, but for images: their checks are summed byte by byte.
+    Bytewise,
     Copying,
     #[cfg(feature = "im")]
     Im,
@@ -33,6 +36,20 @@ pub trait Run {
         self.tape(&record, &mut answer);
         answer
     }
+
+    /// Its images, if it keeps nodes.
+    fn images(&mut self) -> Option<&mut dyn Images> {
+        None
+    }
+}
+
+/// R-1's calls.
+pub trait Images {
+    /// 0 with the image in the front of the target, or the refusal.
+    fn save(&mut self, target: &mut [u8]) -> u32;
+
+    /// 0 with the image's state and pool, or the refusal.
+    fn load(&mut self, image: &[u8]) -> u32;
 }
 
 impl Peer {
@@ -40,6 +57,7 @@ impl Peer {
         match self {
             Peer::Library => "library",
             Peer::Plain => "plain",
+            Peer::Bytewise => "bytewise",
             Peer::Copying => "copying",
             #[cfg(feature = "im")]
             Peer::Im => "im-rc",
@@ -47,12 +65,13 @@ impl Peer {
     }
 
     pub fn named(name: &str) -> Option<Self> {
-        PEERS.into_iter().find(|peer| peer.name() == name)
+        let mut all = PEERS.into_iter().chain([Peer::Bytewise]);
+        all.find(|peer| peer.name() == name)
     }
 
     /// It keeps nodes: its tape call has a soundness check in it, and its writes answer the free nodes.
     pub fn has_nodes(self) -> bool {
-        matches!(self, Peer::Library | Peer::Plain)
+        matches!(self, Peer::Library | Peer::Plain | Peer::Bytewise)
     }
 
     /// A run that has had the case's prelude, all of it accepted.
@@ -68,7 +87,8 @@ impl Peer {
     fn start(self, case: &Case) -> Box<dyn Run> {
         match self {
             Peer::Library => Box::new(Library::start(case.workers, &case.values, case.nodes)),
-            Peer::Plain => Box::new(Plain::start(case.workers, &case.values, case.nodes)),
+            Peer::Plain => Box::new(Plain::start(case, Sum::ByFours)),
+            Peer::Bytewise => Box::new(Plain::start(case, Sum::ByBytes)),
             Peer::Copying => Box::new(Machine::<Vec<u32>>::start(case.workers, &case.values)),
             #[cfg(feature = "im")]
             Peer::Im => Box::new(Machine::<im_rc::Vector<u32>>::start(
@@ -87,6 +107,20 @@ impl Run for Library {
     fn step(&mut self, fields: [u32; 4]) -> [u32; 2] {
         Library::step(self, fields)
     }
+
+    fn images(&mut self) -> Option<&mut dyn Images> {
+        Some(self)
+    }
+}
+
+impl Images for Library {
+    fn save(&mut self, target: &mut [u8]) -> u32 {
+        Library::save(self, target)
+    }
+
+    fn load(&mut self, image: &[u8]) -> u32 {
+        Library::load(self, image)
+    }
 }
 
 impl<V: Values> Run for Machine<V> {
@@ -101,17 +135,20 @@ struct Plain {
     state: plain::State,
     pool: Vec<u32>,
     work: Vec<u32>,
+    /// How an image's checks are summed.
+    sum: Sum,
 }
 
 impl Plain {
-    fn start(workers: usize, values: &[u32], nodes: usize) -> Self {
-        let mut pool = vec![0; 4 * nodes];
-        let (state, refusal) = plain::start(workers as u32, values, &mut pool);
+    fn start(case: &Case, sum: Sum) -> Self {
+        let mut pool = vec![0; 4 * case.nodes];
+        let (state, refusal) = plain::start(case.workers as u32, &case.values, &mut pool);
         assert_eq!(refusal, 0, "plain: the start is refused");
         Plain {
             state,
             pool,
-            work: vec![0; nodes],
+            work: vec![0; case.nodes],
+            sum,
         }
     }
 }
@@ -128,7 +165,24 @@ impl Run for Plain {
     }
 
     fn step(&mut self, [kind, worker, field, value]: [u32; 4]) -> [u32; 2] {
-        let Plain { state, pool, work } = self;
+        let Plain {
+            state, pool, work, ..
+        } = self;
         plain::step(state, pool, work, kind, worker, field, value).into()
+    }
+
+    fn images(&mut self) -> Option<&mut dyn Images> {
+        Some(self)
+    }
+}
+
+impl Images for Plain {
+    fn save(&mut self, target: &mut [u8]) -> u32 {
+        plain_image::save(&self.state, &self.pool, &mut self.work, target, self.sum)
+    }
+
+    fn load(&mut self, image: &[u8]) -> u32 {
+        let (pool, work) = (&mut self.pool, &mut self.work);
+        plain_image::load(&mut self.state, pool, work, image, self.sum)
     }
 }

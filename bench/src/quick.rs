@@ -3,6 +3,7 @@
 use crate::case::{Standing, MAX_NODES, WORKLOADS};
 use crate::checks;
 use crate::compare;
+use crate::images;
 use crate::peer::Peer;
 use crate::records::{self, Cost};
 use crate::steps;
@@ -20,6 +21,11 @@ pub fn run() {
     );
     println!("Instructions of a call with one step:\n");
     println!("{}", tables::steps(&steps::count()).markdown());
+    println!("Instructions of saving and reading, per block of 512 bytes:\n");
+    println!(
+        "{}",
+        tables::block_instructions(&images::count()).markdown()
+    );
     println!("Instructions of a call with an empty tape, that is of the soundness check:\n");
     println!(
         "{}",

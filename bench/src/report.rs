@@ -5,6 +5,7 @@ use crate::checks::CheckCost;
 use crate::contents;
 use crate::full::Figures;
 use crate::goals;
+use crate::images;
 use crate::peer::PEERS;
 use crate::records::Cost;
 use crate::table::Table;
@@ -63,6 +64,7 @@ pub fn text(figures: &Figures) -> String {
         rates(figures),
         steps(figures),
         check(figures),
+        saving(figures),
         PICTURES.to_string(),
     ]
     .concat()
@@ -154,4 +156,35 @@ random splitters in every frame after its spawn.";
         ),
     ]
     .concat()
+}
+
+fn saving(figures: &Figures) -> String {
+    let intro = format!(
+        "\
+R-1's calls, `splitter_save` and `splitter_load`, all accepted. n is 16 with 1,024 nodes and 256 with 16,384; one worker, {frames} live
+frames as for the soundness check, {writes} writes each. Before anything is counted the bench compares: each peer saves the very bytes that
+`tests/host/src/image.rs` writes, leaves those past them alone, and a run that was only started reads the image and saves it again.
+
+- plain: `bench/src/plain_image.rs`, on plain's state and with its soundness check. Words are moved a block's run at a time; a check is
+  summed over the bytes by fours, of which the compiler makes words.
+- bytewise: the same, but a check is summed byte by byte, as R-1 says it and as the library does it.
+- copy: `copy_from_slice` of the image's bytes, and no check of any kind.
+
+A whole call has the soundness check in it. \"Less the check\" is the call less the same peer's call with an empty tape on the same state:
+the image alone, with the checks of its blocks. (The library's soundness check is one function; plain Rust's is compiled into each call
+anew, some instructions more or less per node, and this difference stays in.)
+
+Instructions per block of 512 bytes; ratios below 1: the library needs fewer.",
+        frames = images::FRAMES,
+        writes = images::WRITES,
+    );
+    format!(
+        "{}Bytes per instruction; ratios above 1: the library does more.\n\n{}\n",
+        section(
+            "Saving and reading",
+            &intro,
+            tables::block_instructions(&figures.images)
+        ),
+        tables::image_rates(&figures.images).markdown()
+    )
 }

@@ -2,6 +2,7 @@
 
 use crate::case::{Workload, WORKLOADS};
 use crate::checks::CheckCost;
+use crate::images::{ImageCost, PeerCost, IMAGE_PEERS};
 use crate::peer::{Peer, PEERS};
 use crate::records::{self, Cost};
 use crate::steps::StepCost;
@@ -94,6 +95,59 @@ pub fn checks(checks: &[CheckCost]) -> Table {
             format!("{:.2}", check.ratio()),
         ];
         table.row([numbers.to_vec(), costs].concat());
+    }
+    table
+}
+
+/// Instructions per block of an image; the library's divided by each other's.
+pub fn block_instructions(images: &[ImageCost]) -> Table {
+    by_call(images, 1, |image, instructions| {
+        instructions as f64 / image.blocks() as f64
+    })
+}
+
+/// Bytes of an image per instruction.
+pub fn image_rates(images: &[ImageCost]) -> Table {
+    by_call(images, 2, |image, instructions| {
+        image.bytes() as f64 / instructions as f64
+    })
+}
+
+/// The instructions of a call with an image.
+type ImageCount = fn(&PeerCost) -> u64;
+
+/// These calls, whole and less their check.
+const IMAGE_CALLS: [(&str, ImageCount); 4] = [
+    ("save", PeerCost::save),
+    ("reading", PeerCost::load),
+    ("save less the check", PeerCost::bare_save),
+    ("reading less the check", PeerCost::bare_load),
+];
+
+/// A row for each call and image: a figure, made of its instructions, of each peer and of a copy, then the library's divided by each
+/// other one.
+fn by_call(images: &[ImageCost], digits: usize, figure: fn(&ImageCost, u64) -> f64) -> Table {
+    let names = || IMAGE_PEERS.map(Peer::name).into_iter().chain(["copy"]);
+    let ratios = names().skip(1).map(|name| format!("library / {name}"));
+    let header = ["call", "nodes", "blocks"].into_iter().chain(names());
+    let mut table = Table::new(header.map(String::from).chain(ratios).collect());
+    for (call, instructions) in IMAGE_CALLS {
+        for image in images {
+            let of_peers = image.peers.iter().map(instructions);
+            let figures: Vec<f64> = of_peers
+                .chain([image.copy])
+                .map(|count| figure(image, count))
+                .collect();
+            let ratios = figures[1..].iter().map(|other| figures[0] / other);
+            let mut row = vec![
+                call.to_string(),
+                grouped(image.nodes as u64),
+                grouped(image.blocks()),
+            ];
+            row.extend(figures.iter().map(|figure| format!("{figure:.digits$}")));
+            row.extend(ratios.map(|ratio| format!("{ratio:.2}")));
+            table.row(row);
+        }
     }
     table
 }

@@ -1,5 +1,4 @@
-//! Runs one peer on one case, for callgrind: `one PEER WORKLOAD N [empty]`, `one PEER check N NODES FRAMES WRITES` or
-//! `one PEER steps WORKLOAD N NODES`.
+//! Runs one peer on one case, for callgrind: see `USAGE`; an image is that of the state that `check` has.
 //! By hand: `valgrind --tool=callgrind --dump-instr=yes --toggle-collect=bench_measured one library mix 16`.
 
 use bench::job::Job;
@@ -8,6 +7,12 @@ use bench::peer::Peer;
 use std::env;
 use std::process::ExitCode;
 
+const USAGE: &str = "\
+one PEER WORKLOAD N [empty]
+one PEER check N NODES FRAMES WRITES
+one PEER steps WORKLOAD N NODES
+one PEER save|load|copy N NODES FRAMES WRITES";
+
 fn main() -> ExitCode {
     let words: Vec<String> = env::args().skip(1).collect();
     let words: Vec<&str> = words.iter().map(String::as_str).collect();
@@ -15,7 +20,7 @@ fn main() -> ExitCode {
         .split_first()
         .and_then(|(peer, job)| Some((Peer::named(peer)?, Job::from_words(job)?)));
     let Some((peer, job)) = asked else {
-        eprintln!("one PEER WORKLOAD N [empty]\none PEER check N NODES FRAMES WRITES\none PEER steps WORKLOAD N NODES");
+        eprintln!("{USAGE}");
         return ExitCode::FAILURE;
     };
     measure::once(peer, job);
