@@ -4,11 +4,10 @@ use mathlib.Core.List.{List, [], _∷_, tail}
 use Prim.Native.Nat.{ℕ, zero, suc}
 use lib.ListN.{length, getD, set}
 use lib.Dec.{ltb}
-use Rattle.sizes.specs.Sizes.{height}
 use Rattle.model.specs.declared.Step.{Step}
 use Rattle.model.specs.declared.Step.the-variants.{Spawn, Return, Steal, Sync, Read, Write}
 use Rattle.model.specs.History.{Event}
-use Rattle.model.specs.Machine.{Name, Frame, Machine, depth, maxFrames, live, deque, withDeque, isEmpty, top, belowTop, hasChild, named, notNamed, freeNodes}
+use Rattle.model.specs.Machine.{Name, Frame, Machine, depth, maxFrames, live, deque, withDeque, isEmpty, top, belowTop, hasChild, named, notNamed, inUse, freeNodes}
 
 -- what a worker's bottom frame does: a step without its worker, steals left out
 pub data Action : Type 0 where
@@ -36,6 +35,20 @@ stepOf w sync = Sync w
 stepOf w (read x) = Read w x
 stepOf w (write x v) = Write w x v
 
+-- ---- a write
+
+-- a write of q to x: its mark is the number of writes before it in q's history, then its writer (History)
+abbrev pub writeEvent : Frame → ℕ → Event
+writeEvent q x = record { splitter = x; mark = length (q .history) ∷ q .name }
+
+-- "Write alters one place of the bottom frame's list."
+abbrev pub written : Frame → ℕ → ℕ → Frame
+written q x v = record { name = q .name; values = set (q .values) x v; history = writeEvent q x ∷ q .history; spawned = q .spawned }
+
+-- of q, the bottom of w's deque, above which is d
+abbrev pub afterWrite : Machine → ℕ → Frame → List Frame → ℕ → ℕ → Machine
+afterWrite M w q d x v = withDeque M w (written q x v ∷ d)
+
 -- ---- "Refused, in checking order"
 
 -- each test stands with what it gives: that of the first test that holds, or else x
@@ -53,14 +66,14 @@ notBelow x n = not (ltb x n)
 -- 13. "The step is a spawn and 64 frames live."
 -- 14. "The step is a return and the frame has a live child."
 -- 15. "The step is a read or a write and the splitter is not below n."
--- 16. "The step is a write and fewer than H + 1 nodes are free."
-abbrev pub actionTests : Machine → List Frame → Action → List (Bool × ℕ)
-actionTests M [] a = []
-actionTests M (q ∷ d) spawn = (notBelow (length (live M)) maxFrames, 13) ∷ []
-actionTests M (q ∷ d) return = (hasChild (q .name) (live M), 14) ∷ []
-actionTests M (q ∷ d) sync = []
-actionTests M (q ∷ d) (read x) = (notBelow x (M .splitters), 15) ∷ []
-actionTests M (q ∷ d) (write x v) = (notBelow x (M .splitters), 15) ∷ (ltb (freeNodes M) (suc (height (M .splitters))), 16) ∷ []
+-- 16. "when the write would bring that count above the pool's nodes" (R-2), the count being that of the nodes in use
+abbrev pub actionTests : Machine → ℕ → List Frame → Action → List (Bool × ℕ)
+actionTests M w [] a = []
+actionTests M w (q ∷ d) spawn = (notBelow (length (live M)) maxFrames, 13) ∷ []
+actionTests M w (q ∷ d) return = (hasChild (q .name) (live M), 14) ∷ []
+actionTests M w (q ∷ d) sync = []
+actionTests M w (q ∷ d) (read x) = (notBelow x (M .splitters), 15) ∷ []
+actionTests M w (q ∷ d) (write x v) = (notBelow x (M .splitters), 15) ∷ (ltb (M .nodes) (inUse (M .splitters) (live (afterWrite M w q d x v))), 16) ∷ []
 
 -- 8. "The worker does not exist."
 -- 9. "Main has returned." That is, no frame lives (Theory.MainEnds shows that this is outcome 3)
@@ -68,7 +81,7 @@ actionTests M (q ∷ d) (write x v) = (notBelow x (M .splitters), 15) ∷ (ltb (
 -- 11. "The step is a steal and the thief is not idle."
 -- 12. "The victim does not exist or has fewer than two frames."
 abbrev pub turnTests : Machine → Turn → List (Bool × ℕ)
-turnTests M (acting w a) = (noWorker M w, 8) ∷ (isEmpty (live M), 9) ∷ (isEmpty (deque M w), 10) ∷ actionTests M (deque M w) a
+turnTests M (acting w a) = (noWorker M w, 8) ∷ (isEmpty (live M), 9) ∷ (isEmpty (deque M w), 10) ∷ actionTests M w (deque M w) a
 turnTests M (stealing w v) = (noWorker M w, 8) ∷ (isEmpty (live M), 9) ∷ (not (isEmpty (deque M w)), 11) ∷ (noWorker M v || ltb (length (deque M v)) 2, 12) ∷ []
 
 -- a refusal's number, and 0 if the step is accepted
@@ -89,14 +102,6 @@ child q = record { name = suc (q .spawned) ∷ q .name; values = q .values; hist
 -- its parent, one spawn on
 abbrev pub afterSpawn : Frame → Frame
 afterSpawn q = record { name = q .name; values = q .values; history = q .history; spawned = suc (q .spawned) }
-
--- a write of q to x: its mark is the number of writes before it in q's history, then its writer (History)
-abbrev pub writeEvent : Frame → ℕ → Event
-writeEvent q x = record { splitter = x; mark = length (q .history) ∷ q .name }
-
--- "Write alters one place of the bottom frame's list."
-abbrev pub written : Frame → ℕ → ℕ → Frame
-written q x v = record { name = q .name; values = set (q .values) x v; history = writeEvent q x ∷ q .history; spawned = q .spawned }
 
 -- a frame of that name has left its deque, which is d now. "If the deque is empty, the parent is suspended and has no live
 -- child left, the parent resumes on this worker"
@@ -123,7 +128,7 @@ afterAction M w (q ∷ d) spawn = withDeque M w (child q ∷ afterSpawn q ∷ d)
 afterAction M w (q ∷ d) return = cond (parentResumes (withDeque M w d) (q .name) d) (resume (withDeque M w d) w (tail (q .name))) (withDeque M w d)
 afterAction M w (q ∷ d) sync = cond (hasChild (q .name) (live M)) (suspend M w q d) M
 afterAction M w (q ∷ d) (read x) = M
-afterAction M w (q ∷ d) (write x v) = withDeque M w (written q x v ∷ d)
+afterAction M w (q ∷ d) (write x v) = afterWrite M w q d x v
 
 -- "an idle worker takes the top frame of a victim with at least two frames"
 abbrev pub afterSteal : Machine → ℕ → ℕ → Machine
@@ -158,7 +163,7 @@ actionAnswer M w (q ∷ d) spawn = (101, depth (child q))
 actionAnswer M w (q ∷ d) return = (102, returnOutcome (withDeque M w d) (q .name) d)
 actionAnswer M w (q ∷ d) sync = (104, cond (hasChild (q .name) (live M)) 1 0)
 actionAnswer M w (q ∷ d) (read x) = (105, valueAt q x)
-actionAnswer M w (q ∷ d) (write x v) = (106, freeNodes (withDeque M w (written q x v ∷ d)))
+actionAnswer M w (q ∷ d) (write x v) = (106, freeNodes (afterWrite M w q d x v))
 
 -- "steal the stolen frame's depth"
 abbrev pub stolenDepth : List Frame → ℕ

@@ -11,7 +11,7 @@ use lib.Dec.{ltb}
 use lib.ListN.{getD}
 use Rattle.words.specs.Basics.{none, plus}
 use Rattle.sizes.specs.Sizes.{bit, width}
-use Rattle.pool.specs.Pool.{refcount, left, right, child, sibling, setNode, setRefcount, leafOf, freed, release, pathNode, copyPath, write, initLevel, initInner, initLeaves, initFree}
+use Rattle.pool.specs.Pool.{refcount, left, right, child, sibling, setNode, setRefcount, leafOf, freed, release, pathNode, copyPath, initLevel, initInner, initLeaves, initFree}
 
 -- the two parts of an equation of pairs
 pub parts : {p q : List ℕ × ℕ} → p ≡ q → (p .0 ≡ q .0) × (p .1 ≡ q .1)
@@ -76,13 +76,6 @@ release-inner zero ws f k i h c s z a b w m p q = absurd (z refl)
 release-inner (suc l) ws f k i h c s z a b w m p q =
     let e : refcount ws i - 1 ≡ 0 = omega arith in
     rw (q .0, q .1, q .2, p .0, p .1, p .2, w, m, a, b) (parts₃ (rw (ne-eqb i none h, eq-eqb (refcount ws i - 1) 0 e, sub-one, release)))
-
--- ---- a write: a path of h + 1 nodes, then the release
-
-pub write-by : (h : ℕ) (ws : List ℕ) (f k root x v : ℕ) (p : List ℕ × ℕ) → p ≡ copyPath h ws f root x v →
-    release h (p .0) (p .1) (k - h - 1) root ≡ write h ws f k root x v
-unfolding write
-write-by h ws f k root x v p e = let n : k - h - 1 ≡ k - suc h = omega arith in rw (e, n)
 
 -- ---- the start
 

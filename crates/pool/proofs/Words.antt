@@ -1,23 +1,15 @@
 -- The word that a bit indexes is the child, the other one the sibling: what the walk and the path read and store.
 use mathlib.Core.Path.{_≡_, ap, ap₂, _∙_}
 use mathlib.Core.List.{List}
-use Prim.Native.Nat.{ℕ, zero, suc, _+_, _-_, _*_, _/_, _^_, _<_, _≤_}
-use native.Mathlib.Nat.{div-eq-of-lt, lt-of-lt-of-le}
+use Prim.Native.Nat.{ℕ, zero, suc, _+_, _-_, _*_, _/_, _^_, _<_}
 use native.Mathlib.Omega.{arith}
 use lib.Bits.{bitAnd}
 use lib.ListN.{getD, set}
-use lib.Pow.{pow-mono}
 use lib.Seq.{set-comm}
 use Rattle.sizes.specs.Bits.{bit-mask, bit-lt}
 use Rattle.sizes.specs.Sizes.{bit}
-use Rattle.pool.specs.Links.{Link, LinksIn}
-use Rattle.pool.specs.Theory.Links.{sibling-link}
-use Rattle.pool.specs.Pool.{left, right, side, child, sibling, setNode, retain, pathNode}
-
--- past the width of a word every bit is 0
-pub bit-high : (l x : ℕ) → x < 2 ^ 32 → 32 ≤ l → 0 ≡ bit l x
-unfolding bit
-bit-high l x h k = rw (div-eq-of-lt (lt-of-lt-of-le h (pow-mono k)))
+use Rattle.pool.specs.Links.{Link}
+use Rattle.pool.specs.Pool.{left, right, side, child, sibling, setNode, setLink, retain, pathNode}
 
 -- the shift and mask of the code
 pub mask-lt : (l x : ℕ) → bitAnd (x / 2 ^ l) 1 < 2
@@ -53,5 +45,12 @@ pub copy-words : (ws : List ℕ) (i old m b next : ℕ) → m ≡ b → b < 2 �
     ≡ pathNode ws i b next (sibling ws old b)
 copy-words ws i old m b next e h = rw (e, sibling-word ws old b h) (path-words ws i b next (sibling ws old b) h)
 
-pub kept-link : {N : ℕ} {ws : List ℕ} (old m b : ℕ) → LinksIn N ws → old < N → m ≡ b → b < 2 → Link N (getD ws (4 * old + 2 - m) 0)
-kept-link {ws = ws} old m b L h e k = rw (e, sibling-word ws old b k) (sibling-link old b L h)
+pub kept-link : {N : ℕ} (ws : List ℕ) (old m b : ℕ) → m ≡ b → b < 2 → Link N (sibling ws old b) → Link N (getD ws (4 * old + 2 - m) 0)
+kept-link ws old m b e k L = rw (e, sibling-word ws old b k) L
+
+-- a link stored by the mask
+pub link-word : (ws : List ℕ) (i m b c : ℕ) → m ≡ b → b < 2 → set ws (4 * i + 1 + m) c ≡ setLink ws i b c
+unfolding setLink side
+link-word ws i m zero c e h = ap (λ (k : ℕ). set ws k c) (omega arith)
+link-word ws i m (suc zero) c e h = ap (λ (k : ℕ). set ws k c) (omega arith)
+link-word ws i m (suc (suc b)) c e h = absurd (omega arith)

@@ -3,11 +3,11 @@ use mathlib.Core.Path.{_≡_}
 use mathlib.Core.Logic.{_⊎_}
 use mathlib.Core.Bool.{Bool, true, false}
 use mathlib.Core.List.{List}
-use Prim.Native.Nat.{ℕ, zero, suc, _*_, _≤_, _<_}
+use Prim.Native.Nat.{ℕ, zero, suc, _-_, _*_, _≤_, _<_}
 use lib.ListN.{length}
 use Rattle.words.specs.Basics.{none}
 use Rattle.sizes.specs.Sizes.{bit}
-use Rattle.pool.specs.Pool.{refcount, left, right, child, release}
+use Rattle.pool.specs.Pool.{refcount, left, right, child, sibling, nextFree, release, pathNode}
 
 -- i is one of N nodes, or none
 abbrev pub Link : ℕ → ℕ → Type 0
@@ -24,12 +24,29 @@ abbrev pub PathIn : ℕ → List ℕ → ℕ → ℕ → ℕ → Type 0
 PathIn N ws zero i x = i < N
 PathIn N ws (suc l) i x = (i < N) × PathIn N ws l (child ws i (bit l x)) x
 
+-- the new path of copyPath from level l down: its nodes are nodes, and so are those that it copies
+unfoldable pub CopyIn : ℕ → ℕ → List ℕ → ℕ → ℕ → ℕ → Type 0
+CopyIn N zero ws i old x = i < N
+CopyIn N (suc l) ws i old x =
+    (i < N) × (old < N) × Link N (sibling ws old (bit l x))
+    × CopyIn N l (pathNode ws i (bit l x) (nextFree ws i) (sibling ws old (bit l x))) (nextFree ws i) (child ws old (bit l x)) x
+
+-- the numbers that firstShared gives
+abbrev pub IsShared : ℕ → ℕ → ℕ → ℕ × ℕ × ℕ → Type 0
+IsShared r i a p = (r ≡ p .0) × (i ≡ p .1) × (a ≡ p .2)
+
+-- a write to x in a tree of height h meets nodes only, where p is what firstShared gives
+pub record WriteIn (N h : ℕ) (ws : List ℕ) (free x : ℕ) (p : ℕ × ℕ × ℕ) : Type 0 where
+  pub within : p .0 ≤ suc h
+  pub node : p .1 < N
+  pub above : 0 < p .0 → p .0 ≤ h → p .2 < N
+  pub copies : 0 < p .0 → CopyIn N (p .0 - 1) ws free (p .1) x
+
+-- the words, the free list and the root after a write
+abbrev pub Wrote : List ℕ × ℕ × ℕ × ℕ → List ℕ → ℕ → ℕ → ℕ → Type 0
+Wrote p ws f k r = (ws ≡ p .0) × (f ≡ p .1) × (k ≡ p .2) × (r ≡ p .3)
+
 -- what is left to do after node i lost a holder: to free it, with nothing stored yet; or nothing, its release is done
 abbrev pub LetGo : Bool → ℕ → List ℕ → List ℕ → ℕ → Type 0
 LetGo true N ws ws' i = (ws' ≡ ws) × (i < N) × (refcount ws i ≤ 1)
 LetGo false N ws ws' i = (l free k : ℕ) → (ws', free, k) ≡ release l ws free k i
-
--- the end of a write of this height: p has the words and the next free node after the new path, k nodes are free then, and the
--- old root is released; ws, free and k' are the words and the free list afterwards
-abbrev pub WriteEnds : ℕ → List ℕ × ℕ → ℕ → ℕ → List ℕ → ℕ → ℕ → Type 0
-WriteEnds h p k root ws free k' = (ws ≡ release h (p .0) (p .1) k root .0) × (free ≡ release h (p .0) (p .1) k root .1) × (k' ≡ release h (p .0) (p .1) k root .2)

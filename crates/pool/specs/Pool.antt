@@ -1,6 +1,6 @@
 -- The pool of nodes in a lent list of words, and what is done to it. Definitions only; every one is total.
 -- A node's number is its place; `free` is the first node of the free list (document 01: the free chain).
-use mathlib.Core.Bool.{true, false, cond}
+use mathlib.Core.Bool.{Bool, true, false, cond}
 use mathlib.Core.List.{List}
 use Prim.Native.Nat.{ℕ, zero, suc, _+_, _-_, _*_}
 use lib.ListN.{getD, set}
@@ -57,7 +57,20 @@ leafOf (suc l) ws i x = leafOf l ws (child ws i (bit l x)) x
 unfoldable pub readAt : ℕ → List ℕ → ℕ → ℕ → ℕ
 readAt h ws root x = value ws (leafOf h ws root x)
 
+-- ---- stores of one word
+
+unfoldable pub setValue : List ℕ → ℕ → ℕ → List ℕ
+setValue ws i v = set ws (4 * i + 3) v
+
+-- the link on side b
+unfoldable pub setLink : List ℕ → ℕ → ℕ → ℕ → List ℕ
+setLink ws i b c = set ws (side b (4 * i + 1) (4 * i + 2)) c
+
 -- ---- reference counts
+
+-- more than one holder
+abbrev pub shared : List ℕ → ℕ → Bool
+shared ws i = ltb 1 (refcount ws i)
 
 -- one holder more; no node, no change
 unfoldable pub retain : List ℕ → ℕ → List ℕ
@@ -100,12 +113,37 @@ copyPath zero ws i old x v = (setNode ws i 1 none none v, nextFree ws i)
 copyPath (suc l) ws i old x v =
     copyPath l (pathNode ws i (bit l x) (nextFree ws i) (sibling ws old (bit l x))) (nextFree ws i) (child ws old (bit l x)) x v
 
--- "A write always takes H + 1 nodes, root first, builds the new path beside the old siblings, gives it to the frame, then
--- releases the old root." The new root is the node that was free first; k nodes were free
-unfoldable pub write : ℕ → List ℕ → ℕ → ℕ → ℕ → ℕ → ℕ → List ℕ × ℕ × ℕ
+-- document 02, R-2: "the rest of the path is new": from level l down, in the place of the node old, which has one holder less then.
+-- The words and the next free node; the first new node is the one that was free first
+unfoldable pub renew : ℕ → List ℕ → ℕ → ℕ → ℕ → ℕ → List ℕ × ℕ
+renew l ws free old x v =
+    let p : List ℕ × ℕ = copyPath l ws free old x v in
+    (setRefcount (p .0) old (refcount (p .0) old - 1), p .1)
+
+-- "From the root down, nodes with one holder are altered where they are; from the first with more holders the rest of the path is
+-- new": on the way to x from node i of level l, with `above` above it, the first node with more holders, or else the leaf. How many
+-- nodes that rest has (none if no node is shared), this node, and the node above it
+unfoldable pub firstShared : ℕ → List ℕ → ℕ → ℕ → ℕ → ℕ × ℕ × ℕ
+firstShared zero ws above i x = (cond (shared ws i) 1 0, i, above)
+firstShared (suc l) ws above i x = elim (shared ws i) [ true ↦ (suc (suc l), i, above) | false ↦ firstShared l ws i (child ws i (bit l x)) x ]
+
+-- how many nodes a write to x takes: those "that rest has"
+unfoldable pub rest : ℕ → List ℕ → ℕ → ℕ → ℕ
+rest h ws root x = firstShared h ws root root x .0
+
+-- the write, where the rest of the path has r nodes, from node i on, with `above` above it. With none shared the leaf i gets the
+-- value; else the rest is new, and the link to it is that of the node above, or the frame's root. k nodes were free. The words, the
+-- first free node, the number of free nodes, and the frame's root afterwards
+unfoldable pub writeFrom : ℕ → ℕ → ℕ → ℕ → List ℕ → ℕ → ℕ → ℕ → ℕ → ℕ → List ℕ × ℕ × ℕ × ℕ
+writeFrom zero i above h ws free k root x v = (setValue ws i v, free, k, root)
+writeFrom (suc m) i above h ws free k root x v =
+    let p : List ℕ × ℕ = renew m ws free i x v in
+    elim (eqb m h) [ true ↦ (p .0, p .1, k - suc m, free) | false ↦ (setLink (p .0) above (bit m x) free, p .1, k - suc m, root) ]
+
+unfoldable pub write : ℕ → List ℕ → ℕ → ℕ → ℕ → ℕ → ℕ → List ℕ × ℕ × ℕ × ℕ
 write h ws free k root x v =
-    let p : List ℕ × ℕ = copyPath h ws free root x v in
-    release h (p .0) (p .1) (k - suc h) root
+    let p : ℕ × ℕ × ℕ = firstShared h ws root root x in
+    writeFrom (p .0) (p .1) (p .2) h ws free k root x v
 
 -- ---- the start
 

@@ -19,10 +19,16 @@ pub mod Walk
 pub mod PathNode
 -- CopyPath: the whole new path
 pub mod CopyPath
--- Operations: spawn, return and write on a pool with live roots
+-- Operations: spawn and return on a pool with live roots
 pub mod Operations
 -- Reached: in use is reached from a live root
 pub mod Reached
+-- Alone: reached through counts of one is in one place of one frame's tree
+pub mod Alone
+-- Relink: a link moves from a node with more holders to one that is held outside
+pub mod Relink
+-- Write: a write on a pool with live roots
+pub mod Write
 -- LiveLinks: a live pool has what Links asks
 pub mod LiveLinks
 -- Trees: document 01's soundness of the pool, and the nodes of its trees
@@ -33,6 +39,8 @@ pub mod Soundness
 pub mod Sharing
 -- InUse: the nodes in use are as many as the model says
 pub mod InUse
+-- Rest: a write brings as many nodes into use as its path has new ones
+pub mod Rest
 -- Start: a pool that is filled as the start says is live
 pub mod Start
 -- Init: initPool fills it so

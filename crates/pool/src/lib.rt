@@ -4,18 +4,15 @@
 mod node;
 mod refs;
 mod start;
-mod total;
 mod tree;
 
 pub use node::NONE;
 pub use node::left_of;
-pub use node::refcount_of;
-pub use node::right_of;
-pub use node::set_node;
-pub use node::set_refcount;
-pub use refs::FreeList;
 pub use refs::release;
 pub use refs::retain;
 pub use start::init_pool;
+pub use tree::FirstShared;
+pub use tree::Written;
+pub use tree::first_shared;
 pub use tree::read_at;
-pub use tree::write_path;
+pub use tree::write_from;

@@ -19,12 +19,6 @@ pub fn retain(pool: &mut [u32], nodes: u32, i: u32)
     }
 }
 
-// The free list: its first node, and how many nodes it has.
-pub struct FreeList {
-    pub first: u32,
-    pub count: u32,
-}
-
 // One holder less. True if it was the last: node i is then to be freed, and nothing is stored.
 fn let_go(pool: &mut [u32], nodes: u32, i: u32) -> bool
     requires { ⌜ (4 * nodes ≤ length (now pool)) × Link nodes i ⌝ }

@@ -1,5 +1,5 @@
 -- Membership and permutations of lists, and of lists joined.
-use mathlib.Core.Path.{_≡_, refl, _∙_}
+use mathlib.Core.Path.{_≡_, refl, ap, _∙_}
 use mathlib.Core.List.{List·Memᴰ as In, List·Memᴰ·head as here, List·Memᴰ·tail as there}
 use mathlib.Core.List.{List, [], _∷_, _++_, List·Permᴰ, List·Permᴰ·nil, List·Permᴰ·cons, List·Permᴰ·swap, List·Permᴰ·trans, Permᴰ·refl, Permᴰ·symm, Permᴰ·middle, Permᴰ·append-left}
 use Prim.Native.Nat.{ℕ, zero, suc, _<_}
@@ -15,6 +15,12 @@ In-perm (List·Permᴰ·swap e e′) (here d) = there (here (d ∙ e))
 In-perm (List·Permᴰ·swap e e′) (there (here d)) = here (d ∙ e′)
 In-perm (List·Permᴰ·swap e e′) (there (there h)) = there (there h)
 In-perm (List·Permᴰ·trans p q) h = In-perm q (In-perm p h)
+
+pub perm-length : {A : Type 0} {l m : List A} → List·Permᴰ l m → length l ≡ length m
+perm-length List·Permᴰ·nil = refl
+perm-length (List·Permᴰ·cons e p) = ap suc (perm-length p)
+perm-length (List·Permᴰ·swap e e′) = refl
+perm-length (List·Permᴰ·trans p q) = perm-length p ∙ perm-length q
 
 pub perm-swap : {A : Type 0} (a b c : List A) → List·Permᴰ (a ++ (b ++ c)) (b ++ (a ++ c))
 perm-swap [] b c = Permᴰ·refl (b ++ c)

@@ -10,11 +10,12 @@ use Rattle.model.specs.Examples.Cases.{Case, answered, expected}
 
 edges : List Case
 edges =
-    -- "n 1, one node: write refused 16", "two nodes: accepted, 106 1"
-    record { workers = 1; values = 7 ∷ []; nodes = 1; steps = Write 0 0 5 ∷ []; expected = (16, 0) ∷ [] }
+    -- "one node with n 1", "106 0" (R-2); "two nodes: accepted, 106 1"
+    record { workers = 1; values = 7 ∷ []; nodes = 1; steps = Write 0 0 5 ∷ Read 0 0 ∷ []; expected = (106, 0) ∷ (105, 5) ∷ [] }
     ∷ record { workers = 1; values = 7 ∷ []; nodes = 2; steps = Write 0 0 5 ∷ Read 0 0 ∷ []; expected = (106, 1) ∷ (105, 5) ∷ [] }
-    -- "n 5", "14 nodes: write refused 16", "15: 106 4"
-    ∷ record { workers = 1; values = replicate 5 0; nodes = 14; steps = Write 0 0 5 ∷ []; expected = (16, 0) ∷ [] }
+    -- "n 5 with 11 nodes now accepts a first write, 106 0", "14 nodes with n 5", "106 3" (R-2); "15: 106 4"
+    ∷ record { workers = 1; values = replicate 5 0; nodes = 11; steps = Write 0 0 5 ∷ []; expected = (106, 0) ∷ [] }
+    ∷ record { workers = 1; values = replicate 5 0; nodes = 14; steps = Write 0 0 5 ∷ []; expected = (106, 3) ∷ [] }
     ∷ record { workers = 1; values = replicate 5 0; nodes = 15; steps = Write 0 0 5 ∷ []; expected = (106, 4) ∷ [] }
     -- "Stealing from a deque of one: 12"; the victim that does not exist; "Return by Main while its child runs elsewhere: 14",
     -- which counts a child on another deque
@@ -59,9 +60,9 @@ edges =
       steps = Spawn 0 ∷ Spawn 0 ∷ Write 0 0 8 ∷ Steal 1 0 ∷ Read 1 0 ∷ Read 0 0 ∷ Return 0 ∷ [];
       expected = (101, 1) ∷ (101, 2) ∷ (106, 2) ∷ (103, 0) ∷ (105, 7) ∷ (105, 8) ∷ (102, 0) ∷ [];
     }
-    -- "skipping the new path when the written value is equal": a write of the same value takes nodes, and is refused for want
-    -- of them
-    ∷ record { workers = 1; values = 7 ∷ []; nodes = 1; steps = Write 0 0 7 ∷ []; expected = (16, 0) ∷ [] }
+    -- "skipping the new path when the written value is equal": a write of the same value takes the nodes that are shared, and
+    -- is refused for want of them
+    ∷ record { workers = 1; values = 7 ∷ []; nodes = 1; steps = Spawn 0 ∷ Write 0 0 7 ∷ Return 0 ∷ Write 0 0 7 ∷ []; expected = (101, 1) ∷ (16, 0) ∷ (102, 0) ∷ (106, 0) ∷ [] }
     ∷ record { workers = 1; values = 7 ∷ []; nodes = 3; steps = Spawn 0 ∷ Write 0 0 7 ∷ Write 0 0 7 ∷ []; expected = (101, 1) ∷ (106, 1) ∷ (106, 1) ∷ [] }
     ∷ []
 

@@ -2,11 +2,11 @@
 use mathlib.Core.Path.{_≡_, refl, sym, ap, _∙_, subst}
 use mathlib.Core.Logic.{inl, inr}
 use mathlib.Core.List.{List·Memᴰ as In, List·Memᴰ·head as here, List·Memᴰ·tail as there, List·Memᴰ·not-nil as not-in-nil, List·Memᴰ·eq-of-singleton as In-one, List·Memᴰ·cases-cons as In-cons, List·Memᴰ·append-cases as In-cases}
-use mathlib.Core.List.{List, _∷_, _++_, List·Permᴰ, List·Permᴰ·nil, List·Permᴰ·cons, List·Permᴰ·swap, List·Permᴰ·trans, Permᴰ·symm}
+use mathlib.Core.List.{List, _∷_, _++_, List·Permᴰ, Permᴰ·symm}
 use Prim.Native.Nat.{ℕ, suc, _≤_, _<_}
 use native.Mathlib.Omega.{arith}
 use lib.ListN.{length, length-set}
-use Rattle.words.specs.Lists.{In-perm}
+use Rattle.words.specs.Lists.{In-perm, perm-length}
 use Rattle.model.specs.History.{Event}
 use Rattle.model.specs.Machine.{Frame, Machine, maxFrames, live, start}
 use Rattle.model.specs.Steps.{Action, spawn, return, sync, read, write, Turn, written, afterTurn}
@@ -21,12 +21,6 @@ pub record Sized (n : ℕ) (f : Frame) : Type 0 where
 abbrev pub Bounded : ℕ → List Frame → Type 0
 Bounded n L = (length L ≤ maxFrames) × ((f : Frame) → In f L → Sized n f)
 
-perm-length : {A : Type 0} {l m : List A} → List·Permᴰ l m → length l ≡ length m
-perm-length List·Permᴰ·nil = refl
-perm-length (List·Permᴰ·cons e p) = ap suc (perm-length p)
-perm-length (List·Permᴰ·swap e e′) = refl
-perm-length (List·Permᴰ·trans p q) = perm-length p ∙ perm-length q
-
 bounded-perm : (n : ℕ) {L L′ : List Frame} → List·Permᴰ L L′ → Bounded n L → Bounded n L′
 bounded-perm n p b = (omega (arith, b .0, perm-length p), λ f m. b .1 f (In-perm (Permᴰ·symm p) m))
 
@@ -36,28 +30,28 @@ sized-written n q x v h k = record {
   writes = λ e m. elim (In-cons m) [ inl d ↦ rw d h | inr i ↦ k .writes e i ];
 }
 
-sized-successor : (n nodes : ℕ) (L : List Frame) (q : Frame) (a : Action) → Allowed n nodes L q a → Sized n q → (f : Frame) → In f (successors q a) → Sized n f
-sized-successor n nodes L q spawn ok k f (here e) = rw e (record { values = k .values; writes = k .writes })
-sized-successor n nodes L q spawn ok k f (there (here e)) = rw e (record { values = k .values; writes = k .writes })
-sized-successor n nodes L q sync ok k f (here e) = rw e k
-sized-successor n nodes L q (read x) ok k f (here e) = rw e k
-sized-successor n nodes L q (write x v) ok k f (here e) = rw e (sized-written n q x v (ok .0) k)
+sized-successor : (n nodes : ℕ) (q : Frame) (R : List Frame) (a : Action) → Allowed n nodes q R a → Sized n q → (f : Frame) → In f (successors q a) → Sized n f
+sized-successor n nodes q R spawn ok k f (here e) = rw e (record { values = k .values; writes = k .writes })
+sized-successor n nodes q R spawn ok k f (there (here e)) = rw e (record { values = k .values; writes = k .writes })
+sized-successor n nodes q R sync ok k f (here e) = rw e k
+sized-successor n nodes q R (read x) ok k f (here e) = rw e k
+sized-successor n nodes q R (write x v) ok k f (here e) = rw e (sized-written n q x v (ok .0) k)
 
-few-acted : (n nodes : ℕ) (L : List Frame) (q : Frame) (a : Action) (R : List Frame) → List·Permᴰ L (q ∷ R) → Allowed n nodes L q a → length (q ∷ R) ≤ maxFrames → length (successors q a ++ R) ≤ maxFrames
-few-acted n nodes L q spawn R p ok h = omega (arith, ok, perm-length p)
-few-acted n nodes L q return R p ok h = omega arith
-few-acted n nodes L q sync R p ok h = h
-few-acted n nodes L q (read x) R p ok h = h
-few-acted n nodes L q (write x v) R p ok h = h
+few-acted : (n nodes : ℕ) (q : Frame) (a : Action) (R : List Frame) → Allowed n nodes q R a → length (q ∷ R) ≤ maxFrames → length (successors q a ++ R) ≤ maxFrames
+few-acted n nodes q spawn R ok h = ok
+few-acted n nodes q return R ok h = omega arith
+few-acted n nodes q sync R ok h = h
+few-acted n nodes q (read x) R ok h = h
+few-acted n nodes q (write x v) R ok h = h
 
-bounded-acted : (n nodes : ℕ) (L : List Frame) (q : Frame) (a : Action) (R : List Frame) → List·Permᴰ L (q ∷ R) → Allowed n nodes L q a → Bounded n (q ∷ R) → Bounded n (successors q a ++ R)
-bounded-acted n nodes L q a R p ok b = (
-  few-acted n nodes L q a R p ok (b .0),
-  λ f m. elim (In-cases (successors q a) m) [ inl i ↦ sized-successor n nodes L q a ok (b .1 q (here refl)) f i | inr i ↦ b .1 f (there i) ],
+bounded-acted : (n nodes : ℕ) (q : Frame) (a : Action) (R : List Frame) → Allowed n nodes q R a → Bounded n (q ∷ R) → Bounded n (successors q a ++ R)
+bounded-acted n nodes q a R ok b = (
+  few-acted n nodes q a R ok (b .0),
+  λ f m. elim (In-cases (successors q a) m) [ inl i ↦ sized-successor n nodes q R a ok (b .1 q (here refl)) f i | inr i ↦ b .1 f (there i) ],
 )
 
 pub bounded-turn : (M : Machine) (t : Turn) → Passes M t → Bounded (M .splitters) (live M) → Bounded (M .splitters) (live (afterTurn M t))
-bounded-turn M = live-kept (Bounded (M .splitters)) M (λ L L′. bounded-perm (M .splitters)) (bounded-acted (M .splitters) (M .nodes) (live M))
+bounded-turn M = live-kept (Bounded (M .splitters)) M (λ L L′. bounded-perm (M .splitters)) (λ q a R p. bounded-acted (M .splitters) (M .nodes) q a R)
 
 pub bounded-start : (w : ℕ) (vs : List ℕ) (nodes : ℕ) → Bounded (length vs) (live (start w vs nodes))
 bounded-start w vs nodes = subst (Bounded (length vs)) (sym (live-start w vs nodes)) (

@@ -10,11 +10,12 @@ use lib.Seq.{getD-set-other, set-getD, set-set}
 use lib.Dec.{ltb}
 use Rattle.words.specs.Basics.{joined, same}
 use Rattle.words.specs.Tests.{true≢false, decided, neither, lt-of, not-false, ge-of}
-use Rattle.words.specs.Lists.{perm-swap, joined-set, joined-empty}
-use Rattle.sizes.specs.Sizes.{height}
-use Rattle.model.specs.Machine.{Name, Frame, Machine, maxFrames, live, deque, withDeque, isEmpty, top, belowTop, hasChild, named, notNamed, inUse, freeNodes, main, start}
-use Rattle.model.specs.Steps.{Action, spawn, return, sync, read, write, Turn, acting, stealing, firstTrue, noWorker, notBelow, actionTests, turnTests, child, afterSpawn, written, parentResumes, resume, afterAction, afterSteal}
+use Rattle.words.specs.Lists.{perm-swap, perm-length, joined-set, joined-empty}
+use Rattle.model.specs.Machine.{Name, Frame, Machine, maxFrames, live, deque, withDeque, isEmpty, top, belowTop, hasChild, named, notNamed, inUse, main, start}
+use Rattle.model.specs.Steps.{Action, spawn, return, sync, read, write, Turn, acting, stealing, firstTrue, noWorker, notBelow, actionTests, turnTests, child, afterSpawn, written, afterWrite, parentResumes, resume, afterAction, afterSteal}
+use Rattle.model.specs.Theory.Histories.{inUse-perm}
 use Rattle.model.specs.Theory.LiveRun.{successors, Allowed}
+use Rattle.model.specs.Theory.Children.{hasChild-perm}
 
 -- ---- what is not refused
 
@@ -30,17 +31,6 @@ none-true : (b : Bool) (k : ℕ) (ts : List (Bool × ℕ)) → NoneTrue ((b, suc
 none-true true k ts h = absurd (omega arith)
 none-true false k ts h = (refl, h)
 
-pub tests-allow : (M : Machine) (q : Frame) (d : List Frame) (a : Action) → NoneTrue (actionTests M (q ∷ d) a) → Allowed (M .splitters) (M .nodes) (live M) q a
-tests-allow M q d spawn h = lt-of (not-false _ (none-true (notBelow (length (live M)) maxFrames) 12 [] h .0))
-tests-allow M q d return h = none-true (hasChild (q .name) (live M)) 13 [] h .0
-tests-allow M q d sync h = tt
-tests-allow M q d (read x) h = lt-of (not-false _ (none-true (notBelow x (M .splitters)) 14 [] h .0))
-tests-allow M q d (write x v) h =
-    let few = ltb (freeNodes M) (suc (height (M .splitters))) in
-    let h₁ = none-true (notBelow x (M .splitters)) 14 ((few, 16) ∷ []) h in
-    let g : suc (height (M .splitters)) ≤ M .nodes - inUse (M .splitters) (live M) = ge-of (none-true few 15 [] (h₁ .1) .0) in
-    (lt-of (not-false _ (h₁ .0)), omega arith)
-
 -- ---- the frames apart from one deque
 
 abbrev pub rest : Machine → ℕ → List Frame
@@ -54,6 +44,18 @@ live-at M w d h e = subst (λ z. List·Permᴰ (M .suspended ++ joined z) (d ++ 
 
 pub live-start : (w : ℕ) (vs : List ℕ) (nodes : ℕ) → live (start w vs nodes) ≡ main vs ∷ []
 live-start w vs nodes = ap (λ z. main vs ∷ z) (joined-empty (w - 1))
+
+-- ---- what the tests leave to be known
+
+pub tests-allow : (M : Machine) (w : ℕ) (q : Frame) (d : List Frame) (a : Action) → w < length (M .deques) → List·Permᴰ (live M) (q ∷ (d ++ rest M w)) → NoneTrue (actionTests M w (q ∷ d) a) → Allowed (M .splitters) (M .nodes) q (d ++ rest M w) a
+tests-allow M w q d spawn lt p h = subst (λ z. z < maxFrames) (perm-length p) (lt-of (not-false _ (none-true (notBelow (length (live M)) maxFrames) 12 [] h .0)))
+tests-allow M w q d return lt p h = hasChild-perm (q .name) p (none-true (hasChild (q .name) (live M)) 13 [] h .0)
+tests-allow M w q d sync lt p h = tt
+tests-allow M w q d (read x) lt p h = lt-of (not-false _ (none-true (notBelow x (M .splitters)) 14 [] h .0))
+tests-allow M w q d (write x v) lt p h =
+    let many = ltb (M .nodes) (inUse (M .splitters) (live (afterWrite M w q d x v))) in
+    let h₁ = none-true (notBelow x (M .splitters)) 14 ((many, 16) ∷ []) h in
+    (lt-of (not-false _ (h₁ .0)), subst (λ z. z ≤ M .nodes) (inUse-perm (M .splitters) (live-with M w (written q x v ∷ d) lt)) (ge-of (none-true many 15 [] (h₁ .1) .0)))
 
 perm-named : (p : Name) (l J : List Frame) → List·Permᴰ (notNamed p l ++ (named p l ++ J)) (l ++ J)
 perm-named p [] J = Permᴰ·refl J
@@ -135,7 +137,7 @@ pub record Acts (M : Machine) (w : ℕ) (a : Action) : Type 0 where
   pub above : List Frame
   pub at : deque M w ≡ actor ∷ above
   pub worker : w < length (M .deques)
-  pub allowed : Allowed (M .splitters) (M .nodes) (live M) actor a
+  pub allowed : Allowed (M .splitters) (M .nodes) actor (above ++ rest M w) a
   pub before : List·Permᴰ (live M) (actor ∷ (above ++ rest M w))
   pub after : List·Permᴰ (successors actor a ++ (above ++ rest M w)) (live (afterAction M w (deque M w) a))
 
@@ -143,13 +145,13 @@ pub acts : (M : Machine) (w : ℕ) (a : Action) → Passes M (acting w a) → Ac
 acts M w a h = go (deque M w) refl
   where
     own : List (Bool × ℕ)
-    own = (isEmpty (deque M w), 10) ∷ actionTests M (deque M w) a
+    own = (isEmpty (deque M w), 10) ∷ actionTests M w (deque M w) a
 
     h₁ : (noWorker M w ≡ false) × NoneTrue ((isEmpty (live M), 9) ∷ own)
     h₁ = none-true (noWorker M w) 7 ((isEmpty (live M), 9) ∷ own) h
 
-    h₂ : (isEmpty (deque M w) ≡ false) × NoneTrue (actionTests M (deque M w) a)
-    h₂ = none-true (isEmpty (deque M w)) 9 (actionTests M (deque M w) a) (none-true (isEmpty (live M)) 8 own (h₁ .1) .1)
+    h₂ : (isEmpty (deque M w) ≡ false) × NoneTrue (actionTests M w (deque M w) a)
+    h₂ = none-true (isEmpty (deque M w)) 9 (actionTests M w (deque M w) a) (none-true (isEmpty (live M)) 8 own (h₁ .1) .1)
 
     lt : w < length (M .deques)
     lt = lt-of (not-false _ (h₁ .0))
@@ -161,7 +163,7 @@ acts M w a h = go (deque M w) refl
       above = d;
       at = e;
       worker = lt;
-      allowed = tests-allow M q d a (subst (λ z. NoneTrue (actionTests M z a)) e (h₂ .1));
+      allowed = tests-allow M w q d a lt (live-at M w (q ∷ d) lt e) (subst (λ z. NoneTrue (actionTests M w z a)) e (h₂ .1));
       before = live-at M w (q ∷ d) lt e;
       after = subst (λ z. List·Permᴰ (successors q a ++ (d ++ rest M w)) (live (afterAction M w z a))) (sym e) (Permᴰ·symm (action-live M w q d a lt e));
     }

@@ -11,7 +11,7 @@ use Rattle.model.specs.declared.Step.{Step}
 use Rattle.model.specs.Machine.{Name, Frame, Machine, live, hasChild, start}
 use Rattle.model.specs.Steps.{Action, spawn, return, sync, read, write, Turn, afterSpawn, afterTurn, step}
 use Rattle.model.specs.Theory.LiveRun.{successors, Successor, successor, Allowed, Disjoint, disjoint-perm, disjoint-acted}
-use Rattle.model.specs.Theory.Children.{In-hasChild, hasChild-perm}
+use Rattle.model.specs.Theory.Children.{In-hasChild}
 use Rattle.model.specs.Theory.Effects.{Passes, live-start}
 use Rattle.model.specs.Theory.RunSteps.{live-kept, step-kept}
 
@@ -66,11 +66,11 @@ pub record FrameTree (M : Machine) : Type 0 where
 pub tree-turn : (M : Machine) (t : Turn) → Passes M t → FrameTree M → FrameTree (afterTurn M t)
 tree-turn M t h i = record {
   disjoint = live-kept Disjoint M (λ L L′. disjoint-perm) (λ q a R p ok c. disjoint-acted q a R c) t h (i .disjoint);
-  rooted = live-kept Rooted M (λ L L′. rooted-perm) (λ q a R p ok r. rooted-acted q a R r (λ e. hasChild-perm (q .name) p (childless M q a ok e))) t h (i .rooted);
+  rooted = live-kept Rooted M (λ L L′. rooted-perm) (λ q a R p ok r. rooted-acted q a R r (childless M q R a ok)) t h (i .rooted);
 }
   where
-    childless : (M : Machine) (q : Frame) (a : Action) → Allowed (M .splitters) (M .nodes) (live M) q a → a ≡ return → hasChild (q .name) (live M) ≡ false
-    childless M q a ok e = subst (λ z. Allowed (M .splitters) (M .nodes) (live M) q z) e ok
+    childless : (M : Machine) (q : Frame) (R : List Frame) (a : Action) → Allowed (M .splitters) (M .nodes) q R a → a ≡ return → hasChild (q .name) (q ∷ R) ≡ false
+    childless M q R a ok e = subst (λ z. Allowed (M .splitters) (M .nodes) q R z) e ok
 
 pub tree-step : (M : Machine) (s : Step) → FrameTree M → FrameTree (step M s)
 tree-step M = step-kept FrameTree M (tree-turn M)

@@ -4,10 +4,9 @@ use mathlib.Core.Logic.{_≢_, inl, inr}
 use mathlib.Core.Bool.{false}
 use mathlib.Core.List.{List·Memᴰ as In, List·Memᴰ·head as here, List·Memᴰ·tail as there, List·Memᴰ·cases-cons as In-cons}
 use mathlib.Core.List.{List, [], _∷_, _++_, List·Permᴰ, List·Permᴰ·nil, List·Permᴰ·cons, List·Permᴰ·swap, List·Permᴰ·trans, Permᴰ·symm}
-use Prim.Native.Nat.{ℕ, suc, _+_, _≤_, _<_}
+use Prim.Native.Nat.{ℕ, suc, _≤_, _<_}
 use lib.ListN.{length}
 use Rattle.words.specs.Lists.{In-perm}
-use Rattle.sizes.specs.Sizes.{height}
 use Rattle.model.specs.Machine.{Name, Frame, depth, maxFrames, hasChild, inUse}
 use Rattle.model.specs.Steps.{Action, spawn, return, sync, read, write, child, afterSpawn, written}
 use Rattle.model.specs.Run.{Entry, entry}
@@ -36,20 +35,20 @@ successor q sync h = record { frame = q; new = here refl; named = refl; extends 
 successor q (read x) h = record { frame = q; new = here refl; named = refl; extends = extends-same (depth q) (q .history) }
 successor q (write x v) h = record { frame = written q x v; new = here refl; named = refl; extends = extends-written q x v }
 
--- what the tests 13 to 16 leave to be known of an accepted step of q, one of the live frames L
-abbrev pub Allowed : ℕ → ℕ → List Frame → Frame → Action → Type 0
-Allowed n nodes L q spawn = length L < maxFrames
-Allowed n nodes L q return = hasChild (q .name) L ≡ false
-Allowed n nodes L q sync = Unit {0}
-Allowed n nodes L q (read x) = x < n
-Allowed n nodes L q (write x v) = (x < n) × (inUse n L + suc (height n) ≤ nodes)
+-- what the tests 13 to 16 leave to be known of an accepted step of q, a live frame beside R
+abbrev pub Allowed : ℕ → ℕ → Frame → List Frame → Action → Type 0
+Allowed n nodes q R spawn = length (q ∷ R) < maxFrames
+Allowed n nodes q R return = hasChild (q .name) (q ∷ R) ≡ false
+Allowed n nodes q R sync = Unit {0}
+Allowed n nodes q R (read x) = x < n
+Allowed n nodes q R (write x v) = (x < n) × (inUse n (written q x v ∷ R) ≤ nodes)
 
 -- from the live frames L the steps es, each allowed, lead to no frame; the frames' order does not matter
 pub data LiveRun (n nodes : ℕ) : List Frame → List Entry → Type 0 where
   ended : LiveRun n nodes [] []
   moved : {L L′ : List Frame} {es : List Entry} → List·Permᴰ L L′ → LiveRun n nodes L′ es → LiveRun n nodes L es
   acted : {L L′ : List Frame} {es : List Entry} (q : Frame) (a : Action) (R : List Frame)
-      → List·Permᴰ L (q ∷ R) → Allowed n nodes L q a → List·Permᴰ (successors q a ++ R) L′ → LiveRun n nodes L′ es → LiveRun n nodes L (entry q a ∷ es)
+      → List·Permᴰ L (q ∷ R) → Allowed n nodes q R a → List·Permᴰ (successors q a ++ R) L′ → LiveRun n nodes L′ es → LiveRun n nodes L (entry q a ∷ es)
 
 -- ---- no two live frames own a name: so names are unique, now and later
 
@@ -95,7 +94,7 @@ disjoint-acted q (write x v) R c = c
 module _ (n nodes : ℕ) (P : List Entry → List Frame → Type 0) where
   -- a property that does not depend on the frames' order, and that holds before a step if it holds after it
   pub backward : P [] [] → ((L L′ : List Frame) (es : List Entry) → List·Permᴰ L L′ → P es L′ → P es L)
-      → ((L L′ : List Frame) (es : List Entry) (q : Frame) (a : Action) (R : List Frame) → List·Permᴰ L (q ∷ R) → Allowed n nodes L q a → List·Permᴰ (successors q a ++ R) L′
+      → ((L L′ : List Frame) (es : List Entry) (q : Frame) (a : Action) (R : List Frame) → List·Permᴰ L (q ∷ R) → Allowed n nodes q R a → List·Permᴰ (successors q a ++ R) L′
       → LiveRun n nodes L′ es → Disjoint (q ∷ R) → P es L′ → P (entry q a ∷ es) L)
       → {L : List Frame} {es : List Entry} → LiveRun n nodes L es → Disjoint L → P es L
   backward none move act ended c = none

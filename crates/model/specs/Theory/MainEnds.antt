@@ -14,7 +14,7 @@ use Rattle.model.specs.Machine.{Name, Frame, Machine, live, deque, withD
 use Rattle.model.specs.Steps.{Action, spawn, return, sync, read, write, Turn, acting, stealing, turnOf, child, written, parentResumes, afterAction, afterTurn, step, returnOutcome, actionAnswer, turnAnswer, answer}
 use Rattle.model.specs.Run.{run, Returned}
 use Rattle.model.specs.Theory.LiveRun.{successors, Disjoint, disjoint-perm}
-use Rattle.model.specs.Theory.Children.{In-hasChild, hasChild-perm}
+use Rattle.model.specs.Theory.Children.{In-hasChild}
 use Rattle.model.specs.Theory.Effects.{Passes, rest, isEmpty-nil, Acts, acts, steals}
 use Rattle.model.specs.Theory.RunSteps.{accepted-or-refused}
 use Rattle.model.specs.Theory.FrameTree.{Rooted, rooted-perm, FrameTree, tree-step}
@@ -39,7 +39,7 @@ empty-of (f ∷ L) h = absurd (h f (here refl))
 main-ends : (M : Machine) (w : ℕ) (x : Acts M w return) → FrameTree M → x .actor .name ≡ [] → live (afterAction M w (deque M w) return) ≡ []
 main-ends M w x s e =
     empty-of (live (afterAction M w (deque M w) return)) (λ f m. none-left (x .actor) (x .above ++ rest M w) (rooted-perm (x .before) (s .rooted)) (disjoint-perm (x .before) (s .disjoint))
-    (hasChild-perm (x .actor .name) (x .before) (x .allowed)) e (f .name) f (In-perm (Permᴰ·symm (x .after)) m) refl)
+    (x .allowed) e (f .name) f (In-perm (Permᴰ·symm (x .after)) m) refl)
 
 outcome-three : (M : Machine) (r : Name) (d : List Frame) → returnOutcome M r d ≡ 3 → r ≡ []
 outcome-three M [] d h = refl

@@ -4,21 +4,20 @@ use mathlib.Core.Logic.{inl, inr}
 use mathlib.Core.Bool.{false}
 use mathlib.Core.List.{List·Memᴰ as In, List·Memᴰ·head as here, List·Memᴰ·tail as there, List·Memᴰ·not-nil as not-in-nil, List·Memᴰ·cases-cons as In-cons, Memᴰ·append-left as In-left, Memᴰ·append-right as In-right}
 use mathlib.Core.List.{List, [], _∷_, _++_, append-nil, List·Permᴰ, Permᴰ·refl, Permᴰ·symm}
-use Prim.Native.Nat.{ℕ, suc, _-_, _≤_}
-use native.Mathlib.Nat.{le-refl}
+use Prim.Native.Nat.{ℕ, suc, _≤_}
+use native.Mathlib.Nat.{le-refl, le-trans}
 use native.Mathlib.Omega.{arith}
 use lib.ListN.{length}
 use Rattle.words.specs.Tests.{true≢false, ltb-of, nltb-of}
-use Rattle.words.specs.Lists.{In-perm}
+use Rattle.words.specs.Lists.{In-perm, perm-length}
 use Rattle.words.specs.Distinct.{same-refl, same-differ}
-use Rattle.sizes.specs.Sizes.{height}
 use Rattle.model.specs.Machine.{Name, Frame, depth, Machine, hasChild, named, inUse}
 use Rattle.model.specs.Steps.{Action, spawn, return, sync, read, write, acting, turnOf, stepOf, refusal, child, afterSpawn, written, parentResumes, afterTurn, step}
 use Rattle.model.specs.Run.{run, AllAccepted, no-step, accepted-then, Entry, entry, turnEntry, trace, entriesOf, follow, forWorker0}
 use Rattle.model.specs.Theory.ChildFirst.{childFirst, childFirst-skip, childFirst-mine, childFirst-none}
 use Rattle.model.specs.Theory.Extends.{WritesAt, Extends, writes-append, extends-same, extends-trans, extends-written}
 use Rattle.model.specs.Theory.LiveRun.{successors, Successor, successor, Allowed, LiveRun, Disjoint, backward}
-use Rattle.model.specs.Theory.Children.{In-hasChild, isChild-short}
+use Rattle.model.specs.Theory.Children.{In-hasChild, hasChild-perm, isChild-short}
 use Rattle.model.specs.Theory.StepsKept.{unowned}
 use Rattle.model.specs.Theory.Ancestors.{Twin, Link, link-to, Ancestors, no-more-frames, no-more-nodes}
 use Rattle.model.specs.Theory.Effects.{Passes}
@@ -106,12 +105,12 @@ turn-of-step w sync = refl
 turn-of-step w (read x) = refl
 turn-of-step w (write x v) = refl
 
-passes-solo : (n nodes : ℕ) (f : Frame) (C : List Frame) (a : Action) → Allowed n nodes (f ∷ C) f a → Passes (solo n nodes (f ∷ C)) (acting 0 a)
+passes-solo : (n nodes : ℕ) (f : Frame) (C : List Frame) (a : Action) → Allowed n nodes f C a → Passes (solo n nodes (f ∷ C)) (acting 0 a)
 passes-solo n nodes f C spawn ok = rw (append-nil C, ltb-of ok)
 passes-solo n nodes f C return ok = rw (append-nil C, ok)
 passes-solo n nodes f C sync ok = refl
 passes-solo n nodes f C (read x) ok = rw (ltb-of ok)
-passes-solo n nodes f C (write x v) ok = rw (ltb-of (ok .0), append-nil C, nltb-of {a = nodes - inUse n (f ∷ C)} {b = suc (height n)} (omega (arith, ok .1)))
+passes-solo n nodes f C (write x v) ok = rw (ltb-of (ok .0), append-nil C, nltb-of {a = nodes} {b = inUse n (written f x v ∷ C)} (ok .1))
 
 after-solo : (n nodes : ℕ) (f : Frame) (C : List Frame) (a : Action) → hasChild (f .name) (f ∷ C) ≡ false → afterTurn (solo n nodes (f ∷ C)) (acting 0 a) ≡ solo n nodes (successors f a ++ C)
 after-solo n nodes f C spawn h = refl
@@ -127,7 +126,7 @@ abbrev ChildFirstRuns : ℕ → ℕ → List Entry → List Frame → Type 0
 ChildFirstRuns n nodes es L = (f : Frame) (C : List Frame) → In f L → Ancestors L f C → Performs (childFirst es (f .name) (suc (f .spawned))) (solo n nodes (f ∷ C)) (solo n nodes C)
 
 -- one step of the chain's bottom: where it leads is where the rest goes on
-performs-step : (n nodes : ℕ) (f : Frame) (C : List Frame) (a : Action) (es : List Entry) (M : Machine) → Allowed n nodes (f ∷ C) f a → hasChild (f .name) (f ∷ C) ≡ false
+performs-step : (n nodes : ℕ) (f : Frame) (C : List Frame) (a : Action) (es : List Entry) (M : Machine) → Allowed n nodes f C a → hasChild (f .name) (f ∷ C) ≡ false
     → Performs es (solo n nodes (successors f a ++ C)) M → Performs (entry f a ∷ es) (solo n nodes (f ∷ C)) M
 performs-step n nodes f C a es M ok h d = (ac .zero-refusal, rw (turn-of-step 0 a), rw (ac .after, turn-of-step 0 a, after-solo n nodes f C a h) d)
   where
@@ -135,7 +134,7 @@ performs-step n nodes f C a es M ok h d = (ac .zero-refusal, rw (turn-of-step 0 
     ac = accepted-at (solo n nodes (f ∷ C)) (stepOf 0 a) (rw (turn-of-step 0 a) (passes-solo n nodes f C a ok))
 
 -- f itself took the step
-runs-mine : (n nodes : ℕ) (L′ : List Frame) (q : Frame) (C : List Frame) (a : Action) (es : List Entry) → Allowed n nodes (q ∷ C) q a → hasChild (q .name) (q ∷ C) ≡ false
+runs-mine : (n nodes : ℕ) (L′ : List Frame) (q : Frame) (C : List Frame) (a : Action) (es : List Entry) → Allowed n nodes q C a → hasChild (q .name) (q ∷ C) ≡ false
     → ((t : Frame) → In t (successors q a) → In t L′) → (a ≡ return → entriesOf (q .name) es ≡ []) → Ancestors L′ q C → ChildFirstRuns n nodes es L′
     → Performs (follow a (entry q a) (childFirst es (suc (q .spawned) ∷ q .name) 1) (childFirst es (q .name) (suc (suc (q .spawned)))) (childFirst es (q .name) (suc (q .spawned))))
     (solo n nodes (q ∷ C)) (solo n nodes C)
@@ -166,24 +165,24 @@ runs-mine n nodes L′ q C (write x v) es ok h new out ab ih =
     (ih (written q x v) C (new (written q x v) (here refl)) (ancestors-head L′ q (written q x v) C ab refl (extends-written q x v)))
 
 -- what the other run allowed is allowed in the chain
-allowed-chain : (n nodes : ℕ) (L : List Frame) (f : Frame) (C : List Frame) (a : Action) → In f L → Ancestors L f C → Allowed n nodes L f a → Allowed n nodes (f ∷ C) f a
-allowed-chain n nodes L f C spawn m ab ok = let h = no-more-frames L f C m ab in omega (arith, ok, h)
-allowed-chain n nodes L f C return m ab ok = hasChild-short L (f .name) f C ab (le-refl (depth f))
-allowed-chain n nodes L f C sync m ab ok = tt
-allowed-chain n nodes L f C (read x) m ab ok = ok
-allowed-chain n nodes L f C (write x v) m ab ok = let h = no-more-nodes L n f C m ab in (ok .0, omega (arith, ok .1, h))
+allowed-chain : (n nodes : ℕ) (L : List Frame) (q : Frame) (R C : List Frame) (a : Action) → List·Permᴰ L (q ∷ R) → Ancestors L q C → Allowed n nodes q R a → Allowed n nodes q C a
+allowed-chain n nodes L q R C spawn p ab ok = let h = no-more-frames L q C (In-perm (Permᴰ·symm p) (here refl)) ab in omega (arith, ok, h, perm-length p)
+allowed-chain n nodes L q R C return p ab ok = hasChild-short L (q .name) q C ab (le-refl (depth q))
+allowed-chain n nodes L q R C sync p ab ok = tt
+allowed-chain n nodes L q R C (read x) p ab ok = ok
+allowed-chain n nodes L q R C (write x v) p ab ok = (ok .0, le-trans (no-more-nodes-after n L q R C x v p ab) (ok .1))
 
-runs-acted : (n nodes : ℕ) {L L′ : List Frame} {es : List Entry} (q : Frame) (a : Action) (R : List Frame) → List·Permᴰ L (q ∷ R) → Allowed n nodes L q a → List·Permᴰ (successors q a ++ R) L′
+runs-acted : (n nodes : ℕ) {L L′ : List Frame} {es : List Entry} (q : Frame) (a : Action) (R : List Frame) → List·Permᴰ L (q ∷ R) → Allowed n nodes q R a → List·Permᴰ (successors q a ++ R) L′
     → LiveRun n nodes L′ es → Disjoint (q ∷ R) → ChildFirstRuns n nodes es L′ → ChildFirstRuns n nodes (entry q a ∷ es) L
 runs-acted n nodes {L} {L′} {es} q a R p ok p′ g c ih f C m ab = elim (In-cons (In-perm p m)) [ inl e ↦ mine e | inr i ↦ other i ]
   where
     childless : a ≡ return → hasChild (q .name) L ≡ false
-    childless e = subst (λ z. Allowed n nodes L q z) e ok
+    childless e = hasChild-perm (q .name) (Permᴰ·symm p) (subst (λ z. Allowed n nodes q R z) e ok)
 
     mine-as : In q L → Ancestors L q C → Performs (childFirst (entry q a ∷ es) (q .name) (suc (q .spawned))) (solo n nodes (q ∷ C)) (solo n nodes C)
     mine-as mq abq =
         rw (childFirst-mine (entry q a) es (q .name) (suc (q .spawned)) (same-refl (q .name)))
-        (runs-mine n nodes L′ q C a es (allowed-chain n nodes L q C a mq abq ok) (hasChild-short L (q .name) q C abq (le-refl (depth q)))
+        (runs-mine n nodes L′ q C a es (allowed-chain n nodes L q R C a p abq ok) (hasChild-short L (q .name) q C abq (le-refl (depth q)))
         (λ t i. In-perm p′ (In-left R i)) (λ e. unowned g (q .name) (λ f′ m′ o′. c .0 f′ (rw e at (In-perm (Permᴰ·symm p′) m′)) (q .name) (inl refl) o′))
         (ancestors-acted q a R p p′ childless q q C mq refl abq) ih)
 

@@ -66,17 +66,17 @@ spawn-within q R f (here e) = (q, here refl, ap (λ z. z .history) e)
 spawn-within q R f (there (here e)) = (q, here refl, ap (λ z. z .history) e)
 spawn-within q R f (there (there m)) = (f, there m, refl)
 
-pool-acted : (n nodes : ℕ) (L : List Frame) (q : Frame) (a : Action) (R : List Frame) → List·Permᴰ L (q ∷ R) → Allowed n nodes L q a → inUse n (q ∷ R) ≤ nodes → inUse n (successors q a ++ R) ≤ nodes
-pool-acted n nodes L q spawn R p ok h = le-trans (inUse-within n (child q ∷ afterSpawn q ∷ R) (q ∷ R) (spawn-within q R)) h
-pool-acted n nodes L q return R p ok h = le-trans (inUse-within n R (q ∷ R) (λ f m. (f, there m, refl))) h
-pool-acted n nodes L q sync R p ok h = h
-pool-acted n nodes L q (read x) R p ok h = h
-pool-acted n nodes L q (write x v) R p ok h = omega (arith, inUse-written n x v q R, inUse-perm n p, ok .1)
+pool-acted : (n nodes : ℕ) (q : Frame) (a : Action) (R : List Frame) → Allowed n nodes q R a → inUse n (q ∷ R) ≤ nodes → inUse n (successors q a ++ R) ≤ nodes
+pool-acted n nodes q spawn R ok h = le-trans (inUse-within n (child q ∷ afterSpawn q ∷ R) (q ∷ R) (spawn-within q R)) h
+pool-acted n nodes q return R ok h = le-trans (inUse-within n R (q ∷ R) (λ f m. (f, there m, refl))) h
+pool-acted n nodes q sync R ok h = h
+pool-acted n nodes q (read x) R ok h = h
+pool-acted n nodes q (write x v) R ok h = ok .1
 
 pub pool-turn : (M : Machine) (t : Turn) → Passes M t → WithinPool M → WithinPool (afterTurn M t)
 pool-turn M t h i =
     rw ((sizes-turn M t) .splitters, (sizes-turn M t) .nodes)
-    (live-kept (λ L. inUse (M .splitters) L ≤ M .nodes) M (λ A B p b. omega (arith, b, inUse-perm (M .splitters) p)) (pool-acted (M .splitters) (M .nodes) (live M)) t h i)
+    (live-kept (λ L. inUse (M .splitters) L ≤ M .nodes) M (λ A B p b. omega (arith, b, inUse-perm (M .splitters) p)) (λ q a R p. pool-acted (M .splitters) (M .nodes) q a R) t h i)
 
 -- ---- the start
 

@@ -48,7 +48,7 @@ accepted-or-refused M s = go (refusal M s) refl
 
 -- of the live frames: what does not depend on their order, and is kept where a frame's successors take its place
 pub live-kept : (P : List Frame → Type 0) (M : Machine) → ((L L′ : List Frame) → List·Permᴰ L L′ → P L → P L′)
-    → ((q : Frame) (a : Action) (R : List Frame) → List·Permᴰ (live M) (q ∷ R) → Allowed (M .splitters) (M .nodes) (live M) q a → P (q ∷ R) → P (successors q a ++ R))
+    → ((q : Frame) (a : Action) (R : List Frame) → List·Permᴰ (live M) (q ∷ R) → Allowed (M .splitters) (M .nodes) q R a → P (q ∷ R) → P (successors q a ++ R))
     → (t : Turn) → Passes M t → P (live M) → P (live (afterTurn M t))
 live-kept P M perm act (acting w a) h i =
     let x = acts M w a h in
@@ -114,7 +114,7 @@ live-turn n nodes M (acting w a) es en em h g =
     let x = acts M w a h in
     subst (λ z. LiveRun n nodes (live M) (bottomEntry z a ++ es)) (sym (x .at))
     (acted (x .actor) a (x .above ++ rest M w) (x .before)
-    (subst (λ z. Allowed z nodes (live M) (x .actor) a) en (subst (λ z. Allowed (M .splitters) z (live M) (x .actor) a) em (x .allowed))) (x .after) g)
+    (subst (λ z. Allowed z nodes (x .actor) (x .above ++ rest M w) a) en (subst (λ z. Allowed (M .splitters) z (x .actor) (x .above ++ rest M w) a) em (x .allowed))) (x .after) g)
 live-turn n nodes M (stealing w v) es en em h g = moved ((steals M w v h) .same-frames) g
 
 pub live-run : (n nodes : ℕ) (M : Machine) (ss : List Step) → M .splitters ≡ n → M .nodes ≡ nodes → live (run M ss) ≡ [] → LiveRun n nodes (live M) (trace M ss)

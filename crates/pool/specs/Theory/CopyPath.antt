@@ -1,6 +1,6 @@
 -- The write's new path: it keeps the invariant and the old trees, and leads to the old leaves but for one.
 use mathlib.Core.Path.{_≡_, refl, sym, ap, _∙_, subst}
-use mathlib.Core.Logic.{_≢_}
+use mathlib.Core.Logic.{_≢_, inl, inr}
 use mathlib.Core.List.{List, _∷_}
 use Prim.Native.Nat.{ℕ, zero, suc, _+_, _-_, _*_, _≤_, _<_, _^_, _%_, min}
 use native.Mathlib.Omega.{arith}
@@ -12,6 +12,7 @@ use Rattle.words.specs.Counting.{δ-same, δ-other, δ-eq, δ₀-zero, δ₀-in
 use Rattle.sizes.specs.Bits.{bit-lt, low1, Agree, Differ}
 use Rattle.sizes.specs.Sizes.{bit}
 use Rattle.pool.specs.Pool.{refcount, left, right, value, setNode, side, child, sibling, pathNode, copyPath}
+use Rattle.pool.specs.Links.{CopyIn}
 use Rattle.pool.specs.Theory.Changes.{Grows, grows-trans}
 use Rattle.pool.specs.Theory.Invariant.{Links, Invariant, nodeAt-cong, rightAt-cong, rightAt-node, node-rightAt, links-left, links-right, used-left, used-right, refcount-le, links-at}
 use Rattle.pool.specs.Theory.Nodes.{NodeIs, SameContent, length-setNode, drop-setNode, setNode-is, setNode-other}
@@ -48,7 +49,7 @@ pub record Copied (N H : ℕ) (level₀ size₀ : ℕ → ℕ) (ws₀ E : List �
   pub old-walk : (k y : ℕ) → k ≤ l → y % 2 ^ l < size₀ old → Differ k l x y → walk k l (p .0) a y ≡ walk k l ws₀ old y
 
 -- the links of the new node: the labels change at no node that was in use
-new-links : (N : ℕ) (level₀ size₀ level₁ size₁ : ℕ → ℕ) (b l t p q n : ℕ) → Links N level₀ size₀ (suc l) t p q → n < N → level₁ n ≡ l → size₁ n ≡ size₀ (side b p q) → 0 < size₀ (side b p q)
+pub new-links : (N : ℕ) (level₀ size₀ level₁ size₁ : ℕ → ℕ) (b l t p q n : ℕ) → Links N level₀ size₀ (suc l) t p q → n < N → level₁ n ≡ l → size₁ n ≡ size₀ (side b p q) → 0 < size₀ (side b p q)
     → (b ≢ 0 → 2 ^ l < t)
     → (side b q p < N → (level₁ (side b q p) ≡ level₀ (side b q p)) × (size₁ (side b q p) ≡ size₀ (side b q p)))
     → Links N level₁ size₁ (suc l) t (side b n (side b q p)) (side b (side b q p) n)
@@ -69,7 +70,7 @@ module _ (N H : ℕ) (small : N ≤ none) (level₀ size₀ : ℕ → ℕ) (ws�
   old-links : (l old : ℕ) → Covers N level₀ size₀ ws₀ l x old → Links N level₀ size₀ l (size₀ old) (left ws₀ old) (right ws₀ old)
   old-links l old K = links-at R₀ old l (K .inside) (K .inUse) (K .atLevel)
 
-  sibling-used : (l old b : ℕ) → Covers N level₀ size₀ ws₀ (suc l) x old → sibling ws₀ old b ≢ none → (sibling ws₀ old b < N) × (0 < refcount ws₀ (sibling ws₀ old b))
+  pub sibling-used : (l old b : ℕ) → Covers N level₀ size₀ ws₀ (suc l) x old → sibling ws₀ old b ≢ none → (sibling ws₀ old b < N) × (0 < refcount ws₀ (sibling ws₀ old b))
   unfolding sibling side
   sibling-used l old zero K o =
       let m = links-right N level₀ size₀ l (size₀ old) (left ws₀ old) (right ws₀ old) (old-links (suc l) old K) o in
@@ -358,3 +359,17 @@ module _ (N H : ℕ) (small : N ≤ none) (level₀ size₀ : ℕ → ℕ) (ws�
       (step-copied l level size ws a (c .0) old A' p
       (path-copied l (level₁ l level size ws a (c .0) old A') (size₁ l level size ws a (c .0) old A') (pathNode ws a (bit l x) (left ws a) (sibling ws old (bit l x))) (left ws a) (c .0)
       (child ws old (bit l x)) (before-below l level size ws a (c .0) old A')))
+
+  -- it takes and copies nodes only
+  pub path-in : (l : ℕ) (level size : ℕ → ℕ) (ws : List ℕ) (a : ℕ) (fs : List ℕ) (old : ℕ) → Before N H level₀ size₀ ws₀ E x l level size ws a fs old → CopyIn N l ws a old x
+  unfolding CopyIn ws'
+  path-in zero level size ws a fs old A = chain-head N (left ws) a fs (A .enough) (A .inv .chain) .2
+  path-in (suc l) level size ws a fs old A =
+      let c = chain-head N (left ws) a fs (omega (arith, A .enough)) (A .inv .chain) in
+      let A' : Before N H level₀ size₀ ws₀ E x (suc l) level size ws a (a ∷ c .0) old = subst (λ q. Before N H level₀ size₀ ws₀ E x (suc l) level size ws a q old) (c .1) A in (
+        c .2,
+        A .covers .inside,
+        elim (ℕ-discrete (sibling ws old (bit l x)) none) [ yes e ↦ inr e | no e ↦ inl (kept-used l level size ws a (c .0) old A' e .0) ],
+        path-in l (level₁ l level size ws a (c .0) old A') (size₁ l level size ws a (c .0) old A') (pathNode ws a (bit l x) (left ws a) (sibling ws old (bit l x))) (left ws a) (c .0)
+            (child ws old (bit l x)) (before-below l level size ws a (c .0) old A'),
+      )

@@ -1,7 +1,7 @@
 -- The pool of a run from a start, and what each operation makes of it: what the engine cites. In F ∷ Fs the frame that acts
 -- stands in front.
 use mathlib.Core.Path.{_≡_, refl, ap, _∙_}
-use mathlib.Core.Logic.{_≢_}
+use mathlib.Core.Logic.{_≢_, _↔_}
 use mathlib.Core.List.{List·Memᴰ as In, List·Memᴰ·head as here, List·Memᴰ·not-nil as not-in-nil}
 use mathlib.Core.List.{List, [], _∷_, List·Permᴰ, List·Permᴰ·nil, List·Permᴰ·cons, List·Permᴰ·swap, List·Permᴰ·trans, Permᴰ·symm}
 use Prim.Native.Nat.{ℕ, _+_, _-_, _*_, _≤_, _<_}
@@ -14,15 +14,17 @@ use Rattle.sizes.specs.Heights.{height-covers}
 use Rattle.sizes.specs.Numbering.{nodes-tree}
 use Rattle.sizes.specs.Sizes.{height, treeNodes}
 use Rattle.model.specs.History.{Event, History, nodesInUse}
-use Rattle.pool.specs.Pool.{readAt, retain, release, write, initPool}
+use Rattle.pool.specs.Pool.{readAt, retain, release, write, rest, initPool}
 use Rattle.pool.specs.Theory.InUse.{historiesOf, free-nodes}
 use Rattle.pool.specs.Theory.Init.{init-start, init-length, init-beyond}
-use Rattle.pool.specs.Theory.Operations.{Live, live-perm, live-spawn, live-return, live-write}
+use Rattle.pool.specs.Theory.Operations.{Live, live-perm, live-spawn, live-return}
 use Rattle.pool.specs.Theory.Reached.{all-free}
+use Rattle.pool.specs.Theory.Rest.{rest-counted, rest-again}
 use Rattle.pool.specs.Theory.Sharing.{Frame, rootsOf, root-of, Fresh, Share, share-spawn, share-return, share-write}
 use Rattle.pool.specs.Theory.Soundness.{live-sound}
 use Rattle.pool.specs.Theory.Start.{startLevel, startSize, startFree, start-free, start-live, start-read, start-share}
 use Rattle.pool.specs.Theory.Trees.{PoolSound}
+use Rattle.pool.specs.Theory.Write.{live-write}
 
 -- ws are the words of a pool of N nodes for n splitters, free its first free node, k how many are free; the live frames are Fs
 pub record Good (N n : ℕ) (ws : List ℕ) (free k : ℕ) (Fs : List Frame) : Type 0 where
@@ -136,23 +138,38 @@ module _ (N n : ℕ) (most : N ≤ 16384) (some : 0 < n) where
         rest = P .rest;
       }
 
-  -- ---- write: a fresh mark, and a path's worth of free nodes; the new root is the node that was free first
+  -- ---- write: a fresh mark, and as many free nodes as the rest of the path has that is new
 
-  pub good-write : (ws : List ℕ) (free k root : ℕ) (h : History) (Fs : List Frame) (e : Event) (v : ℕ) → length Fs ≤ 64 → e .splitter < n → height n < k → Fresh (e .mark) ((root, h) ∷ Fs)
+  pub good-write : (ws : List ℕ) (free k root : ℕ) (h : History) (Fs : List Frame) (e : Event) (v : ℕ) → length Fs ≤ 64 → e .splitter < n → rest (height n) ws root (e .splitter) ≤ k → Fresh (e .mark) ((root, h) ∷ Fs)
       → Good N n ws free k ((root, h) ∷ Fs)
-      → let p : List ℕ × ℕ × ℕ = write (height n) ws free k root (e .splitter) v in
-      After N n ws Fs ((free, e ∷ h) ∷ Fs) (p .0) (p .1) (p .2)
-      × (readAt (height n) (p .0) free (e .splitter) ≡ v)
-      × ((y : ℕ) → y < n → y ≢ e .splitter → readAt (height n) (p .0) free y ≡ readAt (height n) ws root y)
+      → let p : List ℕ × ℕ × ℕ × ℕ = write (height n) ws free k root (e .splitter) v in
+      After N n ws Fs ((p .3, e ∷ h) ∷ Fs) (p .0) (p .1) (p .2)
+      × (readAt (height n) (p .0) (p .3) (e .splitter) ≡ v)
+      × ((y : ℕ) → y < n → y ≢ e .splitter → readAt (height n) (p .0) (p .3) y ≡ readAt (height n) ws root y)
   good-write ws free k root h Fs e v few bx enough fresh G =
-      let W = live-write N (height n) n small (height-covers n) (G .level) (G .size) ws free k (G .fs) (rootsOf Fs) root (e .splitter) v (G .live) bx (G .counted) (omega (arith, G .counted))
-      (omega (arith, length-map Fs (λ (K : Frame). K .0))) in (
+      let W = live-write N (height n) n small (height-covers n) (G .level) (G .size) ws free k (G .fs) (rootsOf Fs) root (e .splitter) v (G .live) bx (G .counted) enough
+      (omega (arith, length-map Fs (λ (K : Frame). K .0))) .0 in (
         record {
           good = record { level = W .level'; size = W .size'; fs = W .fs'; counted = W .counted; live = W .live; share = share-write N (height n) n small (height-covers n) root h Fs e fresh (G .live) (G .share) bx W };
           kept = λ K m. W .same (K .0) (root-of K Fs m) .reads;
           len = W .len;
-          rest = W .rest;
+          rest = W .beyond;
         },
         W .new-read,
         W .old-reads,
       )
+
+  -- document 02, R-2: "Nodes in use after a write are as before, so the plain machine's count goes on being the measure: it gives 16
+  -- when the write would bring that count above the pool's nodes."
+  pub good-rest : {ws : List ℕ} {free k root : ℕ} {h : History} {Fs : List Frame} (e : Event) → e .splitter < n → Fresh (e .mark) ((root, h) ∷ Fs) → Good N n ws free k ((root, h) ∷ Fs)
+      → (nodesInUse n ((e ∷ h) ∷ historiesOf Fs) ≡ nodesInUse n (h ∷ historiesOf Fs) + rest (height n) ws root (e .splitter))
+      × ((k < rest (height n) ws root (e .splitter)) ↔ (N < nodesInUse n ((e ∷ h) ∷ historiesOf Fs)))
+  good-rest {ws} {root = root} {h} {Fs} e bx fresh G =
+      let r = rest-counted N n small root h Fs e bx (G .live) (G .share) fresh in
+      let f = good-free {Fs = (root, h) ∷ Fs} G in
+      (r, ((λ q. omega (arith, r, f)), (λ q. omega (arith, r, f))))
+
+  -- "Layout searches write the same block many times in one branch": the frame writes there again with no new node
+  pub good-again : {ws : List ℕ} {free k root : ℕ} {h : History} {Fs : List Frame} (e : Event) (old : ℕ) → e .splitter < n → Fresh (e .mark) ((old, h) ∷ Fs) → Good N n ws free k ((root, e ∷ h) ∷ Fs)
+      → rest (height n) ws root (e .splitter) ≡ 0
+  good-again {root = root} {h} {Fs} e old bx fresh G = rest-again N n small root h Fs e bx old (G .live) (G .share) fresh

@@ -2,7 +2,7 @@
 use mathlib.Core.Path.{_≡_, sym, subst}
 use mathlib.Core.Logic.{_≢_, inl, inr}
 use mathlib.Core.List.{List}
-use Prim.Native.Nat.{ℕ, zero, suc, _-_, _*_, _≤_, _<_}
+use Prim.Native.Nat.{ℕ, zero, suc, _-_, _≤_, _<_}
 use native.Mathlib.Omega.{arith}
 use native.Mathlib.Numerals.{sub-one}
 use native.Mathlib.Decide.{ℕ-discrete, decLe}
@@ -10,11 +10,10 @@ use lib.ListN.{length}
 use borrow.Author.Tests.{eq-eqb, ne-eqb}
 use Rattle.words.specs.Basics.{none, plus}
 use Rattle.sizes.specs.Sizes.{bit}
-use Rattle.pool.specs.Pool.{refcount, left, right, setNode, setRefcount, side, child, sibling, retain, freed, release, pathNode, copyPath}
+use Rattle.pool.specs.Pool.{refcount, left, right, setNode, setRefcount, child, freed, release}
 use Rattle.pool.specs.Links.{Link, LinksIn, PathIn}
 use Rattle.pool.specs.Theory.Nodes.{SameContent, length-setNode, setNode-is, setNode-other, length-setRefcount, setRefcount-content}
 use Rattle.pool.specs.Theory.Release.{release-none, release-held}
-use Rattle.pool.specs.Theory.Retain.{length-retain, retain-content}
 
 -- a link that is not none is a node
 pub link-in : {N i : ℕ} → Link N i → i ≢ none → i < N
@@ -43,9 +42,6 @@ links-content {N} n s L = record {
 
 pub links-setRefcount : {N : ℕ} {ws : List ℕ} (i c : ℕ) → LinksIn N ws → LinksIn N (setRefcount ws i c)
 links-setRefcount {ws = ws} i c L = links-content (length-setRefcount ws i c) (setRefcount-content ws i c) L
-
-pub links-retain : {N : ℕ} {ws : List ℕ} (i : ℕ) → LinksIn N ws → LinksIn N (retain ws i)
-links-retain {ws = ws} i L = links-content (length-retain ws i) (retain-content ws i) L
 
 pub links-setNode : {N : ℕ} {ws : List ℕ} (i c l r v : ℕ) → Link N l → Link N r → LinksIn N ws → LinksIn N (setNode ws i c l r v)
 links-setNode {N} {ws} i c l r v p q L = record {
@@ -98,20 +94,3 @@ release-links N (suc l) ws free k i L p f m = release-by N (suc l) ws free k i L
     let q : List ℕ × ℕ × ℕ = release l (freed ws free i) i (plus k 1) (left ws i) in
     let A = release-links N l (freed ws free i) i (plus k 1) (left ws i) (links-freed free i p f L) p (inl b) (L .lefts i b) in
     subst (ListIn N) (sym (last-inner l ws free k i o h)) (release-links N l (q .0) (q .1) (q .2) (right ws i) (A .0) p (A .1) (L .rights i b)))
-
--- ---- a path
-
-pub child-link : {N : ℕ} {ws : List ℕ} (i b : ℕ) → LinksIn N ws → i < N → Link N (child ws i b)
-unfolding child side
-child-link i zero L h = L .lefts i h
-child-link i (suc b) L h = L .rights i h
-
-pub sibling-link : {N : ℕ} {ws : List ℕ} (i b : ℕ) → LinksIn N ws → i < N → Link N (sibling ws i b)
-unfolding sibling side
-sibling-link i zero L h = L .rights i h
-sibling-link i (suc b) L h = L .lefts i h
-
-pub links-pathNode : {N : ℕ} {ws : List ℕ} (i b next kept : ℕ) → Link N next → Link N kept → LinksIn N ws → LinksIn N (pathNode ws i b next kept)
-unfolding pathNode side
-links-pathNode i zero next kept n k L = links-retain kept (links-setNode i 1 next kept 0 n k L)
-links-pathNode i (suc b) next kept n k L = links-retain kept (links-setNode i 1 kept next 0 k n L)

@@ -2,12 +2,12 @@
 use mathlib.Core.Path.{_≡_, refl, sym, _∙_}
 use mathlib.Core.Logic.{_≢_, _⊎_, inl, inr}
 use mathlib.Core.List.{List}
-use Prim.Native.Nat.{ℕ, _+_, _*_, _≤_, _<_}
+use Prim.Native.Nat.{ℕ, zero, suc, _+_, _*_, _≤_, _<_}
 use native.Mathlib.Omega.{arith}
 use native.Mathlib.Decide.{decLt}
 use lib.ListN.{length, getD, drop, set, length-set}
 use lib.Seq.{getD-set-same, getD-set-other, drop-set-lt}
-use Rattle.pool.specs.Pool.{refcount, left, right, value, setNode, setRefcount}
+use Rattle.pool.specs.Pool.{refcount, left, right, value, setNode, setRefcount, setValue, setLink, side, sibling}
 
 -- ---- what a node holds
 
@@ -131,4 +131,80 @@ module _ (ws : List ℕ) (i c : ℕ) where
     same-left = getD-set-other ws (4 * i) (4 * j + 1) c 0 (omega arith);
     same-right = getD-set-other ws (4 * i) (4 * j + 2) c 0 (omega arith);
     same-value = getD-set-other ws (4 * i) (4 * j + 3) c 0 (omega arith);
+  }
+
+-- ---- a store of the value alone
+
+module _ (ws : List ℕ) (i v : ℕ) where
+  pub length-setValue : length (setValue ws i v) ≡ length ws
+  unfolding setValue
+  length-setValue = length-set ws (4 * i + 3) v
+
+  pub drop-setValue : (N : ℕ) → i < N → drop (4 * N) (setValue ws i v) ≡ drop (4 * N) ws
+  unfolding setValue
+  drop-setValue N b = drop-set-lt (4 * N) ws (4 * i + 3) v (omega arith)
+
+  pub setValue-is : 4 * i + 4 ≤ length ws → value (setValue ws i v) i ≡ v
+  unfolding setValue value
+  setValue-is b = getD-set-same ws (4 * i + 3) v 0 (omega arith)
+
+  pub setValue-refcount : (j : ℕ) → refcount (setValue ws i v) j ≡ refcount ws j
+  unfolding setValue refcount
+  setValue-refcount j = getD-set-other ws (4 * i + 3) (4 * j) v 0 (omega arith)
+
+  pub setValue-left : (j : ℕ) → left (setValue ws i v) j ≡ left ws j
+  unfolding setValue left
+  setValue-left j = getD-set-other ws (4 * i + 3) (4 * j + 1) v 0 (omega arith)
+
+  pub setValue-right : (j : ℕ) → right (setValue ws i v) j ≡ right ws j
+  unfolding setValue right
+  setValue-right j = getD-set-other ws (4 * i + 3) (4 * j + 2) v 0 (omega arith)
+
+  pub setValue-other : (j : ℕ) → j ≢ i → value (setValue ws i v) j ≡ value ws j
+  unfolding setValue value
+  setValue-other j o = getD-set-other ws (4 * i + 3) (4 * j + 3) v 0 (omega arith)
+
+-- ---- a store of one link alone
+
+module _ (ws : List ℕ) (i : ℕ) where
+  pub length-setLink : (b c : ℕ) → length (setLink ws i b c) ≡ length ws
+  unfolding setLink
+  length-setLink b c = length-set ws (side b (4 * i + 1) (4 * i + 2)) c
+
+  pub drop-setLink : (b c N : ℕ) → i < N → drop (4 * N) (setLink ws i b c) ≡ drop (4 * N) ws
+  unfolding setLink side
+  drop-setLink zero c N h = drop-set-lt (4 * N) ws (4 * i + 1) c (omega arith)
+  drop-setLink (suc b) c N h = drop-set-lt (4 * N) ws (4 * i + 2) c (omega arith)
+
+  pub setLink-left : (b c : ℕ) → 4 * i + 4 ≤ length ws → left (setLink ws i b c) i ≡ side b c (sibling ws i b)
+  unfolding setLink side sibling left
+  setLink-left zero c h = getD-set-same ws (4 * i + 1) c 0 (omega arith)
+  setLink-left (suc b) c h = getD-set-other ws (4 * i + 2) (4 * i + 1) c 0 (omega arith)
+
+  pub setLink-right : (b c : ℕ) → 4 * i + 4 ≤ length ws → right (setLink ws i b c) i ≡ side b (sibling ws i b) c
+  unfolding setLink side sibling right
+  setLink-right zero c h = getD-set-other ws (4 * i + 1) (4 * i + 2) c 0 (omega arith)
+  setLink-right (suc b) c h = getD-set-same ws (4 * i + 2) c 0 (omega arith)
+
+  pub setLink-refcount : (b c j : ℕ) → refcount (setLink ws i b c) j ≡ refcount ws j
+  unfolding setLink side refcount
+  setLink-refcount zero c j = getD-set-other ws (4 * i + 1) (4 * j) c 0 (omega arith)
+  setLink-refcount (suc b) c j = getD-set-other ws (4 * i + 2) (4 * j) c 0 (omega arith)
+
+  pub setLink-value : (b c j : ℕ) → value (setLink ws i b c) j ≡ value ws j
+  unfolding setLink side value
+  setLink-value zero c j = getD-set-other ws (4 * i + 1) (4 * j + 3) c 0 (omega arith)
+  setLink-value (suc b) c j = getD-set-other ws (4 * i + 2) (4 * j + 3) c 0 (omega arith)
+
+  pub setLink-other : (b c j : ℕ) → j ≢ i → SameContent ws (setLink ws i b c) j
+  unfolding setLink side left right value
+  setLink-other zero c j o = record {
+    same-left = getD-set-other ws (4 * i + 1) (4 * j + 1) c 0 (omega arith);
+    same-right = getD-set-other ws (4 * i + 1) (4 * j + 2) c 0 (omega arith);
+    same-value = getD-set-other ws (4 * i + 1) (4 * j + 3) c 0 (omega arith);
+  }
+  setLink-other (suc b) c j o = record {
+    same-left = getD-set-other ws (4 * i + 2) (4 * j + 1) c 0 (omega arith);
+    same-right = getD-set-other ws (4 * i + 2) (4 * j + 2) c 0 (omega arith);
+    same-value = getD-set-other ws (4 * i + 2) (4 * j + 3) c 0 (omega arith);
   }

@@ -60,7 +60,7 @@ module _ (N H : ℕ) (small : N ≤ none) (level size : ℕ → ℕ) where
     room : 4 * i + 4 ≤ length ws
     room = omega (arith, R .room)
 
-    lowered : (k : ℕ) → k ≡ length fs → 1 < refcount ws i → Released N H level size E ws (setRefcount ws i (refcount ws i - 1), free, k)
+    pub lowered : (k : ℕ) → k ≡ length fs → 1 < refcount ws i → Released N H level size E ws (setRefcount ws i (refcount ws i - 1), free, k)
     lowered k n h = record {
       fs = fs;
       counted = n;

@@ -12,9 +12,10 @@ use Rattle.words.specs.Counting.{δ-same, δ-other, δ-eq, count-nil, count-con
 use Rattle.sizes.specs.Bits.{Agree, Differ, agree-differ, agree-group, differ-group}
 use Rattle.model.specs.History.{Mark, Event, History, lastWrite}
 use Rattle.pool.specs.Pool.{refcount}
-use Rattle.pool.specs.Theory.Operations.{Live, Spawned, Returned, Written}
+use Rattle.pool.specs.Theory.Operations.{Live, Spawned, Returned}
 use Rattle.pool.specs.Theory.Reached.{ReachedAt, in-use-reached, reached-in-use}
 use Rattle.pool.specs.Theory.Walk.{walk, walk-agree, Covers}
+use Rattle.pool.specs.Theory.Write.{Written}
 
 -- a frame: its root and its history
 abbrev pub Frame : Type 0
@@ -39,14 +40,14 @@ frame-of e (G ∷ Gs) q = elim (ℕ-discrete e (G .0)) [
 
 -- ---- the last write
 
-lastWrite-hit : (k g : ℕ) (e : Event) (h : History) → e .splitter / 2 ^ k ≡ g → lastWrite k g (e ∷ h) ≡ e .mark
+pub lastWrite-hit : (k g : ℕ) (e : Event) (h : History) → e .splitter / 2 ^ k ≡ g → lastWrite k g (e ∷ h) ≡ e .mark
 lastWrite-hit k g e h q = rw (eq-eqb (e .splitter / 2 ^ k) g q)
 
-lastWrite-miss : (k g : ℕ) (e : Event) (h : History) → e .splitter / 2 ^ k ≢ g → lastWrite k g (e ∷ h) ≡ lastWrite k g h
+pub lastWrite-miss : (k g : ℕ) (e : Event) (h : History) → e .splitter / 2 ^ k ≢ g → lastWrite k g (e ∷ h) ≡ lastWrite k g h
 lastWrite-miss k g e h q = rw (ne-eqb (e .splitter / 2 ^ k) g q)
 
 -- it is the start or an event of the history
-lastWrite-from : (k g : ℕ) (h : History) → (lastWrite k g h ≡ []) ⊎ ((e : Event) × In e h × (lastWrite k g h ≡ e .mark))
+pub lastWrite-from : (k g : ℕ) (h : History) → (lastWrite k g h ≡ []) ⊎ ((e : Event) × In e h × (lastWrite k g h ≡ e .mark))
 lastWrite-from k g [] = inl refl
 lastWrite-from k g (e ∷ h) = elim (ℕ-discrete (e .splitter / 2 ^ k) g) [
   | yes q ↦ inr (e, here refl, lastWrite-hit k g e h q)
@@ -146,99 +147,113 @@ module _ (N H n : ℕ) (small : N ≤ none) (cover : n ≤ 2 ^ H) where
     injective = λ i j bi bj pi pj. S .injective i j bi bj (omega (arith, P .lowered i bi)) (omega (arith, P .lowered j bj));
   }
 
--- the label of a node after a write: the write's, for a node that was free
-pick : {A : Type 0} {a : ℕ} → Dec (a ≡ 0) → A → A → A
-pick (yes e) p q = p
-pick (no e) p q = q
+-- one of two, by a decision
+pick : {A P : Type 0} → Dec P → A → A → A
+pick (yes e) a b = a
+pick (no e) a b = b
 
-pick-new : {A : Type 0} {a : ℕ} (d : Dec (a ≡ 0)) (p q : A) → a ≡ 0 → pick d p q ≡ p
+pick-yes : {A P : Type 0} (d : Dec P) (a b : A) → P → pick d a b ≡ a
 unfolding pick
-pick-new (yes e) p q z = refl
-pick-new (no e) p q z = absurd (e z)
+pick-yes (yes e) a b q = refl
+pick-yes (no e) a b q = absurd (e q)
 
-pick-old : {A : Type 0} {a : ℕ} (d : Dec (a ≡ 0)) (p q : A) → 0 < a → pick d p q ≡ q
+pick-no : {A P : Type 0} (d : Dec P) (a b : A) → (P → ⊥) → pick d a b ≡ b
 unfolding pick
-pick-old (yes e) p q z = absurd (omega arith)
-pick-old (no e) p q z = refl
+pick-no (yes e) a b q = absurd (q e)
+pick-no (no e) a b q = refl
 
-module _ (N H n : ℕ) (small : N ≤ none) (cover : n ≤ 2 ^ H) {level size : ℕ → ℕ} {ws : List ℕ} {free : ℕ} {fs : List ℕ} (old : ℕ) (h : History) (Fs : List Frame) (ev : Event) {v : ℕ} {p : List ℕ × ℕ × ℕ}
+module _ (N H n : ℕ) (small : N ≤ none) (cover : n ≤ 2 ^ H) {level size : ℕ → ℕ} {ws : List ℕ} {free : ℕ} {fs : List ℕ} (old : ℕ) (h : History) (Fs : List Frame) (ev : Event) {v : ℕ} {p : List ℕ × ℕ × ℕ × ℕ}
     (fresh : Fresh (ev .mark) ((old, h) ∷ Fs))
     (L : Live N H n level size ws free fs (rootsOf ((old, h) ∷ Fs))) (S : Share N H n level ws ((old, h) ∷ Fs)) (bx : ev .splitter < n)
-    (W : Written N H n level size ws free (rootsOf Fs) old (ev .splitter) v p) where
+    (W : Written N H n level size ws (rootsOf Fs) old (ev .splitter) v p) where
+  -- the node of level k on the path after the write, altered or new
+  abbrev path : ℕ → ℕ
+  path k = walk k H (p .0) (p .3) (ev .splitter)
+
+  path-level : (k : ℕ) → k ≤ H → W .level' (path k) ≡ k
+  path-level k a = reached-in-use N H n small cover (W .live) k (p .3) (ev .splitter) a (omega (arith, count-cons (p .3) (p .3) (rootsOf Fs), δ-same (p .3))) bx .atLevel
+
+  -- the labels after the write: the nodes of the path have the write's
   stamp' : ℕ → Mark
-  stamp' i = pick (ℕ-discrete (refcount ws i) 0) (ev .mark) (S .stamp i)
+  stamp' i = pick (ℕ-discrete i (path (W .level' i))) (ev .mark) (S .stamp i)
 
   group' : ℕ → ℕ
-  group' i = pick (ℕ-discrete (refcount ws i) 0) (ev .splitter / 2 ^ W .level' i) (S .group i)
+  group' i = pick (ℕ-discrete i (path (W .level' i))) (ev .splitter / 2 ^ W .level' i) (S .group i)
 
-  label-new : (i : ℕ) → refcount ws i ≡ 0 → (stamp' i ≡ ev .mark) × (group' i ≡ ev .splitter / 2 ^ W .level' i)
+  label-new : (i : ℕ) → i ≡ path (W .level' i) → (stamp' i ≡ ev .mark) × (group' i ≡ ev .splitter / 2 ^ W .level' i)
   unfolding stamp' group'
-  label-new i z = (pick-new (ℕ-discrete (refcount ws i) 0) (ev .mark) (S .stamp i) z, pick-new (ℕ-discrete (refcount ws i) 0) (ev .splitter / 2 ^ W .level' i) (S .group i) z)
+  label-new i z = (pick-yes (ℕ-discrete i (path (W .level' i))) (ev .mark) (S .stamp i) z, pick-yes (ℕ-discrete i (path (W .level' i))) (ev .splitter / 2 ^ W .level' i) (S .group i) z)
 
-  label-old : (i : ℕ) → 0 < refcount ws i → (stamp' i ≡ S .stamp i) × (group' i ≡ S .group i)
+  label-old : (i : ℕ) → i ≢ path (W .level' i) → (stamp' i ≡ S .stamp i) × (group' i ≡ S .group i)
   unfolding stamp' group'
-  label-old i z = (pick-old (ℕ-discrete (refcount ws i) 0) (ev .mark) (S .stamp i) z, pick-old (ℕ-discrete (refcount ws i) 0) (ev .splitter / 2 ^ W .level' i) (S .group i) z)
+  label-old i z = (pick-no (ℕ-discrete i (path (W .level' i))) (ev .mark) (S .stamp i) z, pick-no (ℕ-discrete i (path (W .level' i))) (ev .splitter / 2 ^ W .level' i) (S .group i) z)
 
-  -- the nodes of the trees before
-  stamped-old : (F : Frame) → In F ((old, h) ∷ Fs) → (k y : ℕ) → k ≤ H → y < n → (stamp' (walk k H ws (F .0) y) ≡ lastWrite k (y / 2 ^ k) (F .1)) × (group' (walk k H ws (F .0) y) ≡ y / 2 ^ k)
-  stamped-old F m k y a b =
-      let q = label-old _ (reached-in-use N H n small cover L k (F .0) y a (root-of F ((old, h) ∷ Fs) m) b .inUse) in
-      let r = S .stamped F m k y a b in (q .0 ∙ r .0, q .1 ∙ r .1)
+  -- the nodes of the trees before, but for the path
+  stamped-old : (F : Frame) → In F ((old, h) ∷ Fs) → (k y : ℕ) → k ≤ H → y < n → (count (F .0) (rootsOf Fs) ≡ 0 → Agree k H (ev .splitter) y → ⊥)
+      → (stamp' (walk k H ws (F .0) y) ≡ lastWrite k (y / 2 ^ k) (F .1)) × (group' (walk k H ws (F .0) y) ≡ y / 2 ^ k)
+  stamped-old F m k y a b o =
+      let r = root-of F ((old, h) ∷ Fs) m in
+      let K = reached-in-use N H n small cover L k (F .0) y a r b in
+      let l : W .level' (walk k H ws (F .0) y) ≡ k = W .labels _ (K .inside) (K .inUse) .0 ∙ K .atLevel in
+      let q = label-old (walk k H ws (F .0) y) (λ e. (let t = W .own k (F .0) y a b r (e ∙ ap path l) in o (t .0) (t .1))) in
+      let s = S .stamped F m k y a b in (q .0 ∙ s .0, q .1 ∙ s .1)
 
   -- the tree of the frame that writes
-  stamped-new : (k y : ℕ) → k ≤ H → y < n → (stamp' (walk k H (p .0) free y) ≡ lastWrite k (y / 2 ^ k) (ev ∷ h)) × (group' (walk k H (p .0) free y) ≡ y / 2 ^ k)
+  stamped-new : (k y : ℕ) → k ≤ H → y < n → (stamp' (walk k H (p .0) (p .3) y) ≡ lastWrite k (y / 2 ^ k) (ev ∷ h)) × (group' (walk k H (p .0) (p .3) y) ≡ y / 2 ^ k)
   stamped-new k y a b = go (agree-differ k H (ev .splitter) y)
     where
-      go : Agree k H (ev .splitter) y ⊎ Differ k H (ev .splitter) y → (stamp' (walk k H (p .0) free y) ≡ lastWrite k (y / 2 ^ k) (ev ∷ h)) × (group' (walk k H (p .0) free y) ≡ y / 2 ^ k)
+      go : Agree k H (ev .splitter) y ⊎ Differ k H (ev .splitter) y → (stamp' (walk k H (p .0) (p .3) y) ≡ lastWrite k (y / 2 ^ k) (ev ∷ h)) × (group' (walk k H (p .0) (p .3) y) ≡ y / 2 ^ k)
       go (inl g) =
-          let m = W .new-nodes k y a b g in
-          let q = label-new _ (m .1) in
+          let l = path-level k a in
+          let q = label-new (path k) (ap path (sym l)) in
           let e = agree-group k H (ev .splitter) y a (omega arith) (omega arith) g in
-          (q .0 ∙ sym (lastWrite-hit k (y / 2 ^ k) ev h e), q .1 ∙ ap (λ i. ev .splitter / 2 ^ i) (m .2) ∙ e)
+          rw (← walk-agree k H (p .0) (p .3) (ev .splitter) y g) (q .0 ∙ sym (lastWrite-hit k (y / 2 ^ k) ev h e), q .1 ∙ ap (λ i. ev .splitter / 2 ^ i) l ∙ e)
       go (inr d) =
-          let q = stamped-old (old, h) (here refl) k y a b in
+          let q = stamped-old (old, h) (here refl) k y a b (λ _ g. d .3 (g (d .0) (d .1) (d .2))) in
           rw (W .old-nodes k y a b d) (q .0 ∙ sym (lastWrite-miss k (y / 2 ^ k) ev h (differ-group k H (ev .splitter) y d)), q .1)
 
-  -- a new node in use is on the new path
-  new-is : (i : ℕ) → i < N → 0 < refcount (p .0) i → refcount ws i ≡ 0 → i ≡ walk (W .level' i) H (p .0) free (ev .splitter)
-  new-is i b u z = at (in-use-reached N H n small cover (W .live) i b u)
+  -- a node in use that is not on the path was in use
+  was-used : (i : ℕ) → i < N → 0 < refcount (p .0) i → i ≢ path (W .level' i) → 0 < refcount ws i
+  was-used i b u o = at (in-use-reached N H n small cover (W .live) i b u)
     where
-      dead : (e y : ℕ) → 0 < count e (rootsOf ((old, h) ∷ Fs)) → y < n → W .level' i ≤ H → walk (W .level' i) H ws e y ≡ i → ⊥
-      dead e y q c k r = omega (arith, ap (refcount ws) r, reached-in-use N H n small cover L (W .level' i) e y k q c .inUse)
+      was : (e y : ℕ) → 0 < count e (rootsOf ((old, h) ∷ Fs)) → y < n → W .level' i ≤ H → walk (W .level' i) H ws e y ≡ i → 0 < refcount ws i
+      was e y q c k r = subst (λ w. 0 < refcount ws w) r (reached-in-use N H n small cover L (W .level' i) e y k q c .inUse)
 
-      at : ReachedAt H n (p .0) (free ∷ rootsOf Fs) (W .level' i) i → i ≡ walk (W .level' i) H (p .0) free (ev .splitter)
+      at : ReachedAt H n (p .0) (p .3 ∷ rootsOf Fs) (W .level' i) i → 0 < refcount ws i
       at r = elim (ℕ-discrete (count (r .root) (rootsOf Fs)) 0) [
-        | no o ↦ absurd (dead (r .root) (r .splitter) (omega (arith, count-cons (r .root) old (rootsOf Fs))) (r .bound) (r .lower)
-            (sym (W .same (r .root) (omega arith) .nodes (W .level' i) (r .splitter) (r .lower) (r .bound)) ∙ r .found))
-        | yes o ↦ self (agree-differ (W .level' i) H (ev .splitter) (r .splitter)) (δ-eq (r .root) free (omega (arith, r .live, count-cons (r .root) free (rootsOf Fs))))
+        | no c ↦ was (r .root) (r .splitter) (omega (arith, count-cons (r .root) old (rootsOf Fs))) (r .bound) (r .lower)
+            (sym (W .same (r .root) (omega arith) .nodes (W .level' i) (r .splitter) (r .lower) (r .bound)) ∙ r .found)
+        | yes c ↦ self (agree-differ (W .level' i) H (ev .splitter) (r .splitter)) (δ-eq (r .root) (p .3) (omega (arith, r .live, count-cons (r .root) (p .3) (rootsOf Fs))))
       ]
         where
-          self : Agree (W .level' i) H (ev .splitter) (r .splitter) ⊎ Differ (W .level' i) H (ev .splitter) (r .splitter) → r .root ≡ free → i ≡ walk (W .level' i) H (p .0) free (ev .splitter)
-          self (inl g) e = sym (walk-agree (W .level' i) H (p .0) free (ev .splitter) (r .splitter) g ∙ ap (λ q. walk (W .level' i) H (p .0) q (r .splitter)) (sym e) ∙ r .found)
-          self (inr d) e = absurd (dead old (r .splitter) (root-of (old, h) ((old, h) ∷ Fs) (here refl)) (r .bound) (r .lower)
-              (sym (W .old-nodes (W .level' i) (r .splitter) (r .lower) (r .bound) d) ∙ ap (λ q. walk (W .level' i) H (p .0) q (r .splitter)) (sym e) ∙ r .found))
+          self : Agree (W .level' i) H (ev .splitter) (r .splitter) ⊎ Differ (W .level' i) H (ev .splitter) (r .splitter) → r .root ≡ p .3 → 0 < refcount ws i
+          self (inl g) e = absurd (o (sym (walk-agree (W .level' i) H (p .0) (p .3) (ev .splitter) (r .splitter) g ∙ ap (λ q. walk (W .level' i) H (p .0) q (r .splitter)) (sym e) ∙ r .found)))
+          self (inr d) e = was old (r .splitter) (root-of (old, h) ((old, h) ∷ Fs) (here refl)) (r .bound) (r .lower)
+              (sym (W .old-nodes (W .level' i) (r .splitter) (r .lower) (r .bound) d) ∙ ap (λ q. walk (W .level' i) H (p .0) q (r .splitter)) (sym e) ∙ r .found)
 
-  pub share-write : Share N H n (W .level') (p .0) ((free, ev ∷ h) ∷ Fs)
+  pub share-write : Share N H n (W .level') (p .0) ((p .3, ev ∷ h) ∷ Fs)
   share-write = record { stamp = stamp'; group = group'; stamped = st; injective = ij }
     where
-      st : (F : Frame) → In F ((free, ev ∷ h) ∷ Fs) → (k y : ℕ) → k ≤ H → y < n → (stamp' (walk k H (p .0) (F .0) y) ≡ lastWrite k (y / 2 ^ k) (F .1)) × (group' (walk k H (p .0) (F .0) y) ≡ y / 2 ^ k)
+      st : (F : Frame) → In F ((p .3, ev ∷ h) ∷ Fs) → (k y : ℕ) → k ≤ H → y < n → (stamp' (walk k H (p .0) (F .0) y) ≡ lastWrite k (y / 2 ^ k) (F .1)) × (group' (walk k H (p .0) (F .0) y) ≡ y / 2 ^ k)
       st F m k y a b = elim (In-cons m) [
         | inl e ↦ subst (λ (q : Frame). (stamp' (walk k H (p .0) (q .0) y) ≡ lastWrite k (y / 2 ^ k) (q .1)) × (group' (walk k H (p .0) (q .0) y) ≡ y / 2 ^ k)) (sym e) (stamped-new k y a b)
-        | inr g ↦ rw (W .same (F .0) (root-of F Fs g) .nodes k y a b) (stamped-old F (there g) k y a b)
+        | inr g ↦ rw (W .same (F .0) (root-of F Fs g) .nodes k y a b) (stamped-old F (there g) k y a b (λ z _. omega (arith, root-of F Fs g)))
       ]
 
-      apart : (i j : ℕ) → j < N → refcount ws i ≡ 0 → 0 < refcount ws j → stamp' i ≡ stamp' j → ⊥
-      apart i j b z u e = stamp-old N H n small cover L S (ev .mark) fresh j b u (sym (label-old j u .0) ∙ sym e ∙ label-new i z .0)
+      -- a node of the path and one that is not have different marks
+      apart : (i j : ℕ) → i ≡ path (W .level' i) → j ≢ path (W .level' j) → j < N → 0 < refcount (p .0) j → stamp' i ≡ stamp' j → ⊥
+      apart i j z o b u e = stamp-old N H n small cover L S (ev .mark) fresh j b (was-used j b u o) (sym (label-old j o .0) ∙ sym e ∙ label-new i z .0)
 
       ij : (i j : ℕ) → i < N → j < N → 0 < refcount (p .0) i → 0 < refcount (p .0) j → W .level' i ≡ W .level' j → group' i ≡ group' j → stamp' i ≡ stamp' j → i ≡ j
-      ij i j bi bj ui uj el eg es = elim (ℕ-discrete (refcount ws i) 0) [
-        | yes zi ↦ elim (ℕ-discrete (refcount ws j) 0) [
-          | yes zj ↦ new-is i bi ui zi ∙ ap (λ k. walk k H (p .0) free (ev .splitter)) el ∙ sym (new-is j bj uj zj)
-          | no zj ↦ absurd (apart i j bj zi (omega arith) es)
+      ij i j bi bj ui uj el eg es = elim (ℕ-discrete i (path (W .level' i))) [
+        | yes zi ↦ elim (ℕ-discrete j (path (W .level' j))) [
+          | yes zj ↦ zi ∙ ap path el ∙ sym zj
+          | no zj ↦ absurd (apart i j zi zj bj uj es)
         ]
-        | no zi ↦ elim (ℕ-discrete (refcount ws j) 0) [
-          | yes zj ↦ absurd (apart j i bi zj (omega arith) (sym es))
-          | no zj ↦ (let ai = W .labels i bi (omega arith) in let aj = W .labels j bj (omega arith) in let oi = label-old i (omega arith) in let oj = label-old j (omega arith) in
-              S .injective i j bi bj (omega arith) (omega arith) (sym (ai .0) ∙ el ∙ aj .0) (sym (oi .1) ∙ eg ∙ oj .1) (sym (oi .0) ∙ es ∙ oj .0))
+        | no zi ↦ elim (ℕ-discrete j (path (W .level' j))) [
+          | yes zj ↦ absurd (apart j i zj zi bi ui (sym es))
+          | no zj ↦ (let vi = was-used i bi ui zi in let vj = was-used j bj uj zj in
+              let ai = W .labels i bi vi in let aj = W .labels j bj vj in let oi = label-old i zi in let oj = label-old j zj in
+              S .injective i j bi bj vi vj (sym (ai .0) ∙ el ∙ aj .0) (sym (oi .1) ∙ eg ∙ oj .1) (sym (oi .0) ∙ es ∙ oj .0))
         ]
       ]

@@ -3,7 +3,7 @@ use mathlib.Core.Path.{_≡_, refl, sym, ap, _∙_, subst}
 use mathlib.Core.List.{List}
 use Prim.Native.Nat.{ℕ, zero, suc, _-_, _≤_, _<_, _^_, _%_}
 use native.Mathlib.Omega.{arith}
-use native.Mathlib.Decide.{decLe}
+use native.Mathlib.Decide.{ℕ-discrete, decLe}
 use Rattle.words.specs.Basics.{none}
 use Rattle.sizes.specs.Bits.{bit-lt, low0, low1, low-lt, Agree}
 use Rattle.sizes.specs.Sizes.{bit}
@@ -54,6 +54,38 @@ walk-agree k (suc l) ws i x y h = elim (decLe k l) [
       ∙ ap (λ b. walk k l ws (child ws i b) y) (h l p (omega arith)) ∙ sym (walk-go k l ws i y p)
   | no p ↦ walk-here k (suc l) ws i x (omega arith) ∙ sym (walk-here k (suc l) ws i y (omega arith))
 ]
+
+-- the last step of a walk
+pub walk-down : (k l : ℕ) (ws : List ℕ) (i y : ℕ) → k < l → walk k l ws i y ≡ child ws (walk (suc k) l ws i y) (bit k y)
+walk-down k zero ws i y h = absurd (omega arith)
+walk-down k (suc l) ws i y h = elim (ℕ-discrete k l) [
+  | yes e ↦ walk-go k l ws i y (omega arith) ∙ walk-here k l ws (child ws i (bit l y)) y (omega arith) ∙ ap (λ b. child ws i (bit b y)) (sym e)
+      ∙ ap (λ j. child ws j (bit k y)) (sym (walk-here (suc k) (suc l) ws i y (omega arith)))
+  | no e ↦ walk-go k l ws i y (omega arith) ∙ walk-down k l ws (child ws i (bit l y)) y (omega arith)
+      ∙ ap (λ j. child ws j (bit k y)) (sym (walk-go (suc k) l ws i y (omega arith)))
+]
+
+-- a walk in two parts
+pub walk-split : (k m l : ℕ) (ws : List ℕ) (i y : ℕ) → k ≤ m → m ≤ l → walk k l ws i y ≡ walk k m ws (walk m l ws i y) y
+walk-split k m zero ws i y h b = walk-here k 0 ws i y (omega arith) ∙ sym (walk-here m 0 ws i y (omega arith)) ∙ sym (walk-here k m ws (walk m 0 ws i y) y (omega arith))
+walk-split k m (suc l) ws i y h b = elim (decLe m l) [
+  | yes p ↦ walk-go k l ws i y (omega arith) ∙ walk-split k m l ws (child ws i (bit l y)) y h p ∙ ap (λ j. walk k m ws j y) (sym (walk-go m l ws i y p))
+  | no p ↦ ap (λ j. walk k j ws i y) (omega arith) ∙ ap (λ j. walk k m ws j y) (sym (walk-here m (suc l) ws i y (omega arith)))
+]
+
+-- a walk goes alike in words with the same links at the nodes that it leaves
+pub walk-same : (ws ws' : List ℕ) (k l i y : ℕ) → ((m : ℕ) → k < m → m ≤ l → (b : ℕ) → child ws' (walk m l ws i y) b ≡ child ws (walk m l ws i y) b) → walk k l ws' i y ≡ walk k l ws i y
+walk-same ws ws' k zero i y h = walk-here k 0 ws' i y (omega arith) ∙ sym (walk-here k 0 ws i y (omega arith))
+walk-same ws ws' k (suc l) i y h = elim (decLe k l) [
+  | yes p ↦ walk-go k l ws' i y p
+      ∙ ap (λ j. walk k l ws' j y) (ap (λ j. child ws' j (bit l y)) (sym (top (omega arith))) ∙ h (suc l) (omega arith) (omega arith) (bit l y) ∙ ap (λ j. child ws j (bit l y)) (top (omega arith)))
+      ∙ walk-same ws ws' k l (child ws i (bit l y)) y (λ m a c b. subst (λ j. child ws' j b ≡ child ws j b) (walk-go m l ws i y c) (h m a (omega arith) b))
+      ∙ sym (walk-go k l ws i y p)
+  | no p ↦ walk-here k (suc l) ws' i y (omega arith) ∙ sym (walk-here k (suc l) ws i y (omega arith))
+]
+  where
+    top : suc l ≤ suc l → walk (suc l) (suc l) ws i y ≡ i
+    top q = walk-here (suc l) (suc l) ws i y q
 
 -- ---- a node in use, of level l, with x among its leaves
 

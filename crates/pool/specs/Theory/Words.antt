@@ -10,7 +10,7 @@ use Rattle.words.specs.Basics.{none, plus}
 use Rattle.words.specs.Tests.{decided}
 use Rattle.words.specs.Below.{Words, words-set, plus-word, minus-word, cond-word}
 use Rattle.sizes.specs.Sizes.{bit, height, width}
-use Rattle.pool.specs.Pool.{refcount, left, right, nextFree, setNode, setRefcount, side, child, sibling, retain, freed, release, pathNode, copyPath, write, initLevel, initInner, initLeaves, initFree, initPool}
+use Rattle.pool.specs.Pool.{refcount, left, right, nextFree, setNode, setRefcount, setValue, setLink, side, child, sibling, retain, freed, release, pathNode, copyPath, renew, writeFrom, write, initLevel, initInner, initLeaves, initFree, initPool}
 
 -- ---- a node
 
@@ -96,11 +96,29 @@ words-copyPath (suc l) ws i old x v h p =
     (words-pathNode ws i (bit l x) (nextFree ws i) (sibling ws old (bit l x)) h (left-word ws i h) (side-word (bit l x) _ _ (right-word ws old h) (left-word ws old h)))
     p
 
-pub words-write : (l : ℕ) (ws : List ℕ) (free k root x v : ℕ) → Words ws → root < 4294967296 → v < 4294967296 → PoolWords (write l ws free k root x v)
+words-renew : (l : ℕ) (ws : List ℕ) (free old x v : ℕ) → Words ws → v < 4294967296 → (Words (renew l ws free old x v .0)) × (renew l ws free old x v .1 < 4294967296)
+unfolding renew
+words-renew l ws free old x v h p = (let o = words-copyPath l ws free old x v h p in (words-lowered _ old (o .0), o .1))
+
+-- the frame's root too
+pub record WrittenWords (p : List ℕ × ℕ × ℕ × ℕ) : Type 0 where
+  pub words : Words (p .0)
+  pub free : p .1 < 4294967296
+  pub root : p .3 < 4294967296
+
+words-from : (r i above h : ℕ) (ws : List ℕ) (free k root x v : ℕ) → Words ws → free < 4294967296 → root < 4294967296 → v < 4294967296 → WrittenWords (writeFrom r i above h ws free k root x v)
+unfolding writeFrom setValue setLink
+words-from zero i above h ws free k root x v w f r q = record { words = words-set ws (4 * i + 3) v w q; free = f; root = r }
+words-from (suc m) i above h ws free k root x v w f r q =
+    let o = words-renew m ws free i x v w q in
+    elim (decided (eqb m h)) [
+      | inl e ↦ rw (e, writeFrom) (record { words = o .0; free = o .1; root = f })
+      | inr e ↦ rw (e, writeFrom) (record { words = words-set (renew m ws free i x v .0) (side (bit m x) (4 * above + 1) (4 * above + 2)) free (o .0) f; free = o .1; root = r })
+    ]
+
+pub words-write : (l : ℕ) (ws : List ℕ) (free k root x v : ℕ) → Words ws → free < 4294967296 → root < 4294967296 → v < 4294967296 → WrittenWords (write l ws free k root x v)
 unfolding write
-words-write l ws free k root x v h p q =
-    let o = words-copyPath l ws free root x v h q in
-    words-release l _ _ (k - suc l) root (o .0) (o .1) p
+words-write l ws free k root x v w f r q = words-from _ _ _ l ws free k root x v w f r q
 
 -- ---- the start
 

@@ -34,7 +34,7 @@ slice-write-pool-4 c = simp length-set (omega (arith, mask-lt (c .before .before
 retain-requires : tie.Need-retain-requires
 retain-requires c κs =
     let p1 = c .before .before .before in
-    (simp length-set (p1 .pre .0 .room), kept-link _ _ _ (p1 .pre .0) (p1 .pre .2) (bit-mask (p1 .args .l) (p1 .args .x)) (bit-lt _ _))
+    (simp length-set (p1 .pre .0), kept-link _ _ _ _ (bit-mask (p1 .args .l) (p1 .args .x)) (bit-lt _ _) (p1 .pre .4))
 
 same-length : tie.Need-same-length
 same-length c = c .before .before .retain .kept .0 ∙ simp length-set

@@ -1,0 +1,12 @@
+use borrow.Author.Needs.{needs}
+use Rattle.pool.proofs.Writing.{renew-by}
+use Rattle.pool.proofs.tree.renew.Statement.{statement}
+use Rattle.pool.proofs.tree.renew.Tie as tie
+
+returns : tie.Need-returns
+returns c = renew-by _ _ _ _ _ _ (c .before .before .before .before .copy-path .ensures .0) (c .before .before .before .before .copy-path .ensures .1) (c .sub .ensures)
+
+pub renew-spec : {M : Type 1} → statement M
+renew-spec =
+    tie.close
+    (tie.spec (λ c κs. search needs) (λ c. search needs) (λ c. search needs) (λ c. search needs) (λ c κs. search needs) (λ c. search needs) (λ c. search needs) (λ c. search needs) returns)
