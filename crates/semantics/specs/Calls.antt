@@ -4,7 +4,10 @@ use mathlib.Core.Bool.{Bool, false, cond, not, _||_}
 use mathlib.Core.List.{List, [], _∷_, _++_, map}
 use Prim.Native.Nat.{ℕ, zero, suc, _+_}
 use lib.ListN.{getD, take}
-use lib.Dec.{eqb, leb}
+use lib.Dec.{eqb, ltb, leb}
+use Rattle.sizes.specs.Sizes.{height}
+use Rattle.pool.specs.Pool.{rest}
+use Rattle.model.specs.declared.Step.the-variants.{Spawn, Return, Steal, Sync, Read, Write}
 use Rattle.model.specs.declared.Decoded.{Decoded}
 use Rattle.model.specs.declared.Decoded.the-variants.{Valid, Invalid}
 use Rattle.model.specs.Record.{recordOf}
@@ -12,7 +15,7 @@ use Rattle.model.specs.Machine.{Frame, Machine, deque}
 use Rattle.model.specs.Steps.{Action, spawn, return, sync, read, write, Turn, acting, stealing, turnOf, step}
 use Rattle.model.specs.Run.{Entry}
 use Rattle.semantics.specs.Answers.{wordsIn}
-use Rattle.semantics.specs.Core.{Core}
+use Rattle.semantics.specs.Core.{Core, actingIn}
 use Rattle.semantics.specs.Entries.{State, StartResult, startOn, OutsideResult, outsideOn, recordOn, TapeResult, tapeOn, recordsOf, numbersOf, coreOf, stateOf, chainFree}
 use Rattle.image.specs.Image.{imageBytes}
 use Rattle.semantics.specs.Images.{SaveResult, saveOn, LoadResult, loadOn}
@@ -83,12 +86,31 @@ recordsIn es = map (λ e. e .0) es
 abbrev pub answersIn : List Exchange → List (ℕ × ℕ)
 answersIn es = map (λ e. e .1) es
 
--- ---- the nodes on the free chain after each record
+-- ---- the pool at each record: a sound state from elsewhere has no history to count
+
+pub record PoolAt : Type 0 where
+  -- before it: "fewer nodes are free than that rest has", of a write's path (R-2)
+  pub lacks : Bool
+  -- after it: the nodes on the free chain
+  pub free : ℕ
+
+-- of a worker's bottom frame, whatever it is
+abbrev pub lacksIn : Core → Decoded → Bool
+lacksIn c Invalid = false
+lacksIn c (Valid (Spawn w)) = false
+lacksIn c (Valid (Return w)) = false
+lacksIn c (Valid (Steal w v)) = false
+lacksIn c (Valid (Sync w)) = false
+lacksIn c (Valid (Read w x)) = false
+lacksIn c (Valid (Write w x v)) = ltb (chainFree (stateOf c) (c .pool)) (rest (height (c .head .numbers .splitters)) (c .pool) (actingIn c w .root) x)
+
+abbrev pub poolAt : Core → Decoded → PoolAt
+poolAt c d = record { lacks = lacksIn c d; free = chainFree (stateOf (recordOn c d .core)) (recordOn c d .core .pool) }
 
 -- of the records ds, from the core c on
-abbrev pub freeAfter : Core → List Decoded → List ℕ
-freeAfter c [] = []
-freeAfter c (d ∷ ds) = chainFree (stateOf (recordOn c d .core)) (recordOn c d .core .pool) ∷ freeAfter (recordOn c d .core) ds
+abbrev pub poolsAt : Core → List Decoded → List PoolAt
+poolsAt c [] = []
+poolsAt c (d ∷ ds) = poolAt c d ∷ poolsAt (recordOn c d .core) ds
 
 -- the engine's words, with the free nodes counted
 abbrev pub coreIn : StateAndPool → Core
@@ -96,10 +118,10 @@ coreIn h = coreOf (h .state) (h .pool) (chainFree (h .state) (h .pool))
 
 -- ---- a run, with saves and readings among its calls
 
--- what a run has behind it: the records that were fed, with the engine's answers, and the nodes on the free chain after each
+-- what a run has behind it: the records that were fed, with the engine's answers, and the pool at each
 pub record Past : Type 0 where
   pub exchanges : List Exchange
-  pub free : List ℕ
+  pub pools : List PoolAt
 
 -- an image that the host keeps, and what the run had behind it at that save: "a run goes on from its saved history"
 pub record Saved : Type 0 where
@@ -122,7 +144,7 @@ pub data Call : Type 0 where
   load : (which : ℕ) (parts : State) (pool work : List ℕ) → Call
 
 abbrev pub nothing : Past
-nothing = record { exchanges = []; free = [] }
+nothing = record { exchanges = []; pools = [] }
 
 -- from a state and a pool on
 abbrev pub begun : StateAndPool → Run
@@ -137,7 +159,7 @@ imageAt (v ∷ vs) (suc i) = imageAt vs i
 abbrev pub pastAfter : StateAndPool → Past → HostCall → Past
 pastAfter h p k =
     let es : List Exchange = exchangesOf h k in
-    record { exchanges = p .exchanges ++ es; free = p .free ++ freeAfter (coreIn h) (recordsIn es) }
+    record { exchanges = p .exchanges ++ es; pools = p .pools ++ poolsAt (coreIn h) (recordsIn es) }
 
 abbrev pub saveResult : StateAndPool → List ℕ → List ℕ → SaveResult
 saveResult h work target = saveOn (h .state) (h .pool) work target

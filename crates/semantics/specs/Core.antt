@@ -3,9 +3,9 @@
 use mathlib.Core.Bool.{Bool, cond, not, _||_}
 use mathlib.Core.List.{List, [], _∷_, _++_}
 use Prim.Native.Nat.{ℕ}
-use lib.Dec.{eqb, ltb, leb}
+use lib.Dec.{eqb, ltb}
 use Rattle.words.specs.Basics.{none, plus, all}
-use Rattle.pool.specs.Pool.{readAt, retain, release, write}
+use Rattle.pool.specs.Pool.{readAt, retain, release, rest, write}
 use Rattle.frames.specs.declared.Frame.{Frame}
 use Rattle.frames.specs.Frames.{setFrame, withRoot}
 use Rattle.frames.specs.Deques.{size, bottom}
@@ -101,20 +101,20 @@ readOn c w x = record { core = c; answer = Accepted (Value (readAt (c .head .hei
 
 unfoldable pub writeOn : Core → ℕ → ℕ → ℕ → StepResult
 writeOn c w x v =
-    let p : List ℕ × ℕ × ℕ = write (c .head .height) (c .pool) (c .head .numbers .«free_node») (c .head .«free_count») (actingIn c w .root) x v in
-    stepResult (withFreeNodes (c .head) (p .1) (p .2)) (c .deques) (setFrame (c .frames) (bottom (c .deques) w) (withRoot (actingIn c w) (c .head .numbers .«free_node»))) (p .0)
+    let p : List ℕ × ℕ × ℕ × ℕ = write (c .head .height) (c .pool) (c .head .numbers .«free_node») (c .head .«free_count») (actingIn c w .root) x v in
+    stepResult (withFreeNodes (c .head) (p .1) (p .2)) (c .deques) (setFrame (c .frames) (bottom (c .deques) w) (withRoot (actingIn c w) (p .3))) (p .0)
     (Accepted (Written (p .2)))
 
 -- ---- a step
 
--- refusals 13 to 16, of the kind alone
+-- refusals 13 to 16, of the kind alone. 16, by R-2: "when fewer nodes are free than that rest has", of the path to the splitter
 abbrev pub kindTests : Core → Step → List (Bool × Refusal)
 kindTests c (Spawn w) = (eqb (c .head .numbers .«free_place») none, FramesFull) ∷ []
 kindTests c (Return w) = (not (eqb (actingIn c w .outstanding) 0), ChildLives) ∷ []
 kindTests c (Steal w v) = []
 kindTests c (Sync w) = []
 kindTests c (Read w x) = (not (ltb x (c .head .numbers .splitters)), NoSplitter) ∷ []
-kindTests c (Write w x v) = (not (ltb x (c .head .numbers .splitters)), NoSplitter) ∷ (leb (c .head .«free_count») (c .head .height), PoolFull) ∷ []
+kindTests c (Write w x v) = (not (ltb x (c .head .numbers .splitters)), NoSplitter) ∷ (ltb (c .head .«free_count») (rest (c .head .height) (c .pool) (actingIn c w .root) x), PoolFull) ∷ []
 
 -- refusals 8, 9, 11 and 12
 abbrev pub stealTests : Core → ℕ → ℕ → List (Bool × Refusal)

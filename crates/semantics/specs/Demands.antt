@@ -6,24 +6,25 @@ use mathlib.Core.List.{List·Memᴰ as In}
 use mathlib.Core.List.{List, [], _∷_, map}
 use Prim.Native.Nat.{ℕ, suc, _+_, _*_, _/_, _<_}
 use lib.ListN.{length, take, drop}
-use lib.Dec.{eqb}
+use lib.Dec.{eqb, ltb}
 use Rattle.words.specs.Basics.{count}
 use Rattle.words.specs.Below.{Words, Bytes}
+use Rattle.sizes.specs.Sizes.{height}
 use Rattle.soundness.specs.Soundness.{freeNodes, cleared}
 use Rattle.model.specs.declared.Step.{Step}
 use Rattle.model.specs.declared.Step.the-variants.{Spawn, Return, Steal, Sync, Read, Write}
 use Rattle.model.specs.declared.Decoded.{Decoded}
 use Rattle.model.specs.declared.Decoded.the-variants.{Valid, Invalid}
-use Rattle.model.specs.Machine.{Name, Machine, start, live, inUse}
+use Rattle.model.specs.Machine.{Name, Frame, Machine, start, live, deque, inUse}
 use Rattle.model.specs.Machine.{freeNodes as plainFree}
-use Rattle.model.specs.Steps.{step, answer}
+use Rattle.model.specs.Steps.{step, answer, afterWrite}
 use Rattle.model.specs.Run.{Entry, IsFrame, stepsOf, readsOf, oneWorkerSteps}
 use Rattle.semantics.specs.Entries.{State, zeros, wholeNodes, numbersOf, isSound, chainFree}
 use Rattle.image.specs.Image.{imageBytes, nodesIn}
 use Rattle.semantics.specs.Answers.{wordsIn}
 use Rattle.semantics.specs.Images.{savedImage, stateIn, nodesZero, loadOn}
 use Rattle.semantics.specs.SoundMachine.{machineOf}
-use Rattle.semantics.specs.Calls.{Start, startResult, HostCall, outside, tape, StateAndPool, afterStart, outsideResult, tapeResult, saveResult, afterCall, recordsIn, answersIn, Run, Call, call, save, load, begun, runOf, saysAccepted, traceFrom}
+use Rattle.semantics.specs.Calls.{Start, startResult, HostCall, outside, tape, StateAndPool, afterStart, outsideResult, tapeResult, saveResult, afterCall, recordsIn, answersIn, PoolAt, lacksIn, coreIn, Past, Run, Call, call, save, load, begun, runOf, saysAccepted, traceFrom}
 
 -- ---- the plain machine, fed records
 
@@ -36,31 +37,46 @@ abbrev pub plainAnswer : Machine → Decoded → ℕ × ℕ
 plainAnswer M (Valid st) = answer M st
 plainAnswer M Invalid = (7, 0)
 
--- what answers are compared with: of a machine and a record, with the number k of nodes on the engine's free chain after the record
+-- what answers are compared with: of a machine and a record, with the engine's pool at the record
 pub record Specification : Type 0 where
-  pub answers : Machine → Decoded → ℕ → ℕ × ℕ
-  pub after : Machine → Decoded → ℕ → Machine
+  pub answers : Machine → Decoded → PoolAt → ℕ × ℕ
+  pub after : Machine → Decoded → PoolAt → Machine
 
 -- for a run from a start: the plain machine alone
 abbrev pub fromStart : Specification
 fromStart = record { answers = λ M d k. plainAnswer M d; after = λ M d k. plainAfter M d }
 
+-- with as many nodes
+abbrev pub withNodes : Machine → ℕ → Machine
+withNodes M N = record { splitters = M .splitters; nodes = N; deques = M .deques; suspended = M .suspended }
+
 -- with k free nodes
 abbrev pub withFree : Machine → ℕ → Machine
-withFree M k = record { splitters = M .splitters; nodes = inUse (M .splitters) (live M) + k; deques = M .deques; suspended = M .suspended }
+withFree M k = withNodes M (inUse (M .splitters) (live M) + k)
 
--- "That count is for runs from a start; a sound state handed in otherwise has the values its trees hold": there the free nodes
--- are those on the chain, and so an accepted write's answer
+-- with room for any write, or for none
+abbrev pub withRoom : Machine → Bool → Machine
+withRoom M lacks = withNodes M (cond lacks 0 (inUse (M .splitters) (live M) + suc (height (M .splitters))))
+
+-- "That count is for runs from a start; a sound state handed in otherwise has the values its trees hold": there the free nodes are
+-- those on the chain, and so an accepted write's answer; and a write lacks nodes, 16, just when the chain has fewer than the rest
+-- of its path
+abbrev pub answerIn : PoolAt → ℕ × ℕ → ℕ × ℕ
+answerIn k a = cond (eqb (a .0) 106) (106, k .free) a
+
 abbrev pub fromSound : Specification
-fromSound = record { answers = λ M d k. cond (eqb (plainAnswer M d .0) 106) (106, k) (plainAnswer M d); after = λ M d k. withFree (plainAfter M d) k }
+fromSound = record {
+  answers = λ M d k. answerIn k (plainAnswer (withRoom M (k .lacks)) d);
+  after = λ M d k. withFree (plainAfter (withRoom M (k .lacks)) d) (k .free);
+}
 
--- the answers to the records ds, and the machine after them; ks are the numbers of nodes on the chain
-abbrev pub answersBy : Specification → Machine → List Decoded → List ℕ → List (ℕ × ℕ)
+-- the answers to the records ds, and the machine after them; ks are the pools at them
+abbrev pub answersBy : Specification → Machine → List Decoded → List PoolAt → List (ℕ × ℕ)
 answersBy S M (d ∷ ds) (k ∷ ks) = S .answers M d k ∷ answersBy S (S .after M d k) ds ks
 answersBy S M (d ∷ ds) [] = []
 answersBy S M [] ks = []
 
-abbrev pub machineBy : Specification → Machine → List Decoded → List ℕ → Machine
+abbrev pub machineBy : Specification → Machine → List Decoded → List PoolAt → Machine
 machineBy S M (d ∷ ds) (k ∷ ks) = machineBy S (S .after M d k) ds ks
 machineBy S M (d ∷ ds) [] = M
 machineBy S M [] ks = M
@@ -71,9 +87,9 @@ machineBy S M [] ks = M
 -- one that a later reading forgets
 pub record Answers (S : Specification) (M : Machine) (N : ℕ) (r : Run) : Type 0 where
   -- every answer word equal, refusals 7 to 16 included
-  pub same-answers : answersIn (r .past .exchanges) ≡ answersBy S M (recordsIn (r .past .exchanges)) (r .past .free)
+  pub same-answers : answersIn (r .past .exchanges) ≡ answersBy S M (recordsIn (r .past .exchanges)) (r .past .pools)
   -- the free nodes are the machine's
-  pub same-free : r .stateless ≡ false → chainFree (r .now .state) (r .now .pool) ≡ plainFree (machineBy S M (recordsIn (r .past .exchanges)) (r .past .free))
+  pub same-free : r .stateless ≡ false → chainFree (r .now .state) (r .now .pool) ≡ plainFree (machineBy S M (recordsIn (r .past .exchanges)) (r .past .pools))
   pub still-sound : r .stateless ≡ false → isSound (r .now .state) (r .now .pool) ≡ true
   -- "words beyond the last whole node or beyond the recorded nodes are never changed"
   pub same-length : r .stateless ≡ false → length (r .now .pool) ≡ length (r .lent)
@@ -89,6 +105,17 @@ runFrom b calls = runOf (begun (afterStart b)) calls
 -- for runs from an accepted start: "nodes in use are those that document 01 counts from the history"
 abbrev pub Demand2 : Start → List Call → Type 0
 Demand2 b calls = Answers fromStart (plainStart b) (wholeNodes (b .pool)) (runFrom b calls)
+
+-- R-2: "Nodes in use after a write are as before, so the plain machine's count goes on being the measure": in a run from a start, a
+-- write lacks nodes by the rest of its path just when it "would bring that count above the pool's nodes"
+abbrev pub plainNow : Start → List Call → Machine
+plainNow b calls = let p : Past = runFrom b calls .past in machineBy fromStart (plainStart b) (recordsIn (p .exchanges)) (p .pools)
+
+abbrev pub RestIsCounted : Start → List Call → Type 0
+RestIsCounted b calls =
+    let M : Machine = plainNow b calls in
+    (w x v : ℕ) (q : Frame) (d : List Frame) → deque M w ≡ q ∷ d → x < M .splitters →
+    lacksIn (coreIn (runFrom b calls .now)) (Valid (Write w x v)) ≡ ltb (M .nodes) (inUse (M .splitters) (live (afterWrite M w q d x v)))
 
 -- for sound states, however obtained: "the values its trees hold" (SoundMachine)
 abbrev pub plainOf : StateAndPool → Machine

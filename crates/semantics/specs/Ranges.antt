@@ -7,7 +7,8 @@ use Prim.Native.Nat.{ℕ, _≤_, _<_}
 use lib.ListN.{length}
 use Rattle.words.specs.Basics.{none}
 use Rattle.sizes.specs.Sizes.{height}
-use Rattle.pool.specs.Links.{Link, LinksIn, PathIn}
+use Rattle.pool.specs.Pool.{firstShared, rest}
+use Rattle.pool.specs.Links.{Link, LinksIn, PathIn, WriteIn}
 use Rattle.frames.specs.Widths.{maxWorkers, places, frameWords, dequePlaces, dequeWords}
 use Rattle.frames.specs.Deques.{size, place, bottom}
 use Rattle.frames.specs.Ranges.{ParentOf, ParentCounts}
@@ -42,3 +43,5 @@ pub record Ready (c : Core) : Type 0 where
   pub parent : (w : ℕ) → w < maxWorkers → 0 < size (c .deques) w → ParentOf (bottom (c .deques) w) (actingIn c w)
   pub counts : (w : ℕ) → w < maxWorkers → 0 < size (c .deques) w → ParentCounts (c .frames) (actingIn c w)
   pub path : (w x : ℕ) → w < maxWorkers → 0 < size (c .deques) w → x < c .head .numbers .splitters → PathIn (c .head .numbers .nodes) (c .pool) (c .head .height) (actingIn c w .root) x
+  pub writes : (w x : ℕ) → w < maxWorkers → 0 < size (c .deques) w → x < c .head .numbers .splitters → rest (c .head .height) (c .pool) (actingIn c w .root) x ≤ c .head .«free_count»
+      → WriteIn (c .head .numbers .nodes) (c .head .height) (c .pool) (c .head .numbers .«free_node») x (firstShared (c .head .height) (c .pool) (actingIn c w .root) (actingIn c w .root) x)

@@ -52,6 +52,10 @@ distinct-out x l e = rw e
 pub distinct-cons-le : (x : List ℕ) (l : List (List ℕ)) → distinct l ≤ distinct (x ∷ l)
 distinct-cons-le x l = elim (decided (among x l)) [ inl e ↦ omega (arith, distinct-in x l e) | inr e ↦ omega (arith, distinct-out x l e) ]
 
+pub distinct-positive : (x : List ℕ) (l : List (List ℕ)) → 0 < distinct (x ∷ l)
+distinct-positive x [] = omega arith
+distinct-positive x (y ∷ l) = omega (arith, distinct-cons-le x (y ∷ l), distinct-positive y l)
+
 pub distinct-cons-upper : (x : List ℕ) (l : List (List ℕ)) → distinct (x ∷ l) ≤ suc (distinct l)
 distinct-cons-upper x l = elim (decided (among x l)) [ inl e ↦ omega (arith, distinct-in x l e) | inr e ↦ omega (arith, distinct-out x l e) ]
 

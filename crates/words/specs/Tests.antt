@@ -1,6 +1,6 @@
 -- Tests as Bools, and the facts that they stand for.
-use mathlib.Core.Path.{_≡_, refl, sym}
-use mathlib.Core.Logic.{_⊎_, inl, inr}
+use mathlib.Core.Path.{_≡_, refl, sym, _∙_}
+use mathlib.Core.Logic.{_↔_, _⊎_, inl, inr}
 use mathlib.Core.Bool.{Bool, true, false, not, _||_, _&&_}
 use Prim.Native.Nat.{ℕ, _≤_, _<_}
 use lib.Dec.{T, ltb, ltb→lt, lt→ltb, nltb→le}
@@ -50,3 +50,10 @@ nltb-of {a} {b} h = not-true (ltb a b) (T→true (not (ltb a b)) (le→nltb a b 
 
 pub ge-of : {a b : ℕ} → ltb a b ≡ false → b ≤ a
 ge-of {a} {b} e = nltb→le a b (false→T e)
+
+-- two tests of numbers that say the same
+pub ltb-same : {a b c d : ℕ} → ((a < b) ↔ (c < d)) → ltb a b ≡ ltb c d
+ltb-same {a} {b} {c} {d} h = elim (decided (ltb a b)) [
+  | inl e ↦ e ∙ sym (ltb-of (h .0 (lt-of e)))
+  | inr e ↦ e ∙ elim (decided (ltb c d)) [ inl f ↦ absurd (true≢false (sym (ltb-of (h .1 (lt-of f))) ∙ e)) | inr f ↦ sym f ]
+]

@@ -1,14 +1,16 @@
 -- The nodes in use depend only on which histories the frames have.
 use mathlib.Core.Path.{_≡_, refl, sym, ap, _∙_}
 use mathlib.Core.List.{List·Memᴰ as In, Memᴰ·cast, Memᴰ·map as In-map, Memᴰ·of-map as In-unmap}
-use mathlib.Core.List.{List, [], map, List·Permᴰ, Permᴰ·symm}
-use Prim.Native.Nat.{ℕ, suc, _≤_}
+use mathlib.Core.List.{List, [], _∷_, map, List·Permᴰ, Permᴰ·symm}
+use Prim.Native.Nat.{ℕ, suc, _≤_, _<_}
 use native.Mathlib.Nat.{le-antisymm}
+use native.Mathlib.Omega.{arith}
 use Rattle.words.specs.Basics.{sum, distinct}
-use Rattle.words.specs.Counting.{sum-zero, sum-mono}
+use Rattle.words.specs.Counting.{sum-zero, sum-mono, sum-ge}
 use Rattle.words.specs.Lists.{In-perm}
-use Rattle.words.specs.Distinct.{distinct-mono}
+use Rattle.words.specs.Distinct.{distinct-mono, distinct-positive}
 use Rattle.sizes.specs.Sizes.{height, width}
+use Rattle.sizes.specs.Widths.{width-pos}
 use Rattle.model.specs.History.{Mark, lastWrite, nodesInUse}
 use Rattle.model.specs.Machine.{Frame, histories, inUse}
 
@@ -52,3 +54,10 @@ inUse-perm n {A} {B} p = le-antisymm (inUse-within n A B (λ f m. (f, In-perm p 
 pub inUse-none : (n : ℕ) → inUse n [] ≡ 0
 unfolding nodesInUse
 inUse-none n = sum-zero (suc (height n)) (λ l. sum (width n l) (λ g. 0)) (λ l b. sum-zero (width n l) (λ g. 0) (λ g c. refl))
+
+-- some frame, some node
+pub inUse-positive : (n : ℕ) (f : Frame) (L : List Frame) → 0 < n → 0 < inUse n (f ∷ L)
+unfolding nodesInUse
+inUse-positive n f L p =
+    omega (arith, sum-ge (suc (height n)) 0 (λ l. sum (width n l) (λ g. distinct (lastMarks l g (f ∷ L)))) (omega arith), sum-ge (width n 0) 0 (λ g. distinct (lastMarks 0 g (f ∷ L))) (omega (arith, width-pos n 0 p)),
+    distinct-positive (lastOf 0 0 f) (lastMarks 0 0 L))

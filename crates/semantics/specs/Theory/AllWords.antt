@@ -133,12 +133,12 @@ module _ (c : Core) (C : CoreWords c) where
       record { numbers = C .numbers; deques = T .deques; frames = T .frames; pool = C .pool }
   done-words (Read w x) h = unfold readOn in C
   done-words (Write w x v) h =
-      let P = words-write (c .head .height) (c .pool) (c .head .numbers .«free_node») (c .head .«free_count») (actingIn c w .root) x v (C .pool) (root-word w) h in
+      let P = words-write (c .head .height) (c .pool) (c .head .numbers .«free_node») (c .head .«free_count») (actingIn c w .root) x v (C .pool) (C .numbers 3) (root-word w) h in
       unfold writeOn in
       record {
         numbers = words-set (numberWords (c .head .numbers)) 3 _ (C .numbers) (P .free);
         deques = C .deques;
-        frames = words-setFrame (c .frames) (bottom (c .deques) w) (withRoot (actingIn c w) (c .head .numbers .«free_node»)) (C .frames) (words-root (actingIn c w) (words-acting (tableOf c) w table-words) (c .head .numbers .«free_node») (C .numbers 3));
+        frames = words-setFrame (c .frames) (bottom (c .deques) w) (withRoot (actingIn c w) _) (C .frames) (words-root (actingIn c w) (words-acting (tableOf c) w table-words) _ (P .root));
         pool = P .words;
       }
 

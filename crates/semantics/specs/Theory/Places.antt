@@ -32,12 +32,6 @@ use Rattle.semantics.specs.Theory.Relation.{Trees, Relates, Recorded, Sa
 
 -- ---- permutations
 
-pub length-perm : {A : Type 0} {l m : List A} → List·Permᴰ l m → length l ≡ length m
-length-perm List·Permᴰ·nil = refl
-length-perm (List·Permᴰ·cons e p) = ap suc (length-perm p)
-length-perm (List·Permᴰ·swap e e′) = refl
-length-perm (List·Permᴰ·trans p q) = length-perm p ∙ length-perm q
-
 pub count-perm : (i : ℕ) {l m : List ℕ} → List·Permᴰ l m → count i l ≡ count i m
 count-perm i List·Permᴰ·nil = refl
 count-perm i (List·Permᴰ·cons {a = a} {b = b} {l₁ = l} {l₂ = m} e p) = omega (arith, count-cons i a l, count-cons i b m, ap (δ i) e, count-perm i p)

@@ -9,8 +9,9 @@ use lib.ListN.{length, drop, length-map}
 use Rattle.words.specs.Basics.{none}
 use Rattle.sizes.specs.Sizes.{height}
 use Rattle.sizes.specs.Heights.{height-covers}
-use Rattle.pool.specs.Pool.{retain, release, write}
-use Rattle.pool.specs.Theory.Operations.{Live, Spawned, Returned, Written, live-perm, live-spawn, live-return, live-write}
+use Rattle.pool.specs.Pool.{retain, release, rest, write}
+use Rattle.pool.specs.Theory.Operations.{Live, Spawned, Returned, live-perm, live-spawn, live-return}
+use Rattle.pool.specs.Theory.Write.{Written, live-write}
 use Rattle.pool.specs.Theory.Sharing.{Frame, rootsOf, root-of}
 use Rattle.pool.specs.Theory.Good.{Good, count-roots, good-perm, good-spawn, good-return, good-write}
 use Rattle.frames.specs.Widths.{places}
@@ -58,11 +59,11 @@ module _ (N n : ℕ) (most : N ≤ 16384) (some : 0 < n) where
       → Returned N (height n) n (T .level) (T .size) ws (rootsOf Fs) (release (height n) ws free k (F .0))
   returned ws free k F Fs T = live-return N (height n) n small (height-covers n) k (F .0) (rootsOf Fs) (T .counted) (T .live)
 
-  writeOn : (ws : List ℕ) (free k root : ℕ) (h : History) (Fs : List Frame) (x v : ℕ) → length Fs < places → x < n → height n < k → (T : LiveTrees N n ws free k ((root, h) ∷ Fs))
-      → Written N (height n) n (T .level) (T .size) ws free (rootsOf Fs) root x v (write (height n) ws free k root x v)
+  writeOn : (ws : List ℕ) (free k root : ℕ) (h : History) (Fs : List Frame) (x v : ℕ) → length Fs < places → x < n → rest (height n) ws root x ≤ k → (T : LiveTrees N n ws free k ((root, h) ∷ Fs))
+      → Written N (height n) n (T .level) (T .size) ws (rootsOf Fs) root x v (write (height n) ws free k root x v)
   writeOn ws free k root h Fs x v few bx enough T =
-      live-write N (height n) n small (height-covers n) (T .level) (T .size) ws free k (T .fs) (rootsOf Fs) root x v (T .live) bx (T .counted) (omega (arith, T .counted))
-      (omega (arith, length-map Fs (λ (K : Frame). K .0)))
+      live-write N (height n) n small (height-covers n) (T .level) (T .size) ws free k (T .fs) (rootsOf Fs) root x v (T .live) bx (T .counted) enough
+      (omega (arith, length-map Fs (λ (K : Frame). K .0))) .0
 
   pub live-laws : TreeLaws N n (LiveTrees N n)
   live-laws = record {
@@ -106,6 +107,6 @@ module _ (N n : ℕ) (most : N ≤ 16384) (some : 0 < n) where
   pub return-beyond : (ws : List ℕ) (free k : ℕ) (F : Frame) (Fs : List Frame) → LiveTrees N n ws free k (F ∷ Fs) → Beyond N ws (release (height n) ws free k (F .0) .0)
   return-beyond ws free k F Fs T = (let R = returned ws free k F Fs T in (R .len, R .rest))
 
-  pub write-beyond : (ws : List ℕ) (free k root : ℕ) (h : History) (Fs : List Frame) (x v : ℕ) → length Fs < places → x < n → height n < k → LiveTrees N n ws free k ((root, h) ∷ Fs)
+  pub write-beyond : (ws : List ℕ) (free k root : ℕ) (h : History) (Fs : List Frame) (x v : ℕ) → length Fs < places → x < n → rest (height n) ws root x ≤ k → LiveTrees N n ws free k ((root, h) ∷ Fs)
       → Beyond N ws (write (height n) ws free k root x v .0)
-  write-beyond ws free k root h Fs x v few bx enough T = (let W = writeOn ws free k root h Fs x v few bx enough T in (W .len, W .rest))
+  write-beyond ws free k root h Fs x v few bx enough T = (let W = writeOn ws free k root h Fs x v few bx enough T in (W .len, W .beyond))

@@ -1,12 +1,12 @@
 -- What a sound core gives to code that indexes the deques, the frame table and the pool without a test.
 use mathlib.Core.Path.{_≡_, refl, sym, ap, _∙_, subst}
 use mathlib.Core.Logic.{_⊎_, inl, inr}
-use mathlib.Core.Bool.{Bool, true, cond}
+use mathlib.Core.Bool.{Bool, true, false, cond}
 use mathlib.Core.List.{List, [], _∷_}
-use Prim.Native.Nat.{ℕ, suc, _-_, _≤_, _<_}
+use Prim.Native.Nat.{ℕ, zero, suc, _-_, _≤_, _<_}
 use native.Mathlib.Omega.{arith}
 use native.Mathlib.Decide.{ℕ-discrete}
-use lib.ListN.{length}
+use lib.ListN.{length, length-append}
 use borrow.Author.Tests.{eq-eqb}
 use Rattle.words.specs.Basics.{none, Chain, below, δ, count, howMany}
 use Rattle.words.specs.Chains.{chain-start}
@@ -16,10 +16,11 @@ use Rattle.words.specs.Tests.{ltb-of}
 use Rattle.sizes.specs.Sizes.{height, width, treeNodes}
 use Rattle.sizes.specs.Heights.{height-covers, height-le}
 use Rattle.sizes.specs.Widths.{width-pos}
-use Rattle.pool.specs.Links.{Link, LinksIn, PathIn}
+use Rattle.pool.specs.Pool.{firstShared, rest}
+use Rattle.pool.specs.Links.{Link, LinksIn, PathIn, WriteIn}
 use Rattle.pool.specs.Theory.Operations.{Live}
 use Rattle.pool.specs.Theory.Soundness.{linkLevel, linkSize, sound-live}
-use Rattle.pool.specs.Theory.LiveLinks.{live-links, live-free, live-path}
+use Rattle.pool.specs.Theory.LiveLinks.{live-links, live-free, live-path, live-writes}
 use Rattle.frames.specs.Widths.{places, dequePlaces}
 use Rattle.frames.specs.Frames.{frameAt}
 use Rattle.frames.specs.Deques.{size, place, bottom, dequeList}
@@ -107,6 +108,15 @@ root-counted fs c p b l =
     let one : cond (lives fs p) (δ i (frameAt fs p .root)) 0 ≡ 1 = rw (eq-eqb (frameAt fs p .live) 1 l) (δ-same i) in
     omega (arith, roots-below i c fs, sum-ge c p (λ q. cond (lives fs q) (δ i (frameAt fs q .root)) 0) b, one)
 
+roots-few : (fs : List ℕ) (c : ℕ) → length (rootsBelow fs c) ≤ c
+unfolding rootsBelow
+roots-few fs zero = omega arith
+roots-few fs (suc c) = omega (arith, length-append (rootsBelow fs c) (cond (lives fs c) (frameAt fs c .root ∷ []) []), one (lives fs c), roots-few fs c)
+  where
+    one : (b : Bool) → length (cond b (frameAt fs c .root ∷ []) []) ≤ 1
+    one true = omega arith
+    one false = omega arith
+
 -- ---- the whole
 
 module _ (c : Core) (K : Kept c) where
@@ -152,4 +162,8 @@ module _ (c : Core) (K : Kept c) where
         path = λ w x b h i.
             subst (λ (t : ℕ). PathIn N (c .pool) t (actingIn c w .root) x) (sym (K .height-is))
             (live-path N (height n) n small (height-covers n) trees (actingIn c w .root) x (acting-root w b h) i);
+        writes = λ w x b h i enough.
+            subst (λ (t : ℕ). WriteIn N t (c .pool) (c .head .numbers .«free_node») x (firstShared t (c .pool) (actingIn c w .root) (actingIn c w .root) x)) (sym (K .height-is))
+            (live-writes N (height n) n small (height-covers n) trees (c .head .«free_count») (actingIn c w .root) x (K .counted) (omega (arith, roots-few (c .frames) places, S .numbers .nodes-le)) (acting-root w b h) i
+            (subst (λ (t : ℕ). rest t (c .pool) (actingIn c w .root) x ≤ c .head .«free_count») (K .height-is) enough));
       }

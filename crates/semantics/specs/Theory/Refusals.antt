@@ -8,31 +8,34 @@ use Prim.Native.Nat.{ℕ, zero, suc, _+_, _*_, _≤_, _<_}
 use native.Mathlib.Omega.{arith}
 use native.Mathlib.Decide.{decLt}
 use lib.ListN.{length, getD, length-map, List·getD-eq-default}
-use lib.Dec.{eqb, ltb, leb, leb·suc-suc}
+use lib.Dec.{eqb, ltb}
 use borrow.Author.Tests.{eq-eqb, ne-eqb}
 use Rattle.words.specs.Basics.{none, joined}
-use Rattle.words.specs.Tests.{decided, true≢false, ltb-of, nltb-of}
+use Rattle.words.specs.Tests.{decided, true≢false, ltb-of, nltb-of, lt-of, ge-of, not-false}
 use Rattle.words.specs.Counting.{δ-same, count, count-nil, count-cons, sum-zero, sum-ge, all-at, all-of}
 use Rattle.sizes.specs.Sizes.{height}
+use Rattle.pool.specs.Pool.{rest}
 use Rattle.frames.specs.Widths.{places}
+use Rattle.frames.specs.declared.Frame.{Frame as FrameWords}
 use Rattle.frames.specs.Deques.{size}
 use Rattle.frames.specs.Theory.Lists.{list-length}
 use Rattle.frames.specs.Theory.Places.{FreePlaces}
 use Rattle.model.specs.declared.Step.{Step}
 use Rattle.model.specs.declared.Step.the-variants.{Spawn, Return, Steal, Sync, Read, Write}
-use Rattle.model.specs.Machine.{Frame, Machine, live, deque, isEmpty, hasChild, freeNodes}
-use Rattle.model.specs.Steps.{Action, spawn, return, sync, read, write, acting, turnOf, firstTrue, notBelow, actionTests, turnTests, refusal}
+use Rattle.model.specs.Machine.{Frame, Machine, live, deque, isEmpty, hasChild, inUse}
+use Rattle.model.specs.Steps.{Action, spawn, return, sync, read, write, acting, turnOf, written, afterWrite, firstTrue, notBelow, actionTests, turnTests, refusal}
 use Rattle.model.specs.Steps.{noWorker as missing}
 use Rattle.model.specs.Theory.Children.{hasChild-In}
 use Rattle.model.specs.Theory.FrameTree.{FrameTree}
 use Rattle.model.specs.Theory.DequeShape.{DequeInvariant}
-use Rattle.model.specs.Theory.Effects.{isEmpty-nil, there-is-worker}
+use Rattle.model.specs.Theory.Effects.{Passes, acts, live-with, isEmpty-nil, there-is-worker}
+use Rattle.model.specs.Theory.Histories.{inUse-perm}
 use Rattle.semantics.specs.declared.Refusal.{Refusal}
 use Rattle.semantics.specs.declared.Refusal.the-variants.{Values, Workers, Nodes, Tape, Work, Unsound, Record, NoWorker, MainReturned, WorkerIdle, ThiefBusy, NoVictim, FramesFull, ChildLives, NoSplitter, PoolFull, Blocks, BlockCheck, Target, Lengths}
 use Rattle.semantics.specs.declared.Answer.the-variants.{Refused}
 use Rattle.semantics.specs.Answers.{refusalNumber}
 use Rattle.semantics.specs.Core.{Core, StepResult, actingIn, idle, noWorker, allIdle, judged, actingTests, stepOn, testsOf, doneBy, kindTests}
-use Rattle.semantics.specs.Theory.Relation.{Trees, placesOf, Relates}
+use Rattle.semantics.specs.Theory.Relation.{Trees, placesOf, rootOf, Relates}
 use Rattle.semantics.specs.Theory.Places.{in-deque, sum-count, all-once, childCount-test, depth-few, placed-inside, acting-frame, acting-record}
 
 -- ---- two lists of tests
@@ -43,6 +46,16 @@ Alike [] [] = Unit {0}
 Alike [] (u ∷ us) = ⊥
 Alike (t ∷ ts) [] = ⊥
 Alike (t ∷ ts) (u ∷ us) = (t .0 ≡ u .0) × (refusalNumber (t .1) ≡ u .1) × (u .0 ≡ false → Alike ts us)
+
+-- 16 alike: by the rest of the path here, by the count of nodes there
+abbrev pub SameRoom : Machine → Core → Step → Type 0
+SameRoom M c (Spawn w) = Unit {0}
+SameRoom M c (Return w) = Unit {0}
+SameRoom M c (Steal w v) = Unit {0}
+SameRoom M c (Sync w) = Unit {0}
+SameRoom M c (Read w x) = Unit {0}
+SameRoom M c (Write w x v) = (q : Frame) (d : List Frame) → w < length (M .deques) → deque M w ≡ q ∷ d → x < M .splitters →
+    ltb (c .head .«free_count») (rest (c .head .height) (c .pool) (actingIn c w .root) x) ≡ ltb (M .nodes) (inUse (M .splitters) (live (afterWrite M w q d x v)))
 
 abbrev pub refusedBy : Core → Refusal → StepResult
 refusedBy c r = record { core = c; answer = Refused r }
@@ -134,9 +147,6 @@ module _ {P : Trees} {M : Machine} {c : Core} (r : Relates P M c) where
   pub victim-same : (v : ℕ) → noWorker c v || ltb (size (c .deques) v) 2 ≡ missing M v || ltb (length (deque M v)) 2
   victim-same v = ap₂ _||_ (worker-same v) (ap (λ (n : ℕ). ltb n 2) (size-same v))
 
-  pub room-same : c .head .«free_count» ≡ freeNodes M → leb (c .head .«free_count») (c .head .height) ≡ ltb (freeNodes M) (suc (height (M .splitters)))
-  room-same e = ap₂ leb e (r .numbers .height-is) ∙ sym (leb·suc-suc (freeNodes M) (height (M .splitters)))
-
   pub child-same : (w : ℕ) (q : Frame) (d : List Frame) → w < length (M .deques) → deque M w ≡ q ∷ d → not (eqb (actingIn c w .outstanding) 0) ≡ hasChild (q .name) (live M)
   child-same w q d lt e =
       rw (acting-frame r w q d lt e, acting-record r w q d lt e .outstanding, childCount-test (q .name) (live M)) (not-not (hasChild (q .name) (live M)))
@@ -198,34 +208,44 @@ module _ {P : Trees} {M : Machine} {c : Core} (r : Relates P M c) where
 
     -- ---- all tests of a step
 
-    acting-alike : (w : ℕ) (a : Action) (ts : List (Bool × Refusal)) → ((q : Frame) (d : List Frame) → w < length (M .deques) → deque M w ≡ q ∷ d → Alike ts (actionTests M (q ∷ d) a))
+    acting-alike : (w : ℕ) (a : Action) (ts : List (Bool × Refusal)) → ((q : Frame) (d : List Frame) → w < length (M .deques) → deque M w ≡ q ∷ d → Alike ts (actionTests M w (q ∷ d) a))
         → Alike (actingTests c w ++ ts) (turnTests M (acting w a))
     acting-alike w a ts h = (worker-same w, refl, λ x. (ended-same, refl, λ y. (idle-same w, refl, go (deque M w) refl)))
       where
-        go : (d : List Frame) → deque M w ≡ d → isEmpty (deque M w) ≡ false → Alike ts (actionTests M d a)
+        go : (d : List Frame) → deque M w ≡ d → isEmpty (deque M w) ≡ false → Alike ts (actionTests M w d a)
         go [] e i = absurd (true≢false (rw e at i))
         go (q ∷ d) e i = h q d (there-is-worker M w (omega (arith, ap length e))) e
+
+-- a write that the plain machine does not refuse has the nodes that it takes
+pub enough : {P : Trees} {M : Machine} {c : Core} (r : Relates P M c) (w x v : ℕ) → SameRoom M c (Write w x v) → (h : Passes M (acting w (write x v)))
+    → rest (height (M .splitters)) (c .pool) (rootOf (c .frames) (r .at) (acts M w (write x v) h .actor)) x ≤ c .head .«free_count»
+enough {P} {M} {c} r w x v same h =
+    let a = acts M w (write x v) h in
+    let few = subst (λ (k : ℕ). k ≤ M .nodes) (sym (inUse-perm (M .splitters) (live-with M w (written (a .actor) x v ∷ a .above) (a .worker)))) (a .allowed .1) in
+    let room = ge-of (same (a .actor) (a .above) (a .worker) (a .at) (a .allowed .0) ∙ nltb-of few) in
+    subst (λ (t : ℕ). rest t (c .pool) (rootOf (c .frames) (r .at) (a .actor)) x ≤ c .head .«free_count») (r .numbers .height-is)
+    (subst (λ (f : FrameWords). rest (c .head .height) (c .pool) (f .root) x ≤ c .head .«free_count») (acting-frame r w (a .actor) (a .above) (a .worker) (a .at)) room)
 
 pub step-judged : (c : Core) (st : Step) → stepOn c st ≡ judged (testsOf c st) c (doneBy c st)
 unfolding stepOn
 step-judged c st = refl
 
-module _ {P : Trees} {M : Machine} {c : Core} (r : Relates P M c) (tree : FrameTree M) (shape : DequeInvariant M) (free-count : c .head .«free_count» ≡ freeNodes M) where
-  alike : (st : Step) → Alike (testsOf c st) (turnTests M (turnOf st))
-  alike (Spawn w) = acting-alike r tree shape w spawn (kindTests c (Spawn w)) (λ q d lt e. (vacant-same r, refl, λ x. tt))
-  alike (Return w) = acting-alike r tree shape w return (kindTests c (Return w)) (λ q d lt e. (child-same r w q d lt e, refl, λ x. tt))
-  alike (Steal w v) = (worker-same r w, refl, λ x. (ended-same r tree shape, refl, λ y. (ap not (idle-same r w), refl, λ z. (victim-same r v, refl, λ u. tt))))
-  alike (Sync w) = acting-alike r tree shape w sync [] (λ q d lt e. tt)
-  alike (Read w x) = acting-alike r tree shape w (read x) (kindTests c (Read w x)) (λ q d lt e. (splitter-same r x, refl, λ y. tt))
-  alike (Write w x v) =
+module _ {P : Trees} {M : Machine} {c : Core} (r : Relates P M c) (tree : FrameTree M) (shape : DequeInvariant M) where
+  alike : (st : Step) → SameRoom M c st → Alike (testsOf c st) (turnTests M (turnOf st))
+  alike (Spawn w) same = acting-alike r tree shape w spawn (kindTests c (Spawn w)) (λ q d lt e. (vacant-same r, refl, λ x. tt))
+  alike (Return w) same = acting-alike r tree shape w return (kindTests c (Return w)) (λ q d lt e. (child-same r w q d lt e, refl, λ x. tt))
+  alike (Steal w v) same = (worker-same r w, refl, λ x. (ended-same r tree shape, refl, λ y. (ap not (idle-same r w), refl, λ z. (victim-same r v, refl, λ u. tt))))
+  alike (Sync w) same = acting-alike r tree shape w sync [] (λ q d lt e. tt)
+  alike (Read w x) same = acting-alike r tree shape w (read x) (kindTests c (Read w x)) (λ q d lt e. (splitter-same r x, refl, λ y. tt))
+  alike (Write w x v) same =
       acting-alike r tree shape w (write x v) (kindTests c (Write w x v))
-      (λ q d lt e. (splitter-same r x, refl, λ y. (room-same r free-count, refl, λ z. tt)))
+      (λ q d lt e. (splitter-same r x, refl, λ y. (same q d lt e (lt-of (not-false _ y)), refl, λ z. tt)))
 
-  pub refused-alike : (st : Step)
+  pub refused-alike : (st : Step) → SameRoom M c st
       → (refusal M st ≡ 0 → stepOn c st ≡ doneBy c st)
       × ((k : ℕ) → refusal M st ≡ suc k → (o : Refusal) × (stepOn c st ≡ record { core = c; answer = Refused o }) × (refusalNumber o ≡ suc k))
   unfolding refusal
-  refused-alike st = (
-    λ e. step-judged c st ∙ judged-passes (testsOf c st) (turnTests M (turnOf st)) c (doneBy c st) (alike st) e,
-    λ k e. rw (step-judged c st) (judged-refuses (testsOf c st) (turnTests M (turnOf st)) c (doneBy c st) (alike st) k e),
+  refused-alike st same = (
+    λ e. step-judged c st ∙ judged-passes (testsOf c st) (turnTests M (turnOf st)) c (doneBy c st) (alike st same) e,
+    λ k e. rw (step-judged c st) (judged-refuses (testsOf c st) (turnTests M (turnOf st)) c (doneBy c st) (alike st same) k e),
   )

@@ -10,7 +10,7 @@ use Prim.Native.Nat.{ℕ, _+_, _≤_, _<_}
 use lib.ListN.{length, getD}
 use Rattle.words.specs.Basics.{none, count, joined}
 use Rattle.sizes.specs.Sizes.{height, treeNodes}
-use Rattle.pool.specs.Pool.{readAt, retain, release, write}
+use Rattle.pool.specs.Pool.{readAt, retain, release, rest, write}
 use Rattle.frames.specs.Widths.{places}
 use Rattle.frames.specs.Deques.{dequeList}
 use Rattle.frames.specs.Frames.{frameAt, freePlace}
@@ -44,12 +44,12 @@ pub record TreeLaws (N n : ℕ) (P : Trees) : Type 0 where
   pub return : (ws : List ℕ) (free k : ℕ) (F : ℕ × History) (Fs : List (ℕ × History)) → P ws free k (F ∷ Fs)
       → P (release (height n) ws free k (F .0) .0) (release (height n) ws free k (F .0) .1) (release (height n) ws free k (F .0) .2) Fs
       × Kept (height n) n ws (release (height n) ws free k (F .0) .0) Fs
-  pub write : (ws : List ℕ) (free k root : ℕ) (h : History) (Fs : List (ℕ × History)) (x v : ℕ) (m : Mark) → length Fs < places → x < n → height n < k → m ≢ []
+  pub write : (ws : List ℕ) (free k root : ℕ) (h : History) (Fs : List (ℕ × History)) (x v : ℕ) (m : Mark) → length Fs < places → x < n → rest (height n) ws root x ≤ k → m ≢ []
       → Fresh m ((root, h) ∷ Fs) → P ws free k ((root, h) ∷ Fs)
-      → P (write (height n) ws free k root x v .0) (write (height n) ws free k root x v .1) (write (height n) ws free k root x v .2) ((free, event x m ∷ h) ∷ Fs)
+      → P (write (height n) ws free k root x v .0) (write (height n) ws free k root x v .1) (write (height n) ws free k root x v .2) ((write (height n) ws free k root x v .3, event x m ∷ h) ∷ Fs)
       × Kept (height n) n ws (write (height n) ws free k root x v .0) Fs
-      × (readAt (height n) (write (height n) ws free k root x v .0) free x ≡ v)
-      × ((y : ℕ) → y < n → y ≢ x → readAt (height n) (write (height n) ws free k root x v .0) free y ≡ readAt (height n) ws root y)
+      × (readAt (height n) (write (height n) ws free k root x v .0) (write (height n) ws free k root x v .3) x ≡ v)
+      × ((y : ℕ) → y < n → y ≢ x → readAt (height n) (write (height n) ws free k root x v .0) (write (height n) ws free k root x v .3) y ≡ readAt (height n) ws root y)
 
 -- ---- frames and their places
 

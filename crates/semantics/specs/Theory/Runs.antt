@@ -24,7 +24,7 @@ use Rattle.semantics.specs.declared.Answer.{Answer}
 use Rattle.semantics.specs.Answers.{answerWords, wordsIn}
 use Rattle.semantics.specs.Core.{Core}
 use Rattle.semantics.specs.Entries.{numbersOf, coreOf, stateOf, isSound, checkedState, chainFree, recordOn, OutsideResult, outsideDone, outsideChecked, outsideWith, outsideOn, recordsOf, putAnswer, RecordsResult, recordsResult, runOn, TapeResult, tapeDone, tapeRefused, tapeChecked, unfitTape, tapeWith, tapeOn}
-use Rattle.semantics.specs.Calls.{HostCall, outside, tape, StateAndPool, afterCall, Exchange, refusedWhole, exchangesFrom, exchangesOf, recordsIn, answersIn, freeAfter, coreIn}
+use Rattle.semantics.specs.Calls.{HostCall, outside, tape, StateAndPool, afterCall, Exchange, refusedWhole, exchangesFrom, exchangesOf, recordsIn, answersIn, PoolAt, poolAt, poolsAt, coreIn}
 use Rattle.semantics.specs.Demands.{Specification, answersBy, machineBy}
 use Rattle.semantics.specs.Promises.{Fits}
 use Rattle.semantics.specs.Theory.Pools.{Beyond}
@@ -42,15 +42,11 @@ use Rattle.semantics.specs.Theory.TapeWords.{length-records, records-fro
 abbrev pub stateAndPool : Core → StateAndPool
 stateAndPool c = record { state = stateOf c; pool = c .pool }
 
--- the nodes on the free chain after a record
-abbrev pub freeLeft : Core → Decoded → ℕ
-freeLeft c d = chainFree (stateOf (recordOn c d .core)) (recordOn c d .core .pool)
-
 -- what a relation has to do: each record keeps it, and is answered as S says; the same nodes in another pool keep it
 pub record Laws (S : Specification) (Follows : Machine → Core → Type 0) : Type 0 where
   pub carried : (M : Machine) (c : Core) → Follows M c → Carried M c
-  pub keeps : (M : Machine) (c : Core) (d : Decoded) → Follows M c → Follows (S .after M d (freeLeft c d)) (recordOn c d .core)
-  pub alike : (M : Machine) (c : Core) (d : Decoded) → Follows M c → answerWords (recordOn c d .answer) ≡ S .answers M d (freeLeft c d)
+  pub keeps : (M : Machine) (c : Core) (d : Decoded) → Follows M c → Follows (S .after M d (poolAt c d)) (recordOn c d .core)
+  pub alike : (M : Machine) (c : Core) (d : Decoded) → Follows M c → answerWords (recordOn c d .answer) ≡ S .answers M d (poolAt c d)
   pub elsewhere : (M : Machine) (c : Core) (ws' : List ℕ) → Follows M c → SameNodes (c .head .numbers .nodes) (c .pool) ws' → Follows M (withPool c ws')
 
 -- the host's state and pool are those of a core that M follows
@@ -70,11 +66,11 @@ module _ {M : Machine} {c : Core} (K : Carried M c) where
       withHeight : ℕ → Core
       withHeight q = record { head = record { numbers = c .head .numbers; height = q; «free_count» = c .head .«free_count» }; deques = c .deques; frames = c .frames; pool = c .pool }
 
-  core-counted : coreIn (stateAndPool c) ≡ c
+  pub core-counted : coreIn (stateAndPool c) ≡ c
   core-counted = ap (coreOf (stateOf c) (c .pool)) (is-sound K .1) ∙ core-back
 
   record-beyond : (d : Decoded) → Beyond (c .head .numbers .nodes) (c .pool) (recordOn c d .core .pool)
-  record-beyond (Valid st) = step-beyond M c (K .related) (K .tree) (K .deques) (K .same-free) st
+  record-beyond (Valid st) = step-beyond M c K st
   record-beyond Invalid = (refl, refl)
 
   -- ---- the check
@@ -152,7 +148,7 @@ module _ {M : Machine} {c : Core} (K : Carried M c) where
 
 -- ---- lists joined
 
-length-free : (ds : List Decoded) (c : Core) → length (freeAfter c ds) ≡ length ds
+length-free : (ds : List Decoded) (c : Core) → length (poolsAt c ds) ≡ length ds
 length-free [] c = refl
 length-free (d ∷ ds) c = ap suc (length-free ds (recordOn c d .core))
 
@@ -160,15 +156,15 @@ pub beyond-then : (N : ℕ) (a b c : List ℕ) → Beyond N a b → Beyond N b c
 beyond-then N a b c x y = (y .0 ∙ x .0, y .1 ∙ x .1)
 
 module _ (S : Specification) where
-  -- a list of records with as many numbers of free nodes, and another
-  answers-append : (ds : List Decoded) (ks : List ℕ) (M : Machine) (ds′ : List Decoded) (ks′ : List ℕ) → length ks ≡ length ds
+  -- a list of records with as many pools, and another
+  answers-append : (ds : List Decoded) (ks : List PoolAt) (M : Machine) (ds′ : List Decoded) (ks′ : List PoolAt) → length ks ≡ length ds
       → answersBy S M (ds ++ ds′) (ks ++ ks′) ≡ answersBy S M ds ks ++ answersBy S (machineBy S M ds ks) ds′ ks′
   answers-append [] [] M ds′ ks′ l = refl
   answers-append [] (k ∷ ks) M ds′ ks′ l = absurd (omega arith)
   answers-append (d ∷ ds) [] M ds′ ks′ l = absurd (omega arith)
   answers-append (d ∷ ds) (k ∷ ks) M ds′ ks′ l = ap (λ z. S .answers M d k ∷ z) (answers-append ds ks (S .after M d k) ds′ ks′ (omega arith))
 
-  machine-append : (ds : List Decoded) (ks : List ℕ) (M : Machine) (ds′ : List Decoded) (ks′ : List ℕ) → length ks ≡ length ds
+  machine-append : (ds : List Decoded) (ks : List PoolAt) (M : Machine) (ds′ : List Decoded) (ks′ : List PoolAt) → length ks ≡ length ds
       → machineBy S M (ds ++ ds′) (ks ++ ks′) ≡ machineBy S (machineBy S M ds ks) ds′ ks′
   machine-append [] [] M ds′ ks′ l = refl
   machine-append [] (k ∷ ks) M ds′ ks′ l = absurd (omega arith)
@@ -177,20 +173,20 @@ module _ (S : Specification) where
 
 -- ---- calls one after the other
 
--- to h, with the exchanges es and the numbers ks of nodes on the chain
-pub record Fed (S : Specification) (Follows : Machine → Core → Type 0) (M : Machine) (h : StateAndPool) (es : List Exchange) (ks : List ℕ) : Type 0 where
+-- to h, with the exchanges es and the pools ks
+pub record Fed (S : Specification) (Follows : Machine → Core → Type 0) (M : Machine) (h : StateAndPool) (es : List Exchange) (ks : List PoolAt) : Type 0 where
   pub long : length ks ≡ length (recordsIn es)
   pub kept : KeptBy Follows h (machineBy S M (recordsIn es) ks)
   pub same : answersIn es ≡ answersBy S M (recordsIn es) ks
 
 -- a call from h to h′
-pub record Ran (S : Specification) (Follows : Machine → Core → Type 0) (M : Machine) (h h′ : StateAndPool) (es : List Exchange) (ks : List ℕ) : Type 0 where
+pub record Ran (S : Specification) (Follows : Machine → Core → Type 0) (M : Machine) (h h′ : StateAndPool) (es : List Exchange) (ks : List PoolAt) : Type 0 where
   pub fed : Fed S Follows M h′ es ks
   pub nodes : numbersOf (h′ .state) .nodes ≡ numbersOf (h .state) .nodes
   pub beyond : Beyond (numbersOf (h .state) .nodes) (h .pool) (h′ .pool)
 
 module _ (S : Specification) (Follows : Machine → Core → Type 0) (L : Laws S Follows) where
-  pub fed-then : (M : Machine) (h₁ h₂ : StateAndPool) (es es₁ : List Exchange) (ks ks₁ : List ℕ) → Fed S Follows M h₁ es ks → Fed S Follows (machineBy S M (recordsIn es) ks) h₂ es₁ ks₁
+  pub fed-then : (M : Machine) (h₁ h₂ : StateAndPool) (es es₁ : List Exchange) (ks ks₁ : List PoolAt) → Fed S Follows M h₁ es ks → Fed S Follows (machineBy S M (recordsIn es) ks) h₂ es₁ ks₁
       → Fed S Follows M h₂ (es ++ es₁) (ks ++ ks₁)
   fed-then M h₁ h₂ es es₁ ks ks₁ A B =
       let e : recordsIn (es ++ es₁) ≡ recordsIn es ++ recordsIn es₁ = map-append (λ (t : Exchange). t .0) es es₁ in
@@ -203,9 +199,9 @@ module _ (S : Specification) (Follows : Machine → Core → Type 0) (L : Laws S
   -- ---- the records of a tape
 
   record RanOn (M : Machine) (c : Core) (as′ : List ℕ) (k : ℕ) (ds : List Decoded) (r : RecordsResult) : Type 0 where
-    follows : Follows (machineBy S M ds (freeAfter c ds)) (r .core)
+    follows : Follows (machineBy S M ds (poolsAt c ds)) (r .core)
     before : (j : ℕ) → j < k → getD (r .answers) j 0 ≡ getD as′ j 0
-    same : answersIn (exchangesFrom (r .answers) k ds) ≡ answersBy S M ds (freeAfter c ds)
+    same : answersIn (exchangesFrom (r .answers) k ds) ≡ answersBy S M ds (poolsAt c ds)
     nodes : r .core .head .numbers .nodes ≡ c .head .numbers .nodes
     beyond : Beyond (c .head .numbers .nodes) (c .pool) (r .core .pool)
 
@@ -215,7 +211,7 @@ module _ (S : Specification) (Follows : Machine → Core → Type 0) (L : Laws S
   runs-on (d ∷ ds) M c as′ k f h =
       let a = recordOn c d .answer in
       let c₁ = recordOn c d .core in
-      let R = runs-on ds (S .after M d (freeLeft c d)) c₁ (putAnswer as′ k a) (k + 2) (L .keeps M c d f) (omega (arith, put-long as′ k a)) in
+      let R = runs-on ds (S .after M d (poolAt c d)) c₁ (putAnswer as′ k a) (k + 2) (L .keeps M c d f) (omega (arith, put-long as′ k a)) in
       let fst = R .before k (omega arith) ∙ put-first as′ k a (omega arith) ∙ ap (λ p. p .0) (L .alike M c d f) in
       let snd = R .before (suc k) (omega arith) ∙ put-second as′ k a (omega arith) ∙ ap (λ p. p .1) (L .alike M c d f) in
       record {
@@ -232,7 +228,7 @@ module _ (S : Specification) (Follows : Machine → Core → Type 0) (L : Laws S
   module _ (M : Machine) (c : Core) (f : Follows M c) where
     -- what a call leaves and tells, from the core c
     abbrev RanFrom : StateAndPool × List Exchange → Type 0
-    RanFrom p = Ran S Follows M (stateAndPool c) (p .0) (p .1) (freeAfter c (recordsIn (p .1)))
+    RanFrom p = Ran S Follows M (stateAndPool c) (p .0) (p .1) (poolsAt c (recordsIn (p .1)))
 
     still : RanFrom (stateAndPool c, [])
     still = record { fed = record { long = refl; kept = record { core = c; held = refl; follows = f }; same = refl }; nodes = refl; beyond = (refl, refl) }
@@ -252,8 +248,8 @@ module _ (S : Specification) (Follows : Machine → Core → Type 0) (L : Laws S
         record {
           fed = record {
             long = length-free (recordsIn (exchangesFrom (r .answers) 0 ds)) c;
-            kept = record { core = r .core; held = refl; follows = subst (λ z. Follows (machineBy S M z (freeAfter c z)) (r .core)) v (R .follows) };
-            same = R .same ∙ ap (λ z. answersBy S M z (freeAfter c z)) v;
+            kept = record { core = r .core; held = refl; follows = subst (λ z. Follows (machineBy S M z (poolsAt c z)) (r .core)) v (R .follows) };
+            same = R .same ∙ ap (λ z. answersBy S M z (poolsAt c z)) v;
           };
           nodes = R .nodes;
           beyond = R .beyond;
@@ -274,9 +270,9 @@ module _ (S : Specification) (Follows : Machine → Core → Type 0) (L : Laws S
       ]
     ]
 
-  pub call-follows : (M : Machine) (h : StateAndPool) (k : HostCall) → KeptBy Follows h M → Ran S Follows M h (afterCall h k) (exchangesOf h k) (freeAfter (coreIn h) (recordsIn (exchangesOf h k)))
+  pub call-follows : (M : Machine) (h : StateAndPool) (k : HostCall) → KeptBy Follows h M → Ran S Follows M h (afterCall h k) (exchangesOf h k) (poolsAt (coreIn h) (recordsIn (exchangesOf h k)))
   call-follows M h k K =
       let c = K .core in
-      subst (λ q. Ran S Follows M q (afterCall q k) (exchangesOf q k) (freeAfter (coreIn q) (recordsIn (exchangesOf q k)))) (sym (K .held))
-      (subst (λ b. Ran S Follows M (stateAndPool c) (afterCall (stateAndPool c) k) (exchangesOf (stateAndPool c) k) (freeAfter b (recordsIn (exchangesOf (stateAndPool c) k)))) (sym (core-counted (L .carried M c (K .follows))))
+      subst (λ q. Ran S Follows M q (afterCall q k) (exchangesOf q k) (poolsAt (coreIn q) (recordsIn (exchangesOf q k)))) (sym (K .held))
+      (subst (λ b. Ran S Follows M (stateAndPool c) (afterCall (stateAndPool c) k) (exchangesOf (stateAndPool c) k) (poolsAt b (recordsIn (exchangesOf (stateAndPool c) k)))) (sym (core-counted (L .carried M c (K .follows))))
       (call-at M c (K .follows) k))

@@ -11,7 +11,7 @@ use lib.ListN.{length, getD, set, length-map, length-set, length-append}
 use lib.Seq.{getD-set-same, getD-set-other}
 use Rattle.words.specs.Basics.{plus, joined, same}
 use Rattle.words.specs.Tests.{decided}
-use Rattle.words.specs.Lists.{In-perm, joined-set}
+use Rattle.words.specs.Lists.{In-perm, perm-length, joined-set}
 use Rattle.words.specs.Distinct.{same-refl, same-differ}
 use Rattle.words.specs.Counting.{δ-same, count, count-cons, hit, miss}
 use Rattle.sizes.specs.Sizes.{height}
@@ -33,7 +33,7 @@ use Rattle.model.specs.Theory.FrameTree.{Rooted, rooted-perm, FrameTree, names-
 use Rattle.semantics.specs.Answers.{answerWords}
 use Rattle.semantics.specs.Core.{Core, tableOf, actingIn, spawnOn}
 use Rattle.semantics.specs.Theory.Relation.{Trees, TreeLaws, Kept, parentPlace, childCount, placesOf, rootOf, rootsOf, Recorded, Relates}
-use Rattle.semantics.specs.Theory.Places.{length-perm, count-perm, childCount-perm, map-cong, joined-at, PlacedOnce, not-head, place-left, childCount-le, childless-count, depth-few, recorded-as, recorded-kept, placed-inside, placed-taken, placed-apart, in-deque, treeOf, same-numbers, worker-few, acting-deque, acting-frame, acting-record}
+use Rattle.semantics.specs.Theory.Places.{count-perm, childCount-perm, map-cong, joined-at, PlacedOnce, not-head, place-left, childCount-le, childless-count, depth-few, recorded-as, recorded-kept, placed-inside, placed-taken, placed-apart, in-deque, treeOf, same-numbers, worker-few, acting-deque, acting-frame, acting-record}
 
 -- ---- the child's place
 
@@ -79,7 +79,7 @@ module _ {P : Trees} {M : Machine} {c : Core} (r : Relates P M c) (tree : FrameT
   old f m = In-perm (Permᴰ·symm before) m
 
   others-few : length others < 63
-  others-few = omega (arith, few, length-perm before)
+  others-few = omega (arith, few, perm-length before)
 
   -- ---- names
 
@@ -288,10 +288,11 @@ pub sim-spawn : (P : Trees) (M : Machine) (c : Core) (w : ℕ) → TreeLaws (c .
     → Relates P (afterTurn M (acting w spawn)) (spawnOn c w .core) × (answerWords (spawnOn c w .answer) ≡ turnAnswer M (acting w spawn))
 sim-spawn P M c w laws tree h r =
     let x = acts M w spawn h in
-    let y = first-free (r .gs) (place-left (r .at) (r .gs) (live M) (r .once) (x .allowed)) in
+    let few : length (live M) < places = subst (λ z. z < places) (sym (perm-length (x .before))) (x .allowed) in
+    let y = first-free (r .gs) (place-left (r .at) (r .gs) (live M) (r .once) few) in
     subst (λ (z : List Frame). Relates P (afterAction M w z spawn) (spawnOn c w .core) × (answerWords (spawnOn c w .answer) ≡ actionAnswer M w z spawn)) (sym (x .at)) (
-      spawn-relates r tree w (x .actor) (x .above) (x .worker) (x .at) (x .allowed) (y .0) (y .1) (y .2) laws,
-      spawn-answer r tree w (x .actor) (x .above) (x .worker) (x .at) (x .allowed) (y .0) (y .1) (y .2),
+      spawn-relates r tree w (x .actor) (x .above) (x .worker) (x .at) few (y .0) (y .1) (y .2) laws,
+      spawn-answer r tree w (x .actor) (x .above) (x .worker) (x .at) few (y .0) (y .1) (y .2),
     )
   where
     first-free : (gs : List ℕ) → 0 < length gs → (g : ℕ) × (hs : List ℕ) × (gs ≡ g ∷ hs)

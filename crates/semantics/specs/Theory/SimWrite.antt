@@ -3,15 +3,16 @@ use mathlib.Core.Path.{_≡_, refl, sym, _∙_, subst}
 use mathlib.Core.Logic.{_≢_, inl, inr}
 use mathlib.Core.List.{List·Memᴰ as In, List·Memᴰ·tail as there, List·Memᴰ·cases-cons as In-cons, Memᴰ·append-left as In-left, Memᴰ·append-right as In-right, List·Memᴰ·append-cases as In-cases}
 use mathlib.Core.List.{List, [], _∷_, _++_, cons≢nil, Memᴰ·map, Memᴰ·of-map, List·Permᴰ, Permᴰ·symm}
-use Prim.Native.Nat.{ℕ, _<_}
+use Prim.Native.Nat.{ℕ, _≤_, _<_}
 use native.Mathlib.Omega.{arith}
 use native.Mathlib.Decide.{ℕ-discrete}
 use lib.ListN.{length, getD, set, length-map, length-set}
 use lib.Seq.{getD-set-same, getD-set-other}
 use Rattle.words.specs.Basics.{joined}
-use Rattle.words.specs.Lists.{In-perm, joined-set}
+use Rattle.words.specs.Lists.{In-perm, perm-length, joined-set}
 use Rattle.sizes.specs.Sizes.{height}
 use Rattle.pool.specs.Pool.{readAt}
+use Rattle.pool.specs.Pool.{rest as rest-of}
 use Rattle.pool.specs.Pool.{write as path}
 use Rattle.frames.specs.Widths.{places}
 use Rattle.frames.specs.declared.Frame.{Frame as Words}
@@ -19,7 +20,7 @@ use Rattle.frames.specs.Frames.{frameAt, setFrame, withRoot}
 use Rattle.frames.specs.Theory.Records.{length-setFrame, frame-set-same, frame-set-other}
 use Rattle.frames.specs.Theory.Places.{free-elsewhere}
 use Rattle.model.specs.History.{History}
-use Rattle.model.specs.Machine.{Frame, Machine, live, deque, withDeque, freeNodes}
+use Rattle.model.specs.Machine.{Frame, Machine, live, deque, withDeque}
 use Rattle.model.specs.Steps.{write, acting, written, afterTurn}
 use Rattle.model.specs.Theory.Effects.{Passes, acts, rest, live-at, live-with}
 use Rattle.model.specs.Theory.FreshMarks.{MarkInvariant, mark-fresh}
@@ -29,7 +30,7 @@ use Rattle.semantics.specs.declared.Done.the-variants.{Written}
 use Rattle.semantics.specs.Answers.{answerWords}
 use Rattle.semantics.specs.Core.{Core, StepResult, stepResult, withFreeNodes, writeOn}
 use Rattle.semantics.specs.Theory.Relation.{Trees, Kept, Fresh, event, TreeLaws, rootOf, rootsOf, Recorded, Relates}
-use Rattle.semantics.specs.Theory.Places.{length-perm, placed-inside, placed-taken, treeOf, same-numbers, acting-deque, acting-place, acting-record}
+use Rattle.semantics.specs.Theory.Places.{placed-inside, placed-taken, treeOf, same-numbers, acting-deque, acting-place, acting-record}
 use Rattle.semantics.specs.Theory.RelationFacts.{trees-perm, in-rest, lists-with, bottom-lives, above-runs}
 use Rattle.semantics.specs.Theory.Stored.{Carried, carried}
 
@@ -37,12 +38,12 @@ module _ (P : Trees) (M : Machine) (c : Core) (w x v : ℕ) (q : Frame) (d : Lis
   abbrev root : ℕ
   root = rootOf (c .frames) (r .at) q
 
-  -- the new pool, first free node and number of free nodes
-  abbrev after : List ℕ × ℕ × ℕ
+  -- the new pool, first free node, number of free nodes and root
+  abbrev after : List ℕ × ℕ × ℕ × ℕ
   after = path (height (M .splitters)) (c .pool) (c .head .numbers .«free_node») (c .head .«free_count») root x v
 
   abbrev new-record : Words
-  new-record = withRoot (frameAt (c .frames) (r .at (q .name))) (c .head .numbers .«free_node»)
+  new-record = withRoot (frameAt (c .frames) (r .at (q .name))) (after .3)
 
   abbrev new-frames : List ℕ
   new-frames = setFrame (c .frames) (r .at (q .name)) new-record
@@ -71,9 +72,9 @@ module _ (P : Trees) (M : Machine) (c : Core) (w x v : ℕ) (q : Frame) (d : Lis
 
   -- ---- the record
 
-  carries : Carried r next new-frames q (written q x v) others (new-record .suspended) (c .head .numbers .«free_node»)
+  carries : Carried r next new-frames q (written q x v) others (new-record .suspended) (after .3)
   carries =
-      carried r next new-frames q (written q x v) others (new-record .suspended) (c .head .numbers .«free_node») refl before afterwards
+      carried r next new-frames q (written q x v) others (new-record .suspended) (after .3) refl before afterwards
       (frame-set-same (c .frames) (r .at (q .name)) new-record (r .formed .long) (placed-inside r q q-lives))
       (λ p n. frame-set-other (c .frames) (r .at (q .name)) p new-record n)
 
@@ -84,20 +85,20 @@ module _ (P : Trees) (M : Machine) (c : Core) (w x v : ℕ) (q : Frame) (d : Lis
 
   -- ---- the tree
 
-  fresh : MarkInvariant (live M) → Fresh (length (q .history) ∷ q .name) (rootsOf (c .frames) (r .at) (q ∷ others))
+  pub fresh : MarkInvariant (live M) → Fresh (length (q .history) ∷ q .name) (rootsOf (c .frames) (r .at) (q ∷ others))
   fresh marks F m v mv =
       let o = Memᴰ·of-map (treeOf (c .frames) (r .at)) (q ∷ others) m in
       mark-fresh (live M) marks q (o .0) q-lives (In-perm (Permᴰ·symm before) (o .1)) v (subst (λ (z : ℕ × History). In v (z .1)) (sym (o .2)) mv)
 
   module _ (laws : TreeLaws (c .head .numbers .nodes) (M .splitters) P) (marks : MarkInvariant (live M)) (bounds : Bounded (M .splitters) (live M)) (below : x < M .splitters)
-      (room : height (M .splitters) < c .head .«free_count») where
+      (room : rest-of (height (M .splitters)) (c .pool) root x ≤ c .head .«free_count») where
     few : length (rootsOf (c .frames) (r .at) others) < places
-    few = omega (arith, length-map others (treeOf (c .frames) (r .at)), length-perm before, bounds .0)
+    few = omega (arith, length-map others (treeOf (c .frames) (r .at)), perm-length before, bounds .0)
 
-    law : P (after .0) (after .1) (after .2) ((c .head .numbers .«free_node», event x (length (q .history) ∷ q .name) ∷ q .history) ∷ rootsOf (c .frames) (r .at) others)
+    law : P (after .0) (after .1) (after .2) ((after .3, event x (length (q .history) ∷ q .name) ∷ q .history) ∷ rootsOf (c .frames) (r .at) others)
         × Kept (height (M .splitters)) (M .splitters) (c .pool) (after .0) (rootsOf (c .frames) (r .at) others)
-        × (readAt (height (M .splitters)) (after .0) (c .head .numbers .«free_node») x ≡ v)
-        × ((y : ℕ) → y < M .splitters → y ≢ x → readAt (height (M .splitters)) (after .0) (c .head .numbers .«free_node») y ≡ readAt (height (M .splitters)) (c .pool) root y)
+        × (readAt (height (M .splitters)) (after .0) (after .3) x ≡ v)
+        × ((y : ℕ) → y < M .splitters → y ≢ x → readAt (height (M .splitters)) (after .0) (after .3) y ≡ readAt (height (M .splitters)) (c .pool) root y)
     law = laws .write (c .pool) (c .head .numbers .«free_node») (c .head .«free_count») root (q .history) (rootsOf (c .frames) (r .at) others) x v (length (q .history) ∷ q .name) few below room
         cons≢nil (fresh marks) (trees-perm (c .frames) (r .at) laws before (r .trees))
 
@@ -144,10 +145,9 @@ module _ (P : Trees) (M : Machine) (c : Core) (w x v : ℕ) (q : Frame) (d : Lis
     }
 
 pub sim-write : (P : Trees) (M : Machine) (c : Core) (w x v : ℕ) → TreeLaws (c .head .numbers .nodes) (M .splitters) P → MarkInvariant (live M) → Bounded (M .splitters) (live M)
-    → c .head .«free_count» ≡ freeNodes M → Passes M (acting w (write x v)) → Relates P M c
+    → (h : Passes M (acting w (write x v))) (r : Relates P M c) → rest-of (height (M .splitters)) (c .pool) (rootOf (c .frames) (r .at) (acts M w (write x v) h .actor)) x ≤ c .head .«free_count»
     → Relates P (afterTurn M (acting w (write x v))) (writeOn c w x v .core) × (answerWords (writeOn c w x v .answer) ≡ (106, writeOn c w x v .core .head .«free_count»))
-sim-write P M c w x v laws marks bounds free-count h r =
+sim-write P M c w x v laws marks bounds h r room =
     let a = acts M w (write x v) h in
-    let room : height (M .splitters) < c .head .«free_count» = omega (arith, free-count, a .allowed .1) in
     rw (a .at, write-is P M c w x v (a .actor) (a .above) (a .worker) (a .at) r)
     (related P M c w x v (a .actor) (a .above) (a .worker) (a .at) r laws marks bounds (a .allowed .0) room, refl)

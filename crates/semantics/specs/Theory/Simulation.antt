@@ -26,7 +26,7 @@ use Rattle.semantics.specs.Theory.SimRead.{sim-read}
 use Rattle.semantics.specs.Theory.SimWrite.{sim-write}
 use Rattle.semantics.specs.Theory.SimSteal.{sim-steal}
 use Rattle.semantics.specs.Theory.SimSync.{sim-sync}
-use Rattle.semantics.specs.Theory.Refusals.{step-judged, refused-alike}
+use Rattle.semantics.specs.Theory.Refusals.{SameRoom, enough, step-judged, refused-alike}
 
 -- ---- what no step changes
 
@@ -76,7 +76,7 @@ same-answers : (M : Machine) (c : Core) (st : Step) → answerWords (stepOn c st
 same-answers M c st e = record { first = ap (λ (z : ℕ × ℕ). z .0) e; both = λ k. e; unless-written = inl e }
 
 module _ (P : Trees) (M : Machine) (c : Core) (r : Relates P M c) (laws : TreeLaws (c .head .numbers .nodes) (M .splitters) P) (tree : FrameTree M) (shape : DequeInvariant M)
-    (marks : MarkInvariant (live M)) (bounds : Bounded (M .splitters) (live M)) (free-count : c .head .«free_count» ≡ freeNodes M) where
+    (marks : MarkInvariant (live M)) (bounds : Bounded (M .splitters) (live M)) where
   -- an accepted step but a write
   simulated : (st : Step) → Accepted M st → stepOn c st ≡ doneBy c st → SimulatesTurn P M c st → Simulates P M c st
   simulated st a e s = record {
@@ -87,9 +87,9 @@ module _ (P : Trees) (M : Machine) (c : Core) (r : Relates P M c) (laws : TreeLa
   write-answer : (w x v : ℕ) → Passes M (acting w (write x v)) → turnAnswer M (acting w (write x v)) ≡ (106, freeNodes (afterTurn M (acting w (write x v))))
   write-answer w x v h = rw (acts M w (write x v) h .at)
 
-  written : (w x v : ℕ) → Accepted M (Write w x v) → stepOn c (Write w x v) ≡ writeOn c w x v → Simulates P M c (Write w x v)
-  written w x v a e =
-      let s = sim-write P M c w x v laws marks bounds free-count (a .passes) r in
+  written : (w x v : ℕ) → SameRoom M c (Write w x v) → Accepted M (Write w x v) → stepOn c (Write w x v) ≡ writeOn c w x v → Simulates P M c (Write w x v)
+  written w x v same a e =
+      let s = sim-write P M c w x v laws marks bounds (a .passes) r (enough r w x v same (a .passes)) in
       let told : answer M (Write w x v) ≡ (106, freeNodes (step M (Write w x v))) =
       a .answered ∙ write-answer w x v (a .passes) ∙ ap (λ (N : Machine). (106, freeNodes N)) (sym (a .after)) in
       let own : answerWords (stepOn c (Write w x v) .answer) ≡ (106, stepOn c (Write w x v) .core .head .«free_count») = rw e (s .1) in
@@ -102,24 +102,24 @@ module _ (P : Trees) (M : Machine) (c : Core) (r : Relates P M c) (laws : TreeLa
         };
       }
 
-  accepts : (st : Step) → Accepted M st → stepOn c st ≡ doneBy c st → Simulates P M c st
-  accepts (Spawn w) a e = simulated (Spawn w) a e (sim-spawn P M c w laws tree (a .passes) r)
-  accepts (Return w) a e = simulated (Return w) a e (sim-return P M c w laws tree (a .passes) r)
-  accepts (Steal w v) a e = simulated (Steal w v) a e (sim-steal P M c w v laws (a .passes) r)
-  accepts (Sync w) a e = simulated (Sync w) a e (sim-sync P M c w laws (a .passes) r)
-  accepts (Read w x) a e = simulated (Read w x) a e (sim-read P M c w x (a .passes) r)
-  accepts (Write w x v) a e = written w x v a e
+  accepts : (st : Step) → SameRoom M c st → Accepted M st → stepOn c st ≡ doneBy c st → Simulates P M c st
+  accepts (Spawn w) same a e = simulated (Spawn w) a e (sim-spawn P M c w laws tree (a .passes) r)
+  accepts (Return w) same a e = simulated (Return w) a e (sim-return P M c w laws tree (a .passes) r)
+  accepts (Steal w v) same a e = simulated (Steal w v) a e (sim-steal P M c w v laws (a .passes) r)
+  accepts (Sync w) same a e = simulated (Sync w) a e (sim-sync P M c w laws (a .passes) r)
+  accepts (Read w x) same a e = simulated (Read w x) a e (sim-read P M c w x (a .passes) r)
+  accepts (Write w x v) same a e = written w x v same a e
 
-  refuses : (st : Step) → Refused M st → (k : ℕ) → refusal M st ≡ suc k → Simulates P M c st
-  refuses st f k e =
-      let o = refused-alike r tree shape free-count st .1 k e in
+  refuses : (st : Step) → SameRoom M c st → Refused M st → (k : ℕ) → refusal M st ≡ suc k → Simulates P M c st
+  refuses st same f k e =
+      let o = refused-alike r tree shape st same .1 k e in
       record {
         related = rw (f .after, o .1) r;
         answers = same-answers M c st (rw (f .answered, o .1) (ap (λ (z : ℕ). (z, 0)) (o .2 ∙ sym e)));
       }
 
-  pub simulates : (st : Step) → Simulates P M c st
-  simulates st = elim (accepted-or-refused M st) [
-    | inl a ↦ accepts st a (refused-alike r tree shape free-count st .0 (a .zero-refusal))
-    | inr f ↦ refuses st f (refusal M st - 1) (omega (arith, f .some-refusal))
+  pub simulates : (st : Step) → SameRoom M c st → Simulates P M c st
+  simulates st same = elim (accepted-or-refused M st) [
+    | inl a ↦ accepts st same a (refused-alike r tree shape st same .0 (a .zero-refusal))
+    | inr f ↦ refuses st same f (refusal M st - 1) (omega (arith, f .some-refusal))
   ]

@@ -21,13 +21,13 @@ use Rattle.semantics.specs.Answers.{answerWords}
 use Rattle.semantics.specs.Core.{Core, StepResult, judged, spawnOn, returnOn, stealOn, syncOn, readOn, writeOn, stepOn, testsOf, doneBy}
 use Rattle.semantics.specs.Entries.{State, fits, numbersOf, stateOf, isSound, recordOn}
 use Rattle.semantics.specs.Images.{LoadResult, savedImage, stateIn, poolWith}
-use Rattle.semantics.specs.Calls.{HostCall, StateAndPool, afterCall, coreIn, saveResult, Call, begun, runOf}
-use Rattle.semantics.specs.Demands.{plainAfter, withFree, fromSound, plainOf, SoundRun, StateWords, AllCallWords, writtenImage, ReadsBack}
+use Rattle.semantics.specs.Calls.{HostCall, StateAndPool, poolAt, afterCall, coreIn, saveResult, Call, begun, runOf}
+use Rattle.semantics.specs.Demands.{withFree, answerIn, fromSound, plainOf, SoundRun, StateWords, AllCallWords, writtenImage, ReadsBack}
 use Rattle.semantics.specs.Theory.Refusals.{number-range}
-use Rattle.semantics.specs.Theory.SoundSteps.{Carried, is-sound, sound-carried, rebased, simulated, step-carried}
+use Rattle.semantics.specs.Theory.SoundSteps.{Carried, is-sound, sound-carried, rebased, roomed, simulated, step-carried}
 use Rattle.semantics.specs.Theory.Elsewhere.{carried-elsewhere}
 use Rattle.semantics.specs.Theory.Fitting.{fits-true, true-fits, state-back}
-use Rattle.semantics.specs.Theory.Runs.{freeLeft, Laws, KeptBy, core-fits, call-follows}
+use Rattle.semantics.specs.Theory.Runs.{Laws, KeptBy, core-fits, call-follows}
 use Rattle.semantics.specs.Theory.Images.{sound-room, save-taken, accepted-save, LoadTaken, SaysCore, saved-says, load-takes, pool-with, front-same, loaded-state, loaded-front, loaded-beyond}
 use Rattle.semantics.specs.Theory.WholeRuns.{kept-begun, kept-calls, fed-sound, answers-by}
 
@@ -56,27 +56,30 @@ step-own c st = judged-own (testsOf c st) c (doneBy c st) (done-own c st)
 -- ---- a step
 
 module _ (M : Machine) (c : Core) (st : Step) (K : Carried M c) where
+  abbrev M₁ : Machine
+  M₁ = roomed M c st K
+
   -- the engine's own number of free nodes is that of the chain
-  own-left : stepOn c st .core .head .«free_count» ≡ freeLeft c (Valid st)
+  own-left : stepOn c st .core .head .«free_count» ≡ poolAt c (Valid st) .free
   own-left = sym (is-sound (step-carried M c st K) .1)
 
-  step-alike : answerWords (stepOn c st .answer) ≡ cond (eqb (answer M st .0) 106) (106, freeLeft c (Valid st)) (answer M st)
-  step-alike = elim (decided (eqb (answer M st .0) 106)) [
-    | inl e ↦ rw e (step-own c st (simulated M c st K .answers .first ∙ eqb-true (answer M st .0) 106 e) ∙ ap (λ (k : ℕ). (106, k)) own-left)
+  step-alike : answerWords (stepOn c st .answer) ≡ answerIn (poolAt c (Valid st)) (answer M₁ st)
+  step-alike = elim (decided (eqb (answer M₁ st .0) 106)) [
+    | inl e ↦ rw e (step-own c st (simulated M c st K .answers .first ∙ eqb-true (answer M₁ st .0) 106 e) ∙ ap (λ (k : ℕ). (106, k)) own-left)
     | inr e ↦ rw e (elim (simulated M c st K .answers .unless-written) [
       | inl q ↦ q
-      | inr q ↦ absurd (eqb-false (answer M st .0) 106 e (sym (simulated M c st K .answers .first) ∙ ap (λ (w : ℕ × ℕ). w .0) (q .5)))
+      | inr q ↦ absurd (eqb-false (answer M₁ st .0) 106 e (sym (simulated M c st K .answers .first) ∙ ap (λ (w : ℕ × ℕ). w .0) (q .5)))
     ])
   ]
 
 laws : Laws fromSound Carried
 laws = record { carried = λ M c K. K; keeps = keeps; alike = alike; elsewhere = carried-elsewhere }
   where
-    keeps : (M : Machine) (c : Core) (d : Decoded) → Carried M c → Carried (withFree (plainAfter M d) (freeLeft c d)) (recordOn c d .core)
-    keeps M c (Valid st) K = subst (λ (k : ℕ). Carried (withFree (step M st) k) (stepOn c st .core)) (own-left M c st K) (step-carried M c st K)
-    keeps M c Invalid K = rebased M c (freeLeft c Invalid) (K .related) (K .tree) (K .deques) (K .marks) (K .bounds) (sym (is-sound K .1))
+    keeps : (M : Machine) (c : Core) (d : Decoded) → Carried M c → Carried (fromSound .after M d (poolAt c d)) (recordOn c d .core)
+    keeps M c (Valid st) K = subst (λ (k : ℕ). Carried (withFree (step (roomed M c st K) st) k) (stepOn c st .core)) (own-left M c st K) (step-carried M c st K)
+    keeps M c Invalid K = rebased M c (poolAt c Invalid .free) (K .related) (K .tree) (K .deques) (K .marks) (K .bounds) (sym (is-sound K .1))
 
-    alike : (M : Machine) (c : Core) (d : Decoded) → Carried M c → answerWords (recordOn c d .answer) ≡ fromSound .answers M d (freeLeft c d)
+    alike : (M : Machine) (c : Core) (d : Decoded) → Carried M c → answerWords (recordOn c d .answer) ≡ fromSound .answers M d (poolAt c d)
     alike M c (Valid st) K = step-alike M c st K
     alike M c Invalid K = refl
 

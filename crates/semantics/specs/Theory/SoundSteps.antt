@@ -1,21 +1,29 @@
 -- A step of a sound core: what it leaves relates to the next plain machine, is sound, and the words beyond the nodes stand.
-use mathlib.Core.Path.{_≡_, refl, sym, ap, subst}
+use mathlib.Core.Path.{_≡_, refl, sym, ap, ap₂, _∙_, subst}
 use mathlib.Core.Bool.{true}
 use mathlib.Core.Logic.{inl, inr}
 use mathlib.Core.List.{List, _∷_, _++_}
-use Prim.Native.Nat.{ℕ, zero, suc, _<_}
+use Prim.Native.Nat.{ℕ, zero, suc, _+_, _≤_, _<_}
 use native.Mathlib.Omega.{arith}
+use lib.Dec.{ltb}
 use lib.ListN.{length, length-map}
+use Rattle.words.specs.Tests.{decided, ltb-of, nltb-of}
+use Rattle.words.specs.Lists.{perm-length}
+use Rattle.sizes.specs.Sizes.{height}
 use Rattle.pool.specs.Pool.{retain, release}
+use Rattle.pool.specs.Pool.{rest as rest-of}
 use Rattle.pool.specs.Pool.{write as writePath}
 use Rattle.frames.specs.Widths.{places, frameWords, dequeWords}
 use Rattle.soundness.specs.declared.Numbers.{Numbers}
 use Rattle.soundness.specs.Soundness.{sound}
+use Rattle.model.specs.declared.Decoded.the-variants.{Valid}
 use Rattle.model.specs.declared.Step.{Step}
 use Rattle.model.specs.declared.Step.the-variants.{Spawn, Return, Steal, Sync, Read, Write}
-use Rattle.model.specs.Machine.{Machine, live, freeNodes}
-use Rattle.model.specs.Steps.{Action, spawn, return, write, Turn, turnOf, refusal, afterTurn, step}
-use Rattle.model.specs.Theory.Effects.{Passes, rest, Acts, acts}
+use Rattle.model.specs.Machine.{Frame, Machine, live, deque, inUse, freeNodes}
+use Rattle.model.specs.Steps.{Action, spawn, return, write, Turn, turnOf, written, afterWrite, refusal, afterTurn, step}
+use Rattle.model.specs.Theory.Effects.{Passes, rest, live-at, live-with, Acts, acts}
+use Rattle.model.specs.Theory.Histories.{inUse-perm, inUse-positive}
+use Rattle.model.specs.Theory.PoolBound.{inUse-written}
 use Rattle.model.specs.Theory.RunSteps.{accepted-or-refused, step-kept, sizes-turn, sizes-step}
 use Rattle.model.specs.Theory.FrameTree.{FrameTree, tree-turn}
 use Rattle.model.specs.Theory.DequeShape.{DequeInvariant}
@@ -25,17 +33,18 @@ use Rattle.model.specs.Theory.Bounds.{Bounded, bounded-turn}
 use Rattle.semantics.specs.Core.{Core, actingIn, spawnOn, returnOn, stealOn, syncOn, readOn, writeOn, stepOn, doneBy}
 use Rattle.semantics.specs.Entries.{stateOf, isSound, chainFree}
 use Rattle.semantics.specs.SoundMachine.{machineOf}
-use Rattle.semantics.specs.Demands.{withFree}
-use Rattle.semantics.specs.Theory.Relation.{Relates, rootOf, rootsOf}
-use Rattle.semantics.specs.Theory.Places.{length-perm, acting-frame, live-few, treeOf}
+use Rattle.semantics.specs.Calls.{lacksIn}
+use Rattle.semantics.specs.Demands.{withNodes, withFree, withRoom}
+use Rattle.semantics.specs.Theory.Relation.{Trees, Relates, rootOf, rootsOf}
+use Rattle.semantics.specs.Theory.Places.{acting-frame, live-few, treeOf}
 use Rattle.semantics.specs.Theory.RelationFacts.{trees-perm}
 use Rattle.semantics.specs.Theory.Pools.{LiveTrees, live-laws, Beyond, spawn-beyond, return-beyond, write-beyond}
-use Rattle.semantics.specs.Theory.Refusals.{refused-alike}
+use Rattle.semantics.specs.Theory.Refusals.{SameRoom, enough, refused-alike}
 use Rattle.semantics.specs.Theory.Simulation.{Simulates, simulates, numbers-kept}
 use Rattle.semantics.specs.Theory.ToSound.{to-sound}
 use Rattle.semantics.specs.Theory.FromSoundRelates.{countedCore, from-sound}
 
-module _ (M : Machine) (c : Core) (r : Relates (LiveTrees (c .head .numbers .nodes) (M .splitters)) M c) (tree : FrameTree M) (shape : DequeInvariant M) (free-count : c .head .«free_count» ≡ freeNodes M) where
+module _ (M : Machine) (c : Core) (r : Relates (LiveTrees (c .head .numbers .nodes) (M .splitters)) M c) (tree : FrameTree M) (shape : DequeInvariant M) where
   -- ---- the words beyond the nodes
 
   -- the trees with the acting frame's in front
@@ -46,44 +55,44 @@ module _ (M : Machine) (c : Core) (r : Relates (LiveTrees (c .head .numbers .nod
   root-is a w x = ap (λ f. f .root) (acting-frame r w (x .actor) (x .above) (x .worker) (x .at))
 
   few : (a : Action) (w : ℕ) (x : Acts M w a) → length (rootsOf (c .frames) (r .at) (x .above ++ rest M w)) < places
-  few a w x = omega (arith, length-map (x .above ++ rest M w) (treeOf (c .frames) (r .at)), length-perm (x .before), live-few r)
+  few a w x = omega (arith, length-map (x .above ++ rest M w) (treeOf (c .frames) (r .at)), perm-length (x .before), live-few r)
 
-  done-beyond : (st : Step) → Passes M (turnOf st) → Beyond (c .head .numbers .nodes) (c .pool) (doneBy c st .core .pool)
+  done-beyond : (st : Step) → SameRoom M c st → Passes M (turnOf st) → Beyond (c .head .numbers .nodes) (c .pool) (doneBy c st .core .pool)
   unfolding spawnOn returnOn stealOn syncOn readOn writeOn
-  done-beyond (Spawn w) h =
+  done-beyond (Spawn w) same h =
       let x = acts M w spawn h in
       subst (λ (z : ℕ). Beyond (c .head .numbers .nodes) (c .pool) (retain (c .pool) z)) (sym (root-is spawn w x))
       (spawn-beyond (c .head .numbers .nodes) (M .splitters) (r .numbers .nodes-le) (r .numbers .splitters-positive) (c .pool) (c .head .numbers .«free_node») (c .head .«free_count») (treeOf (c .frames) (r .at) (x .actor))
       (rootsOf (c .frames) (r .at) (x .above ++ rest M w)) (few spawn w x) (front-trees spawn w x))
-  done-beyond (Return w) h =
+  done-beyond (Return w) same h =
       let x = acts M w return h in
       subst (λ (z : ℕ). Beyond (c .head .numbers .nodes) (c .pool) (release (c .head .height) (c .pool) (c .head .numbers .«free_node») (c .head .«free_count») z .0)) (sym (root-is return w x))
       (subst (λ (t : ℕ). Beyond (c .head .numbers .nodes) (c .pool) (release t (c .pool) (c .head .numbers .«free_node») (c .head .«free_count») (rootOf (c .frames) (r .at) (x .actor)) .0)) (sym (r .numbers .height-is))
       (return-beyond (c .head .numbers .nodes) (M .splitters) (r .numbers .nodes-le) (r .numbers .splitters-positive) (c .pool) (c .head .numbers .«free_node») (c .head .«free_count») (treeOf (c .frames) (r .at) (x .actor))
       (rootsOf (c .frames) (r .at) (x .above ++ rest M w)) (front-trees return w x)))
-  done-beyond (Steal w v) h = (refl, refl)
-  done-beyond (Sync w) h = (refl, refl)
-  done-beyond (Read w x) h = (refl, refl)
-  done-beyond (Write w y v) h =
+  done-beyond (Steal w v) same h = (refl, refl)
+  done-beyond (Sync w) same h = (refl, refl)
+  done-beyond (Read w x) same h = (refl, refl)
+  done-beyond (Write w y v) same h =
       let x = acts M w (write y v) h in
       subst (λ (z : ℕ). Beyond (c .head .numbers .nodes) (c .pool) (writePath (c .head .height) (c .pool) (c .head .numbers .«free_node») (c .head .«free_count») z y v .0)) (sym (root-is (write y v) w x))
       (subst (λ (t : ℕ). Beyond (c .head .numbers .nodes) (c .pool) (writePath t (c .pool) (c .head .numbers .«free_node») (c .head .«free_count») (rootOf (c .frames) (r .at) (x .actor)) y v .0)) (sym (r .numbers .height-is))
       (write-beyond (c .head .numbers .nodes) (M .splitters) (r .numbers .nodes-le) (r .numbers .splitters-positive) (c .pool) (c .head .numbers .«free_node») (c .head .«free_count») (rootOf (c .frames) (r .at) (x .actor)) (x .actor .history)
-      (rootsOf (c .frames) (r .at) (x .above ++ rest M w)) y v (few (write y v) w x) (x .allowed .0) (omega (arith, x .allowed .1, free-count)) (front-trees (write y v) w x)))
+      (rootsOf (c .frames) (r .at) (x .above ++ rest M w)) y v (few (write y v) w x) (x .allowed .0) (enough r w y v same h) (front-trees (write y v) w x)))
 
   -- ---- refused or accepted
 
-  unchanged : (st : Step) → 0 < refusal M st → stepOn c st .core ≡ c
-  unchanged st = go (refusal M st) refl
+  unchanged : (st : Step) → SameRoom M c st → 0 < refusal M st → stepOn c st .core ≡ c
+  unchanged st same = go (refusal M st) refl
     where
       go : (k : ℕ) → refusal M st ≡ k → 0 < k → stepOn c st .core ≡ c
       go zero e h = absurd (omega arith)
-      go (suc k) e h = ap (λ d. d .core) (refused-alike r tree shape free-count st .1 k e .1)
+      go (suc k) e h = ap (λ d. d .core) (refused-alike r tree shape st same .1 k e .1)
 
-  pub step-beyond : (st : Step) → Beyond (c .head .numbers .nodes) (c .pool) (stepOn c st .core .pool)
-  step-beyond st = elim (accepted-or-refused M st) [
-    | inl a ↦ subst (λ d. Beyond (c .head .numbers .nodes) (c .pool) (d .core .pool)) (sym (refused-alike r tree shape free-count st .0 (a .zero-refusal))) (done-beyond st (a .passes))
-    | inr a ↦ subst (λ (d : Core). Beyond (c .head .numbers .nodes) (c .pool) (d .pool)) (sym (unchanged st (a .some-refusal))) (refl, refl)
+  judged-beyond : (st : Step) → SameRoom M c st → Beyond (c .head .numbers .nodes) (c .pool) (stepOn c st .core .pool)
+  judged-beyond st same = elim (accepted-or-refused M st) [
+    | inl a ↦ subst (λ d. Beyond (c .head .numbers .nodes) (c .pool) (d .core .pool)) (sym (refused-alike r tree shape st same .0 (a .zero-refusal))) (done-beyond st same (a .passes))
+    | inr a ↦ subst (λ (d : Core). Beyond (c .head .numbers .nodes) (c .pool) (d .pool)) (sym (unchanged st same (a .some-refusal))) (refl, refl)
   ]
 
 -- ---- a core that the machine M follows
@@ -105,13 +114,12 @@ sound-carried s ds fs ws dlen flen e =
     let F = from-sound s ds fs ws e dlen flen in
     record { related = F .0; tree = F .1; deques = F .2; marks = F .3; bounds = F .4; same-free = F .5 }
 
--- ---- the machine with other free nodes
+-- ---- the machine with other nodes
 
--- nothing but the free nodes speaks of the machine's nodes
-pub rebased : (M : Machine) (c : Core) (k : ℕ) → Relates (LiveTrees (c .head .numbers .nodes) (M .splitters)) M c → FrameTree M → DequeInvariant M → MarkInvariant (live M) → Bounded (M .splitters) (live M)
-    → c .head .«free_count» ≡ k → Carried (withFree M k) c
-rebased M c k r t d m b e = record {
-  related = record {
+-- nothing but refusal 16 and the free nodes speaks of the machine's nodes
+module _ (M : Machine) (N : ℕ) where
+  relates-nodes : {P : Trees} {c : Core} → Relates P M c → Relates P (withNodes M N) c
+  relates-nodes r = record {
     at = r .at;
     gs = r .gs;
     numbers = record {
@@ -133,13 +141,55 @@ rebased M c k r t d m b e = record {
     vacant = r .vacant;
     trees = r .trees;
     values = r .values;
-  };
-  tree = record { disjoint = t .disjoint; rooted = t .rooted };
-  deques = record { shape = d .shape; waits = d .waits };
-  marks = m;
-  bounds = b;
-  same-free = omega (arith, e);
-}
+  }
+
+  tree-nodes : FrameTree M → FrameTree (withNodes M N)
+  tree-nodes t = record { disjoint = t .disjoint; rooted = t .rooted }
+
+  deques-nodes : DequeInvariant M → DequeInvariant (withNodes M N)
+  deques-nodes d = record { shape = d .shape; waits = d .waits }
+
+pub rebased : (M : Machine) (c : Core) (k : ℕ) → Relates (LiveTrees (c .head .numbers .nodes) (M .splitters)) M c → FrameTree M → DequeInvariant M → MarkInvariant (live M) → Bounded (M .splitters) (live M)
+    → c .head .«free_count» ≡ k → Carried (withFree M k) c
+rebased M c k r t d m b e =
+    let N = inUse (M .splitters) (live M) + k in
+    record { related = relates-nodes M N r; tree = tree-nodes M N t; deques = deques-nodes M N d; marks = m; bounds = b; same-free = omega (arith, e) }
+
+-- ---- 16: the machine has room for a write just when the pool has it
+
+module _ (M : Machine) (c : Core) (K : Carried M c) where
+  -- a write adds a path's worth at most, and a frame has some node
+  write-adds : (w x v : ℕ) (q : Frame) (d : List Frame) → w < length (M .deques) → deque M w ≡ q ∷ d
+      → (0 < inUse (M .splitters) (live (afterWrite M w q d x v))) × (inUse (M .splitters) (live (afterWrite M w q d x v)) ≤ inUse (M .splitters) (live M) + suc (height (M .splitters)))
+  write-adds w x v q d lt e =
+      let n = M .splitters in
+      let after = inUse-perm n (live-with M w (written q x v ∷ d) lt) in
+      let before = inUse-perm n (live-at M w (q ∷ d) lt e) in
+      (omega (arith, after, inUse-positive n (written q x v) (d ++ rest M w) (K .related .numbers .splitters-positive)), omega (arith, after, before, inUse-written n x v q (d ++ rest M w)))
+
+  -- the engine's own numbers of free nodes and of levels are those of the chain and of n
+  pub own-rest : (w x v : ℕ) → ltb (c .head .«free_count») (rest-of (c .head .height) (c .pool) (actingIn c w .root) x) ≡ lacksIn c (Valid (Write w x v))
+  own-rest w x v =
+      ap₂ (λ (k t : ℕ). ltb k (rest-of t (c .pool) (actingIn c w .root) x)) (sym (is-sound K .1)) (K .related .numbers .height-is ∙ ap height (sym (K .related .numbers .splitters)))
+
+  same-room : (st : Step) → SameRoom (withRoom M (lacksIn c (Valid st))) c st
+  same-room (Spawn w) = tt
+  same-room (Return w) = tt
+  same-room (Steal w v) = tt
+  same-room (Sync w) = tt
+  same-room (Read w x) = tt
+  same-room (Write w x v) = λ q d lt e b.
+      let g = write-adds w x v q d lt e in
+      own-rest w x v
+      ∙ elim (decided (lacksIn c (Valid (Write w x v)))) [
+        | inl s ↦ rw s (sym (ltb-of (g .0)))
+        | inr s ↦ rw s (sym (nltb-of (g .1)))
+      ]
+
+  pub step-beyond : (st : Step) → Beyond (c .head .numbers .nodes) (c .pool) (stepOn c st .core .pool)
+  step-beyond st =
+      let N = withRoom M (lacksIn c (Valid st)) .nodes in
+      judged-beyond (withNodes M N) c (relates-nodes M N (K .related)) (tree-nodes M N (K .tree)) (deques-nodes M N (K .deques)) st (same-room st)
 
 -- ---- a step
 
@@ -152,17 +202,24 @@ kept-turn M t h i =
     (tree-turn M t h (i .0), deques-turn M t h (i .0) (i .1), marks-turn M t h (i .0) (i .2), subst (λ n. Bounded n (live (afterTurn M t))) (sym (sizes-turn M t .splitters)) (bounded-turn M t h (i .3)))
 
 module _ (M : Machine) (c : Core) (st : Step) (K : Carried M c) where
-  pub simulated : Simulates (LiveTrees (c .head .numbers .nodes) (M .splitters)) M c st
+  -- with room for a write as the pool has it
+  abbrev pub roomed : Machine
+  roomed = withRoom M (lacksIn c (Valid st))
+
+  pub simulated : Simulates (LiveTrees (c .head .numbers .nodes) (M .splitters)) roomed c st
   simulated =
       let r = K .related in
-      simulates (LiveTrees (c .head .numbers .nodes) (M .splitters)) M c r (live-laws (c .head .numbers .nodes) (M .splitters) (r .numbers .nodes-le) (r .numbers .splitters-positive)) (K .tree) (K .deques) (K .marks) (K .bounds) (K .same-free) st
+      let N = roomed .nodes in
+      simulates (LiveTrees (c .head .numbers .nodes) (M .splitters)) roomed c (relates-nodes M N r) (live-laws (c .head .numbers .nodes) (M .splitters) (r .numbers .nodes-le) (r .numbers .splitters-positive)) (tree-nodes M N (K .tree)) (deques-nodes M N (K .deques))
+      (K .marks) (K .bounds) st (same-room M c K st)
 
   -- with the engine's own number of free nodes
-  pub step-carried : Carried (withFree (step M st) (stepOn c st .core .head .«free_count»)) (stepOn c st .core)
+  pub step-carried : Carried (withFree (step roomed st) (stepOn c st .core .head .«free_count»)) (stepOn c st .core)
   step-carried =
       let c′ = stepOn c st .core in
-      let M′ = step M st in
-      let i = step-kept Invariants M (kept-turn M) st (K .tree, K .deques, K .marks, K .bounds) in
+      let M′ = step roomed st in
+      let N = roomed .nodes in
+      let i = step-kept Invariants roomed (kept-turn roomed) st (tree-nodes M N (K .tree), deques-nodes M N (K .deques), K .marks, K .bounds) in
       let r : Relates (LiveTrees (c′ .head .numbers .nodes) (M′ .splitters)) M′ c′ =
-      subst (λ N. Relates (LiveTrees N (M′ .splitters)) M′ c′) (sym (numbers-kept c st .nodes)) (subst (λ n. Relates (LiveTrees (c .head .numbers .nodes) n) M′ c′) (sym (sizes-step M st .splitters)) (simulated .related)) in
+      subst (λ N. Relates (LiveTrees N (M′ .splitters)) M′ c′) (sym (numbers-kept c st .nodes)) (subst (λ n. Relates (LiveTrees (c .head .numbers .nodes) n) M′ c′) (sym (sizes-step roomed st .splitters)) (simulated .related)) in
       rebased M′ c′ (c′ .head .«free_count») r (i .0) (i .1) (i .2) (i .3) refl

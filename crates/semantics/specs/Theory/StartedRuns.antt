@@ -1,16 +1,19 @@
 -- The relation that a run from a start keeps, and demands 2 and 3 of document 01 over the entries.
 use mathlib.Core.Path.{_≡_, refl, sym, ap, ap₂, _∙_, subst}
-use mathlib.Core.Bool.{true}
+use mathlib.Core.Bool.{true, false}
 use mathlib.Core.Logic.{_↔_}
 use mathlib.Core.List.{List·Memᴰ as In}
-use mathlib.Core.List.{List, [], _∷_, _++_, map, append-nil, append-assoc}
-use Prim.Native.Nat.{ℕ, suc, _≤_}
+use mathlib.Core.List.{List, [], _∷_, _++_, map, append-nil, append-assoc, cons≢nil}
+use Prim.Native.Nat.{ℕ, suc, _≤_, _<_}
 use native.Mathlib.Omega.{arith}
 use lib.ListN.{length}
-use lib.Dec.{leb}
+use lib.Dec.{leb, ltb}
 use borrow.Author.Tests.{le-leb}
 use Rattle.pool.specs.Theory.Elsewhere.{SameNodes}
-use Rattle.pool.specs.Theory.Good.{good-free}
+use Rattle.words.specs.Tests.{ltb-same}
+use Rattle.sizes.specs.Sizes.{height}
+use Rattle.pool.specs.Pool.{rest}
+use Rattle.pool.specs.Theory.Good.{good-free, good-rest}
 use Rattle.pool.specs.Theory.InUse.{historiesOf}
 use Rattle.model.specs.declared.Step.{Step}
 use Rattle.model.specs.declared.Step.the-variants.{Spawn, Return, Steal, Sync, Read, Write}
@@ -18,33 +21,41 @@ use Rattle.model.specs.declared.Decoded.{Decoded}
 use Rattle.model.specs.declared.Decoded.the-variants.{Valid, Invalid}
 use Rattle.model.specs.Record.{recordOf}
 use Rattle.model.specs.History.{nodesInUse}
-use Rattle.model.specs.Machine.{Name, Frame, Machine, live, histories, start}
+use Rattle.model.specs.Machine.{Name, Frame, Machine, live, deque, histories, inUse, start}
 use Rattle.model.specs.Machine.{freeNodes as plainFree}
-use Rattle.model.specs.Steps.{step, answer}
+use Rattle.model.specs.Steps.{writeEvent, written, afterWrite, step, answer}
 use Rattle.model.specs.Run.{run, trace, answers, Returned, IsFrame, stepsOf, readsOf, oneWorkerSteps}
 use Rattle.model.specs.Demand3.{Demand3 as PlainDemand3, oneWorkerOf, traceOf as plainTrace}
+use Rattle.model.specs.Theory.Effects.{live-at, live-with, there-is-worker}
+use Rattle.model.specs.Theory.Effects.{rest as plainRest}
+use Rattle.model.specs.Theory.Histories.{inUse-perm}
 use Rattle.model.specs.Theory.RunSteps.{sizes-step}
 use Rattle.model.specs.Theory.FrameTree.{tree-start}
 use Rattle.model.specs.Theory.Invariant.{Invariant, invariant-start, invariant-step}
 use Rattle.model.specs.Theory.MainEnds.{returned-ends}
 use Rattle.model.specs.Theory.Demand3Proof.{demand3 as plain-demand3}
 use Rattle.semantics.specs.Answers.{answerWords}
-use Rattle.semantics.specs.Core.{Core, stepOn}
+use Rattle.frames.specs.declared.Frame.{Frame as FrameWords}
+use Rattle.semantics.specs.Core.{Core, actingIn, stepOn}
 use Rattle.semantics.specs.Entries.{State, StartResult, fits, isSound, numbersOf, recordOn, wholeNodes}
-use Rattle.semantics.specs.Calls.{Start, startResult, HostCall, outside, StateAndPool, afterStart, afterCall, Exchange, exchangesOf, recordsIn, answersIn, freeAfter, coreIn, Run, Call, call, begun, runAfter, runOf}
-use Rattle.semantics.specs.Demands.{plainAfter, plainAnswer, fromStart, answersBy, machineBy, plainStart, runFrom, Demand2, StartWords, AllCallWords, traceOf, MainReturned, callOf, oneByOne, oneWorkerCalls, aloneStart, allAccepted, AllFree, Demand3}
+use Rattle.semantics.specs.Calls.{Start, startResult, HostCall, outside, StateAndPool, afterStart, afterCall, Exchange, exchangesOf, recordsIn, answersIn, lacksIn, poolsAt, coreIn, Run, Call, call, begun, runAfter, runOf}
+use Rattle.semantics.specs.Demands.{plainAfter, plainAnswer, fromStart, answersBy, machineBy, plainStart, runFrom, Demand2, plainNow, RestIsCounted, StartWords, AllCallWords, traceOf, MainReturned, callOf, oneByOne, oneWorkerCalls, aloneStart, allAccepted, AllFree, Demand3}
 use Rattle.semantics.specs.Promises.{Fits}
 use Rattle.semantics.specs.Theory.Relation.{TreeLaws, Relates, rootsOf}
+use Rattle.semantics.specs.Theory.RelationFacts.{trees-perm}
+use Rattle.semantics.specs.Theory.Places.{acting-frame}
+use Rattle.semantics.specs.Theory.Refusals.{SameRoom}
+use Rattle.semantics.specs.Theory.SimWrite.{fresh}
 use Rattle.semantics.specs.Theory.Pools.{LiveTrees, GoodTrees, good-laws}
 use Rattle.semantics.specs.Theory.FromSoundRelates.{map-append}
 use Rattle.semantics.specs.Theory.Simulation.{simulates, numbers-kept}
 use Rattle.semantics.specs.Theory.ToSound.{good-relates, all-free}
 use Rattle.semantics.specs.Theory.Fitting.{true-fits}
-use Rattle.semantics.specs.Theory.SoundSteps.{Carried}
+use Rattle.semantics.specs.Theory.SoundSteps.{Carried, own-rest}
 use Rattle.semantics.specs.Theory.Elsewhere.{withPool, good-trees, relates-elsewhere}
 use Rattle.semantics.specs.Theory.Starts.{Fit, fit-started, started-fit}
 use Rattle.semantics.specs.Theory.StartRelates.{firstCore, start-relates}
-use Rattle.semantics.specs.Theory.Runs.{Laws, KeptBy, Fed, outside-long, call-follows}
+use Rattle.semantics.specs.Theory.Runs.{Laws, KeptBy, Fed, core-counted, outside-long, call-follows}
 use Rattle.semantics.specs.Theory.AllWords.{started-words}
 use Rattle.semantics.specs.Theory.WholeRuns.{RunKept, kept-begun, kept-calls, fed-calls, fed-sound, answers-by}
 use Rattle.semantics.specs.Theory.ValidRecords.{valids, trace-same, machine-plain, returned-plain, valids-valid, answers-plain, all-accepted}
@@ -75,13 +86,40 @@ carried M c F = record {
   same-free = same-free M c F;
 }
 
+-- 16: the rest of the path has as many nodes as the write adds to those in use
+counted-rest : (M : Machine) (c : Core) → Follows M c → (w x v : ℕ) (q : Frame) (d : List Frame) → w < length (M .deques) → deque M w ≡ q ∷ d → x < M .splitters
+    → ltb (c .head .«free_count») (rest (c .head .height) (c .pool) (actingIn c w .root) x) ≡ ltb (M .nodes) (inUse (M .splitters) (live (afterWrite M w q d x v)))
+counted-rest M c F w x v q d lt e b =
+    let r = F .related in
+    let n = M .splitters in
+    let few : M .nodes ≤ 16384 = omega (arith, F .nodes, r .numbers .nodes-le) in
+    let others = d ++ plainRest M w in
+    let before = live-at M w (q ∷ d) lt e in
+    let G : GoodTrees (M .nodes) n (c .pool) (c .head .numbers .«free_node») (c .head .«free_count») (rootsOf (c .frames) (r .at) (q ∷ others)) =
+    trees-perm (c .frames) (r .at) (good-laws (M .nodes) n few (r .numbers .splitters-positive)) before (r .trees) in
+    let unmarked = fresh (GoodTrees (M .nodes) n) M c w x v q d lt e r (F .inv .marks) in
+    let g = good-rest (M .nodes) n few (r .numbers .splitters-positive) (writeEvent q x) b (cons≢nil, unmarked) G in
+    let after : nodesInUse n ((writeEvent q x ∷ q .history) ∷ historiesOf (rootsOf (c .frames) (r .at) others)) ≡ inUse n (live (afterWrite M w q d x v)) =
+    ap (λ z. nodesInUse n ((writeEvent q x ∷ q .history) ∷ z)) (histories-are (c .frames) (r .at) others) ∙ sym (inUse-perm n (live-with M w (written q x v ∷ d) lt)) in
+    ap₂ (λ (t : ℕ) (f : FrameWords). ltb (c .head .«free_count») (rest t (c .pool) (f .root) x)) (r .numbers .height-is) (acting-frame r w q d lt e)
+    ∙ ltb-same (g .1)
+    ∙ ap (ltb (M .nodes)) after
+
+counted-room : (M : Machine) (c : Core) → Follows M c → (st : Step) → SameRoom M c st
+counted-room M c F (Spawn w) = tt
+counted-room M c F (Return w) = tt
+counted-room M c F (Steal w v) = tt
+counted-room M c F (Sync w) = tt
+counted-room M c F (Read w x) = tt
+counted-room M c F (Write w x v) = counted-rest M c F w x v
+
 -- what a step keeps
 keeps-and-alike : (M : Machine) (c : Core) (st : Step) → Follows M c → Follows (step M st) (stepOn c st .core) × (answerWords (stepOn c st .answer) ≡ answer M st)
 keeps-and-alike M c st F =
     let r = F .related in
     let laws = good-laws (M .nodes) (M .splitters) (omega (arith, F .nodes, r .numbers .nodes-le)) (r .numbers .splitters-positive) in
     let S = simulates (GoodTrees (M .nodes) (M .splitters)) M c r (subst (λ N. TreeLaws N (M .splitters) (GoodTrees (M .nodes) (M .splitters))) (sym (F .nodes)) laws) (F .inv .tree) (F .inv .deques) (F .inv .marks)
-    (F .inv .bounds) (same-free M c F) st in
+    (F .inv .bounds) st (counted-room M c F st) in
     let z = sizes-step M st in
     let F′ : Follows (step M st) (stepOn c st .core) = record {
       related = subst (λ N. Relates (GoodTrees N ((step M st) .splitters)) (step M st) (stepOn c st .core)) (sym (z .nodes)) (subst (λ n. Relates (GoodTrees (M .nodes) n) (step M st) (stepOn c st .core)) (sym (z .splitters)) (S .related));
@@ -130,6 +168,18 @@ run-kept b calls e w all-words =
 pub demand2 : (b : Start) (calls : List Call) → startResult b .result ≡ 0 → StartWords b → AllCallWords calls → Demand2 b calls
 demand2 b calls e w all-words = answers-by fromStart Follows laws (plainStart b) (wholeNodes (b .pool)) (runFrom b calls) (run-kept b calls e w all-words)
 
+-- R-2: whether a write lacks nodes, by the rest of its path and by the count
+pub rest-is-counted : (b : Start) (calls : List Call) → startResult b .result ≡ 0 → StartWords b → AllCallWords calls → runFrom b calls .stateless ≡ false → RestIsCounted b calls
+rest-is-counted b calls e w all-words standing u x v q d at below =
+    let E = run-kept b calls e w all-words .standing standing .0 .fed .kept in
+    let c = E .core in
+    let M = plainNow b calls in
+    let C = carried M c (E .follows) in
+    ap (λ (h : StateAndPool). lacksIn (coreIn h) (Valid (Write u x v))) (E .held)
+    ∙ ap (λ (d : Core). lacksIn d (Valid (Write u x v))) (core-counted C)
+    ∙ sym (own-rest M c C u x v)
+    ∙ counted-rest M c (E .follows) u x v q d (there-is-worker M u (omega (arith, ap length at))) at below
+
 -- after steps and tapes alone, whatever they hand in
 pub plain-sound : (b : Start) (ks : List HostCall) → startResult b .result ≡ 0 → isSound (runFrom b (map call ks) .now .state) (runFrom b (map call ks) .now .pool) ≡ true
 plain-sound b ks e =
@@ -175,7 +225,7 @@ all-fed works (s ∷ ss) M r i K long =
     let k = callOf s (works i) in
     let e = fed-one M h s (works i) K (long i) in
     let A = call-follows fromStart Follows laws M h k K in
-    let K₁ : KeptBy Follows (afterCall h k) (step M s) = subst (λ z. KeptBy Follows (afterCall h k) (machineBy fromStart M z (freeAfter (coreIn h) z))) e (A .fed .kept) in
+    let K₁ : KeptBy Follows (afterCall h k) (step M s) = subst (λ z. KeptBy Follows (afterCall h k) (machineBy fromStart M z (poolsAt (coreIn h) z))) e (A .fed .kept) in
     let done : recordsIn (r .past .exchanges ++ exchangesOf h k) ≡ recordsIn (r .past .exchanges) ++ (Valid s ∷ []) =
     map-append (λ (t : Exchange). t .0) (r .past .exchanges) (exchangesOf h k) ∙ ap (λ z. recordsIn (r .past .exchanges) ++ z) e in
     all-fed works ss (step M s) (runAfter r (call k)) (suc i) K₁ (λ j. subst (λ q. q ≤ length (works j)) (sym (sizes-step M s .nodes)) (long j))
@@ -210,7 +260,7 @@ module _ (b : Start) (calls : List Call) (parts : State) (ws : List ℕ) (works 
   R : RunKept fromStart Follows laws (plainStart b) (wholeNodes (b .pool)) (runFrom b calls)
   R = run-kept b calls taken words all-words
 
-  R₁ : Fed fromStart Follows (plainStart b₁) (runFrom b₁ calls₁ .now) (runFrom b₁ calls₁ .past .exchanges) (runFrom b₁ calls₁ .past .free)
+  R₁ : Fed fromStart Follows (plainStart b₁) (runFrom b₁ calls₁ .now) (runFrom b₁ calls₁ .past .exchanges) (runFrom b₁ calls₁ .past .pools)
   unfolding calls₁
   R₁ = fed-calls fromStart Follows laws (plainStart b₁) (wholeNodes (b₁ .pool)) (oneByOne works 0 (oneWorkerSteps (traceOf b calls))) (begun (afterStart b₁)) (record { long = refl; kept = K₁; same = refl })
 
@@ -220,7 +270,7 @@ module _ (b : Start) (calls : List Call) (parts : State) (ws : List ℕ) (works 
 
   plain-returned : Returned (plainStart b) ss
   unfolding ss
-  plain-returned = returned-plain (recordsIn (runFrom b calls .past .exchanges)) (runFrom b calls .past .free) (plainStart b) (R .long) (subst (λ z. In (102, 3) z) (R .same) returned)
+  plain-returned = returned-plain (recordsIn (runFrom b calls .past .exchanges)) (runFrom b calls .past .pools) (plainStart b) (R .long) (subst (λ z. In (102, 3) z) (R .same) returned)
 
   D : PlainDemand3 (b .workers) (b .values) N ss
   unfolding N
@@ -228,7 +278,7 @@ module _ (b : Start) (calls : List Call) (parts : State) (ws : List ℕ) (works 
 
   trace-is : traceOf b calls ≡ plainTrace (b .workers) (b .values) N ss
   unfolding ss N
-  trace-is = trace-same (plainStart b) (runFrom b calls .past .exchanges) (runFrom b calls .past .free) (R .long) (R .same)
+  trace-is = trace-same (plainStart b) (runFrom b calls .past .exchanges) (runFrom b calls .past .pools) (R .long) (R .same)
 
   -- the one-worker run
   ones : List Step
@@ -250,25 +300,25 @@ module _ (b : Start) (calls : List Call) (parts : State) (ws : List ℕ) (works 
   steps₁-are = ap valids fed ∙ valids-valid ones ∙ ones-are
 
   trace₁-is : traceOf b₁ calls₁ ≡ plainTrace 1 (b .values) N (oneWorkerOf (b .workers) (b .values) N ss)
-  trace₁-is = trace-same (plainStart b₁) (runFrom b₁ calls₁ .past .exchanges) (runFrom b₁ calls₁ .past .free) (R₁ .long) (R₁ .same) ∙ ap₂ trace start-is steps₁-are
+  trace₁-is = trace-same (plainStart b₁) (runFrom b₁ calls₁ .past .exchanges) (runFrom b₁ calls₁ .past .pools) (R₁ .long) (R₁ .same) ∙ ap₂ trace start-is steps₁-are
 
   answers₁-are : answersIn (runFrom b₁ calls₁ .past .exchanges) ≡ answers (start 1 (b .values) N) (oneWorkerOf (b .workers) (b .values) N ss)
   answers₁-are =
-      let ks = runFrom b₁ calls₁ .past .free in
+      let ks = runFrom b₁ calls₁ .past .pools in
       R₁ .same ∙ ap (λ z. answersBy fromStart (plainStart b₁) z ks) fed ∙ answers-plain ones ks (plainStart b₁) (R₁ .long ∙ ap length fed) ∙ ap₂ answers start-is ones-are
 
   free-at-end : (h : StateAndPool) (M : Machine) → KeptBy Follows h M → live M ≡ [] → AllFree h
   free-at-end h M E e = subst AllFree (sym (E .held)) (all-free M (E .core) (carried M (E .core) (E .follows) .related) e)
 
-  over : live (machineBy fromStart (plainStart b) (recordsIn (runFrom b calls .past .exchanges)) (runFrom b calls .past .free)) ≡ []
+  over : live (machineBy fromStart (plainStart b) (recordsIn (runFrom b calls .past .exchanges)) (runFrom b calls .past .pools)) ≡ []
   unfolding ss
   over =
-      ap live (machine-plain (recordsIn (runFrom b calls .past .exchanges)) (runFrom b calls .past .free) (plainStart b) (R .long))
+      ap live (machine-plain (recordsIn (runFrom b calls .past .exchanges)) (runFrom b calls .past .pools) (plainStart b) (R .long))
       ∙ returned-ends (plainStart b) ss (tree-start (b .workers) (b .values) (wholeNodes (b .pool))) plain-returned
 
-  over₁ : live (machineBy fromStart (plainStart b₁) (recordsIn (runFrom b₁ calls₁ .past .exchanges)) (runFrom b₁ calls₁ .past .free)) ≡ []
+  over₁ : live (machineBy fromStart (plainStart b₁) (recordsIn (runFrom b₁ calls₁ .past .exchanges)) (runFrom b₁ calls₁ .past .pools)) ≡ []
   over₁ =
-      ap live (machine-plain (recordsIn (runFrom b₁ calls₁ .past .exchanges)) (runFrom b₁ calls₁ .past .free) (plainStart b₁) (R₁ .long))
+      ap live (machine-plain (recordsIn (runFrom b₁ calls₁ .past .exchanges)) (runFrom b₁ calls₁ .past .pools) (plainStart b₁) (R₁ .long))
       ∙ ap₂ (λ M z. live (run M z)) start-is steps₁-are
       ∙ returned-ends (start 1 (b .values) N) (oneWorkerOf (b .workers) (b .values) N ss) (tree-start 1 (b .values) N) (D .returns)
 

@@ -14,7 +14,7 @@ use Rattle.model.specs.Machine.{Machine}
 use Rattle.model.specs.Steps.{turnOf, refusal, step, turnAnswer, answer}
 use Rattle.model.specs.Run.{run, answers, trace, turnEntry, Returned, AllAccepted, accepted-then}
 use Rattle.model.specs.Theory.RunSteps.{accepted-at, accepted-or-refused}
-use Rattle.semantics.specs.Calls.{saysAccepted, Exchange, traceFrom, recordsIn, answersIn}
+use Rattle.semantics.specs.Calls.{PoolAt, saysAccepted, Exchange, traceFrom, recordsIn, answersIn}
 use Rattle.semantics.specs.Demands.{fromStart, answersBy, machineBy, allAccepted}
 use Rattle.semantics.specs.Theory.Words.{refusal-low, turn-same}
 
@@ -24,7 +24,7 @@ valids [] = []
 valids (Valid st ∷ ds) = st ∷ valids ds
 valids (Invalid ∷ ds) = valids ds
 
-pub trace-same : (M : Machine) (es : List Exchange) (ks : List ℕ) → length ks ≡ length (recordsIn es) → answersIn es ≡ answersBy fromStart M (recordsIn es) ks → traceFrom M es ≡ trace M (valids (recordsIn es))
+pub trace-same : (M : Machine) (es : List Exchange) (ks : List PoolAt) → length ks ≡ length (recordsIn es) → answersIn es ≡ answersBy fromStart M (recordsIn es) ks → traceFrom M es ≡ trace M (valids (recordsIn es))
 trace-same M [] ks l e = refl
 trace-same M (t ∷ es) [] l e = absurd (omega arith)
 trace-same M ((Invalid, a) ∷ es) (k ∷ ks) l e = trace-same M es ks (omega arith) (tail-eq-of-cons-eq e)
@@ -44,14 +44,14 @@ trace-same M ((Valid st, a) ∷ es) (k ∷ ks) l e = elim (accepted-or-refused M
     headPair [] = (0, 0)
     headPair (x ∷ xs) = x
 
-pub machine-plain : (ds : List Decoded) (ks : List ℕ) (M : Machine) → length ks ≡ length ds → machineBy fromStart M ds ks ≡ run M (valids ds)
+pub machine-plain : (ds : List Decoded) (ks : List PoolAt) (M : Machine) → length ks ≡ length ds → machineBy fromStart M ds ks ≡ run M (valids ds)
 machine-plain [] ks M l = refl
 machine-plain (d ∷ ds) [] M l = absurd (omega arith)
 machine-plain (Valid st ∷ ds) (k ∷ ks) M l = machine-plain ds ks (step M st) (omega arith)
 machine-plain (Invalid ∷ ds) (k ∷ ks) M l = machine-plain ds ks M (omega arith)
 
 -- a record that is no step is not answered with outcome 3
-pub returned-plain : (ds : List Decoded) (ks : List ℕ) (M : Machine) → length ks ≡ length ds → In (102, 3) (answersBy fromStart M ds ks) → Returned M (valids ds)
+pub returned-plain : (ds : List Decoded) (ks : List PoolAt) (M : Machine) → length ks ≡ length ds → In (102, 3) (answersBy fromStart M ds ks) → Returned M (valids ds)
 returned-plain [] ks M l i = i
 returned-plain (d ∷ ds) [] M l i = absurd (omega arith)
 returned-plain (Valid st ∷ ds) (k ∷ ks) M l (here e) = here e
@@ -65,7 +65,7 @@ pub valids-valid : (ss : List Step) → valids (map Valid ss) ≡ ss
 valids-valid [] = refl
 valids-valid (s ∷ ss) = ap (λ z. s ∷ z) (valids-valid ss)
 
-pub answers-plain : (ss : List Step) (ks : List ℕ) (M : Machine) → length ks ≡ length (map Valid ss) → answersBy fromStart M (map Valid ss) ks ≡ answers M ss
+pub answers-plain : (ss : List Step) (ks : List PoolAt) (M : Machine) → length ks ≡ length (map Valid ss) → answersBy fromStart M (map Valid ss) ks ≡ answers M ss
 answers-plain [] ks M l = refl
 answers-plain (s ∷ ss) [] M l = absurd (omega arith)
 answers-plain (s ∷ ss) (k ∷ ks) M l = ap (λ z. answer M s ∷ z) (answers-plain ss ks (step M s) (omega arith))

@@ -18,7 +18,7 @@ use Rattle.model.specs.Machine.{Machine}
 use Rattle.semantics.specs.Core.{Core}
 use Rattle.semantics.specs.Entries.{State, numbersOf, stateOf, isSound, chainFree}
 use Rattle.semantics.specs.Images.{LoadResult, savedImage, loadOn}
-use Rattle.semantics.specs.Calls.{HostCall, outside, tape, StateAndPool, afterCall, Exchange, exchangesOf, recordsIn, answersIn, freeAfter, coreIn, Past, Saved, Run, Call, call, save, load, imageAt, pastAfter, saveResult, imagesAfter, runAfter, runOf, begun}
+use Rattle.semantics.specs.Calls.{PoolAt, HostCall, outside, tape, StateAndPool, afterCall, Exchange, exchangesOf, recordsIn, answersIn, poolsAt, coreIn, Past, Saved, Run, Call, call, save, load, imageAt, pastAfter, saveResult, imagesAfter, runAfter, runOf, begun}
 use Rattle.semantics.specs.Demands.{Specification, answersBy, machineBy, Answers, StateWords, HostWords, CallWords, AllCallWords}
 use Rattle.semantics.specs.Promises.{Fits}
 use Rattle.semantics.specs.Theory.Pools.{Beyond}
@@ -48,7 +48,7 @@ calls-fit (load i s ws work ∷ cs) r p F = calls-fit cs (runAfter r (load i s w
 module _ (S : Specification) (Follows : Machine → Core → Type 0) (L : Laws S Follows) (M : Machine) (N : ℕ) where
   -- the past p has led to the state and pool h
   pub record Behind (p : Past) (h : StateAndPool) : Type 0 where
-    pub fed : Fed S Follows M h (p .exchanges) (p .free)
+    pub fed : Fed S Follows M h (p .exchanges) (p .pools)
     pub words : StateWords (h .state) (h .pool)
     pub nodes : numbersOf (h .state) .nodes ≡ N
 
@@ -58,8 +58,8 @@ module _ (S : Specification) (Follows : Machine → Core → Type 0) (L : Laws S
     present : (h : StateAndPool) → Behind (v .past) h → v .bytes ≡ savedImage (h .state) (h .pool) → ImageKept v
 
   pub record RunKept (r : Run) : Type 0 where
-    pub long : length (r .past .free) ≡ length (recordsIn (r .past .exchanges))
-    pub same : answersIn (r .past .exchanges) ≡ answersBy S M (recordsIn (r .past .exchanges)) (r .past .free)
+    pub long : length (r .past .pools) ≡ length (recordsIn (r .past .exchanges))
+    pub same : answersIn (r .past .exchanges) ≡ answersBy S M (recordsIn (r .past .exchanges)) (r .past .pools)
     pub standing : r .stateless ≡ false → Behind (r .past) (r .now) × Beyond N (r .lent) (r .now .pool)
     pub none : r .stateless ≡ true → Refuses (r .now)
     pub images : (i : ℕ) → ImageKept (imageAt (r .images) i)
@@ -70,10 +70,10 @@ module _ (S : Specification) (Follows : Machine → Core → Type 0) (L : Laws S
   call-standing : (r : Run) (k : HostCall) → HostWords k → RunKept r → r .stateless ≡ false → Behind (pastAfter (r .now) (r .past) k) (afterCall (r .now) k) × Beyond N (r .lent) (afterCall (r .now) k .pool)
   call-standing r k w K e =
       let B = K .standing e .0 in
-      let ks = freeAfter (coreIn (r .now)) (recordsIn (exchangesOf (r .now) k)) in
-      let A = call-follows S Follows L (machineBy S M (recordsIn (r .past .exchanges)) (r .past .free)) (r .now) k (B .fed .kept) in (
+      let ks = poolsAt (coreIn (r .now)) (recordsIn (exchangesOf (r .now) k)) in
+      let A = call-follows S Follows L (machineBy S M (recordsIn (r .past .exchanges)) (r .past .pools)) (r .now) k (B .fed .kept) in (
         record {
-          fed = fed-then S Follows L M (r .now) (afterCall (r .now) k) (r .past .exchanges) (exchangesOf (r .now) k) (r .past .free) ks (B .fed) (A .fed);
+          fed = fed-then S Follows L M (r .now) (afterCall (r .now) k) (r .past .exchanges) (exchangesOf (r .now) k) (r .past .pools) ks (B .fed) (A .fed);
           words = call-words (r .now) k (B .words) w;
           nodes = A .nodes ∙ B .nodes;
         },
@@ -83,8 +83,8 @@ module _ (S : Specification) (Follows : Machine → Core → Type 0) (L : Laws S
   -- of a run that has none: nothing is done
   same-past : (r : Run) (k : HostCall) → Refuses (r .now) → pastAfter (r .now) (r .past) k ≡ r .past
   same-past r k R =
-      ap (λ (es : List Exchange). record { exchanges = r .past .exchanges ++ es; free = r .past .free ++ freeAfter (coreIn (r .now)) (recordsIn es) }) (refused-calls (r .now) k R .1)
-      ∙ (λ i. record { exchanges = append-nil (r .past .exchanges) i; free = append-nil (r .past .free) i })
+      ap (λ (es : List Exchange). record { exchanges = r .past .exchanges ++ es; pools = r .past .pools ++ poolsAt (coreIn (r .now)) (recordsIn es) }) (refused-calls (r .now) k R .1)
+      ∙ (λ i. record { exchanges = append-nil (r .past .exchanges) i; pools = append-nil (r .past .pools) i })
 
   kept-call : (r : Run) (k : HostCall) → HostWords k → RunKept r → RunKept (runAfter r (call k))
   kept-call r k w K = go (r .stateless) refl
@@ -97,8 +97,8 @@ module _ (S : Specification) (Follows : Machine → Core → Type 0) (L : Laws S
           let R = K .none e in
           let p = sym (same-past r k R) in
           record {
-            long = subst (λ (q : Past). length (q .free) ≡ length (recordsIn (q .exchanges))) p (K .long);
-            same = subst (λ (q : Past). answersIn (q .exchanges) ≡ answersBy S M (recordsIn (q .exchanges)) (q .free)) p (K .same);
+            long = subst (λ (q : Past). length (q .pools) ≡ length (recordsIn (q .exchanges))) p (K .long);
+            same = subst (λ (q : Past). answersIn (q .exchanges) ≡ answersBy S M (recordsIn (q .exchanges)) (q .pools)) p (K .same);
             standing = λ q. absurd (true≢false (sym e ∙ q));
             none = λ q. subst Refuses (sym (refused-calls (r .now) k R .0)) R;
             images = K .images;
@@ -141,7 +141,7 @@ module _ (S : Specification) (Follows : Machine → Core → Type 0) (L : Laws S
     unfolding c
     held = B .fed .kept .held
 
-    carries : Carried (machineBy S M (recordsIn (v .past .exchanges)) (v .past .free)) c
+    carries : Carried (machineBy S M (recordsIn (v .past .exchanges)) (v .past .pools)) c
     unfolding c
     carries = L .carried _ (B .fed .kept .core) (B .fed .kept .follows)
 
@@ -228,14 +228,14 @@ module _ (S : Specification) (Follows : Machine → Core → Type 0) (L : Laws S
   }
 
   -- steps and tapes alone, whatever they hand in
-  pub fed-calls : (ks : List HostCall) (r : Run) → Fed S Follows M (r .now) (r .past .exchanges) (r .past .free)
-      → let r′ = runOf r (map call ks) in Fed S Follows M (r′ .now) (r′ .past .exchanges) (r′ .past .free)
+  pub fed-calls : (ks : List HostCall) (r : Run) → Fed S Follows M (r .now) (r .past .exchanges) (r .past .pools)
+      → let r′ = runOf r (map call ks) in Fed S Follows M (r′ .now) (r′ .past .exchanges) (r′ .past .pools)
   fed-calls [] r F = F
   fed-calls (k ∷ ks) r F =
-      let A = call-follows S Follows L (machineBy S M (recordsIn (r .past .exchanges)) (r .past .free)) (r .now) k (F .kept) in
-      fed-calls ks (runAfter r (call k)) (fed-then S Follows L M (r .now) (afterCall (r .now) k) (r .past .exchanges) (exchangesOf (r .now) k) (r .past .free) (freeAfter (coreIn (r .now)) (recordsIn (exchangesOf (r .now) k))) F (A .fed))
+      let A = call-follows S Follows L (machineBy S M (recordsIn (r .past .exchanges)) (r .past .pools)) (r .now) k (F .kept) in
+      fed-calls ks (runAfter r (call k)) (fed-then S Follows L M (r .now) (afterCall (r .now) k) (r .past .exchanges) (exchangesOf (r .now) k) (r .past .pools) (poolsAt (coreIn (r .now)) (recordsIn (exchangesOf (r .now) k))) F (A .fed))
 
-  pub fed-sound : {h : StateAndPool} {es : List Exchange} {ks : List ℕ} → Fed S Follows M h es ks → isSound (h .state) (h .pool) ≡ true
+  pub fed-sound : {h : StateAndPool} {es : List Exchange} {ks : List PoolAt} → Fed S Follows M h es ks → isSound (h .state) (h .pool) ≡ true
   fed-sound F = let E = F .kept in ap (λ (q : StateAndPool). isSound (q .state) (q .pool)) (E .held) ∙ is-sound (L .carried _ (E .core) (E .follows)) .0
 
   pub answers-by : (r : Run) → RunKept r → Answers S M N r

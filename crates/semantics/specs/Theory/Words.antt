@@ -117,7 +117,7 @@ tests-low : (M : Machine) (t : Turn) → Low (turnTests M t)
 tests-low M (stealing w v) = omega arith
 tests-low M (acting w a) = (omega arith, (omega arith, (omega arith, own (deque M w) a)))
   where
-    own : (d : List Frame) (a : Action) → Low (Rattle.model.specs.Steps.actionTests M d a)
+    own : (d : List Frame) (a : Action) → Low (Rattle.model.specs.Steps.actionTests M w d a)
     own [] a = tt
     own (q ∷ d) spawn = omega arith
     own (q ∷ d) return = omega arith
