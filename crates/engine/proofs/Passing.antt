@@ -10,7 +10,8 @@ use lib.ListN.{length}
 use borrow.Author.Tests.{eqb-true}
 use Rattle.words.specs.Basics.{none}
 use Rattle.words.specs.Tests.{neither, not-false, lt-of, ge-of}
-use Rattle.pool.specs.Links.{Link, LinksIn, PathIn}
+use Rattle.pool.specs.Pool.{firstShared, rest}
+use Rattle.pool.specs.Links.{Link, PathIn, IsShared, WriteIn}
 use Rattle.frames.specs.Widths.{maxWorkers, places, frameWords, dequePlaces, dequeWords}
 use Rattle.frames.specs.declared.Frame.{Frame}
 use Rattle.frames.specs.Frames.{frameAt}
@@ -46,6 +47,10 @@ acts-at c w n p r l a =
       parent = subst (λ (q : ℕ). ParentOf q (frameAt (c .frames) q)) (sym (a .acting)) (r .parent w w8 some);
       counts = subst (λ (q : ℕ). ParentCounts (c .frames) (frameAt (c .frames) q)) (sym (a .acting)) (r .counts w w8 some);
       path = λ x lx. subst (λ (q : ℕ). PathIn (c .head .numbers .nodes) (c .pool) (c .head .height) (frameAt (c .frames) q .root) x) (sym (a .acting)) (r .path w x w8 some lx);
+      writes = λ x lx.
+          subst (λ (q : ℕ). rest (c .head .height) (c .pool) (frameAt (c .frames) q .root) x ≤ c .head .«free_count» →
+          WriteIn (c .head .numbers .nodes) (c .head .height) (c .pool) (c .head .numbers .«free_node») x (firstShared (c .head .height) (c .pool) (frameAt (c .frames) q .root) (frameAt (c .frames) q .root) x))
+          (sym (a .acting)) (r .writes w x w8 some lx);
     }
 
 module _ (c : Core) (w n p : ℕ) (r : Ready c) (a : ActsAt c w n p) (f : Frame) (ef : f ≡ frameAt (c .frames) p) where
@@ -99,6 +104,15 @@ module _ (c : Core) (w n p : ℕ) (r : Ready c) (a : ActsAt c w n p) (root : ℕ
     subst (λ (i : ℕ). PathIn (c .head .numbers .nodes) (c .pool) (c .head .height) i x) (sym er) (a .path x l),
   )
 
-  pub write-asks : LinksIn (c .head .numbers .nodes) (c .pool) × (0 < c .head .numbers .nodes) × (c .head .height ≤ 32)
-      × Link (c .head .numbers .nodes) (c .head .numbers .«free_node») × Link (c .head .numbers .nodes) root
-  write-asks = (r .links, r .nodes-positive, omega (arith, r .low), r .free-node, inl (subst (λ (i : ℕ). i < c .head .numbers .nodes) (sym er) (a .root)))
+  pub write-asks : (x i j k : ℕ) → x < c .head .numbers .splitters → IsShared i j k (firstShared (c .head .height) (c .pool) root root x) → i ≤ c .head .«free_count»
+      → (4 * c .head .numbers .nodes ≤ length (c .pool)) × (c .head .height ≤ 32) × (i ≤ c .head .«free_count») × IsShared i j k (firstShared (c .head .height) (c .pool) root root x)
+      × WriteIn (c .head .numbers .nodes) (c .head .height) (c .pool) (c .head .numbers .«free_node») x (firstShared (c .head .height) (c .pool) root root x)
+  unfolding rest
+  write-asks x i j k l e enough = (
+    r .links .room,
+    omega (arith, r .low),
+    enough,
+    e,
+    subst (λ (i : ℕ). rest (c .head .height) (c .pool) i x ≤ c .head .«free_count» → WriteIn (c .head .numbers .nodes) (c .head .height) (c .pool) (c .head .numbers .«free_node») x (firstShared (c .head .height) (c .pool) i i x))
+    (sym er) (a .writes x l) (omega (arith, e .0)),
+  )

@@ -5,10 +5,12 @@ use mathlib.Core.Bool.{Bool}
 use mathlib.Core.List.{List, [], _∷_, _++_}
 use Prim.Native.Nat.{ℕ, _≤_, _<_}
 use native.Mathlib.Omega.{arith}
-use borrow.Author.Tests.{eq-eqb, ne-eqb, lt-ltb, le-ltb, le-leb, lt-leb}
+use lib.Dec.{ltb}
+use borrow.Author.Tests.{eq-eqb, ne-eqb, lt-ltb, le-ltb}
 use Rattle.words.specs.Basics.{none, plus}
 use Rattle.words.specs.Tests.{decided}
-use Rattle.pool.specs.Pool.{readAt, retain, release, write}
+use Rattle.pool.specs.Pool.{readAt, retain, release, firstShared, rest, write}
+use Rattle.pool.specs.Links.{Wrote}
 use Rattle.frames.specs.declared.Frame.{Frame}
 use Rattle.frames.specs.declared.Returned.{Returned}
 use Rattle.frames.specs.declared.Synced.{Synced}
@@ -92,9 +94,6 @@ module _ (h : Head) (ds fs ws : List ℕ) (w : ℕ) where
       pub write-none : (v : ℕ) → h .numbers .splitters ≤ x → (headAfter h o ≡ h) × (o .answer ≡ Refused NoSplitter) → Leaves h o ds fs ws (kindOn (core h ds fs ws) (Write w x v))
       write-none v l q = rw (le-ltb x (h .numbers .splitters) l) (out-refused h o ds fs ws NoSplitter q)
 
-      pub write-full : (v : ℕ) → x < h .numbers .splitters → h .«free_count» ≤ h .height → (headAfter h o ≡ h) × (o .answer ≡ Refused PoolFull)
-          → Leaves h o ds fs ws (kindOn (core h ds fs ws) (Write w x v))
-      write-full v l f q = rw (lt-ltb x (h .numbers .splitters) l, le-leb (h .«free_count») (h .height) f) (out-refused h o ds fs ws PoolFull q)
 
   -- done
   module _ (p : ℕ) (f : Frame) (ep : p ≡ bottom ds w) (ef : f ≡ frameAt fs p) where
@@ -128,15 +127,22 @@ module _ (h : Head) (ds fs ws : List ℕ) (w : ℕ) where
         let acts : stepResult h ds fs ws (Accepted (Value y)) ≡ kindOn (core h ds fs ws) (Read w x) = rw (lt-ltb x (h .numbers .splitters) l, e, er, ep) in
         ap₂ (λ (g : Head) (a : Answer). stepResult g ds fs ws a) (u .0) (u .1) ∙ acts
 
-    pub write-done : h .height < h .«free_count» → (fs′ ws′ : List ℕ) (v first count : ℕ)
-        → (ws′ ≡ write (h .height) ws (h .numbers .«free_node») (h .«free_count») root x v .0)
-        × (first ≡ write (h .height) ws (h .numbers .«free_node») (h .«free_count») root x v .1)
-        × (count ≡ write (h .height) ws (h .numbers .«free_node») (h .«free_count») root x v .2)
-        → fs′ ≡ setFrame fs p (withRoot (frameAt fs p) (h .numbers .«free_node»))
+    -- the test for 16, of the rest i of the path
+    room-is : (i : ℕ) → i ≡ firstShared (h .height) ws root root x .0 → ltb (h .«free_count») (rest (h .height) ws (frameAt fs (bottom ds w) .root) x) ≡ ltb (h .«free_count») i
+    unfolding rest
+    room-is i e = rw (e, er, ep)
+
+    pub write-full : (o : Out) (i v : ℕ) → i ≡ firstShared (h .height) ws root root x .0 → h .«free_count» < i → (headAfter h o ≡ h) × (o .answer ≡ Refused PoolFull)
+        → Leaves h o ds fs ws (kindOn (core h ds fs ws) (Write w x v))
+    write-full o i v e f q = rw (lt-ltb x (h .numbers .splitters) l, room-is i e, lt-ltb (h .«free_count») i f) (out-refused h o ds fs ws PoolFull q)
+
+    pub write-done : (i : ℕ) → i ≡ firstShared (h .height) ws root root x .0 → i ≤ h .«free_count» → (fs′ ws′ : List ℕ) (v first count new : ℕ)
+        → Wrote (write (h .height) ws (h .numbers .«free_node») (h .«free_count») root x v) ws′ first count new
+        → fs′ ≡ setFrame fs p (withRoot (frameAt fs p) new)
         → stepResult (withFreeNodes h first count) ds fs′ ws′ (Accepted (Written count)) ≡ kindOn (core h ds fs ws) (Write w x v)
     unfolding writeOn
-    write-done f fs′ ws′ v first count ew es =
-        rw (lt-ltb x (h .numbers .splitters) l, lt-leb (h .«free_count») (h .height) f) (rw (es, ew .0, ew .1, ew .2, er, ep))
+    write-done i e f fs′ ws′ v first count new ew es =
+        rw (lt-ltb x (h .numbers .splitters) l, room-is i e, le-ltb (h .«free_count») i f) (rw (es, ew .0, ew .1, ew .2, ew .3, er, ep))
 
 -- ---- a steal
 

@@ -4,7 +4,8 @@ use mathlib.Core.Bool.{Bool, cond, _||_}
 use mathlib.Core.List.{List, [], _∷_}
 use Prim.Native.Nat.{ℕ, _≤_, _<_}
 use lib.ListN.{length}
-use Rattle.pool.specs.Links.{PathIn}
+use Rattle.pool.specs.Pool.{firstShared, rest}
+use Rattle.pool.specs.Links.{PathIn, WriteIn}
 use Rattle.frames.specs.Widths.{maxWorkers, places, dequePlaces, dequeWords}
 use Rattle.frames.specs.Frames.{frameAt}
 use Rattle.frames.specs.Ranges.{ParentOf, ParentCounts}
@@ -69,6 +70,8 @@ pub record ActsAt (c : Core) (w n p : ℕ) : Type 0 where
   pub parent : ParentOf p (frameAt (c .frames) p)
   pub counts : ParentCounts (c .frames) (frameAt (c .frames) p)
   pub path : (x : ℕ) → x < c .head .numbers .splitters → PathIn (c .head .numbers .nodes) (c .pool) (c .head .height) (frameAt (c .frames) p .root) x
+  pub writes : (x : ℕ) → x < c .head .numbers .splitters → rest (c .head .height) (c .pool) (frameAt (c .frames) p .root) x ≤ c .head .«free_count»
+      → WriteIn (c .head .numbers .nodes) (c .head .height) (c .pool) (c .head .numbers .«free_node») x (firstShared (c .head .height) (c .pool) (frameAt (c .frames) p .root) (frameAt (c .frames) p .root) x)
 
 -- deques of so many workers, as long as they may be; a worker that does not exist has an empty one
 pub record SizesIn (workers : ℕ) (ds : List ℕ) : Type 0 where

@@ -21,10 +21,11 @@ use frames::spawn_frame;
 use frames::steal_frame;
 use frames::sync_frame;
 use frames::top_at;
+use pool::first_shared;
 use pool::read_at;
 use pool::release;
 use pool::retain;
-use pool::write_path;
+use pool::write_from;
 use semantics::Answer;
 use semantics::Done;
 use semantics::Head;
@@ -168,12 +169,12 @@ fn write_at(
     if x >= h.numbers.splitters {
         return refused(h, Refusal::NoSplitter);
     }
-    if h.free_count <= h.height {
+    let root = root_at(frames, p);
+    let at = first_shared(pool, h.numbers.nodes, h.height, root, x);
+    if h.free_count < at.rest {
         return refused(h, Refusal::PoolFull);
     }
-    let root = root_at(frames, p);
-    set_root(frames, p, h.numbers.free_node);
-    let list = write_path(
+    let written = write_from(
         pool,
         h.numbers.nodes,
         h.height,
@@ -182,12 +183,14 @@ fn write_at(
         root,
         x,
         v,
+        at,
     );
+    set_root(frames, p, written.root);
     Out {
-        free_node: list.first,
+        free_node: written.first,
         free_place: h.numbers.free_place,
-        free_count: list.count,
-        answer: Answer::Accepted(Done::Written(list.count)),
+        free_count: written.count,
+        answer: Answer::Accepted(Done::Written(written.count)),
     }
 }
 

@@ -1,6 +1,7 @@
 -- No such splitter, too few free nodes, or done: the ways out are in `proofs.Steps`, what the calls ask in `proofs.Passing`.
+use native.Mathlib.Omega.{arith}
 use Rattle.engine.proofs.Steps.{write-none, write-full, write-done}
-use Rattle.engine.proofs.Passing.{write-asks}
+use Rattle.engine.proofs.Passing.{read-asks, write-asks}
 use borrow.Author.Needs.{needs}
 use Rattle.engine.proofs.kinds.write_at.Statement.{statement}
 use Rattle.engine.proofs.kinds.write_at.Tie as tie
@@ -8,11 +9,14 @@ use Rattle.engine.proofs.kinds.write_at.Tie as tie
 abbrev start-of : tie.Else1 → tie.Start
 start-of e = e .before .before .before .before .before
 
-abbrev within-of : tie.Else2 → tie.Else1
-within-of e = e .before .before
+abbrev within-of : tie.After-root-at → tie.Else1
+within-of r = r .before .before
 
-abbrev root-of : tie.After-set-root → tie.After-root-at
-root-of f = f .before .before
+abbrev root-of : tie.After-first-shared → tie.After-root-at
+root-of s = s .before .before
+
+abbrev shared-of : tie.Else2 → tie.After-first-shared
+shared-of e = e .before .before .before
 
 refused-requires : tie.Need-refused-requires
 refused-requires c κs = search needs
@@ -22,42 +26,54 @@ returns c =
     let s = c .before .before .before .before .before .before in
     write-none (s .args .h) _ _ _ (s .args .w) _ (s .args .x) (s .args .v) (c .before .if1 .taken) (c .refused .ensures)
 
+root-at-requires : tie.Need-root-at-requires
+root-at-requires c κs = search needs
+
+first-shared-requires : tie.Need-first-shared-requires
+first-shared-requires c κs =
+    let root = c .before in
+    let e = within-of root in
+    let s = start-of e in
+    read-asks _ _ _ _ (s .pre .0) (s .pre .1) _ (root .root-at .ensures) (s .args .x) (e .if1 .left)
+
 refused-requires-2 : tie.Need-refused-requires-2
 refused-requires-2 c κs = search needs
 
 returns-2 : tie.Need-returns-2
 returns-2 c =
-    let e = c .before .before .before in
+    let full = c .before in
+    let found = full .before .before .before in
+    let root = root-of found in
+    let e = within-of root in
     let s = start-of e in
-    write-full (s .args .h) _ _ _ (s .args .w) _ (s .args .x) (s .args .v) (e .if1 .left) (c .before .if2 .taken) (c .refused2 .ensures)
+    write-full (s .args .h) _ _ _ (s .args .w) _ _ (s .args .x) (s .pre .1 .acting) (root .root-at .ensures) (e .if1 .left) _ _ (s .args .v) (found .first-shared .ensures .0) (full .if2 .taken) (c .refused2 .ensures)
 
-root-at-requires : tie.Need-root-at-requires
-root-at-requires c κs = search needs
+write-from-requires : tie.Need-write-from-requires
+write-from-requires c κs =
+    let room = c .before in
+    let found = shared-of room in
+    let root = root-of found in
+    let e = within-of root in
+    let s = start-of e in
+    write-asks _ _ _ _ (s .pre .0) (s .pre .1) _ (root .root-at .ensures) (s .args .x) _ _ _ (e .if1 .left) (found .first-shared .ensures) (room .if2 .left)
 
 set-root-requires : tie.Need-set-root-requires
-set-root-requires c κs = search needs
-
-write-path-requires : tie.Need-write-path-requires
-write-path-requires c κs =
-    let root = root-of (c .before .before .before) in
-    let s = start-of (within-of (root .before .before)) in
-    write-asks _ _ _ _ (s .pre .0) (s .pre .1) _ (root .root-at .ensures)
-
-same-length : tie.Need-same-length
-same-length c = search needs
-
-same-length-2 : tie.Need-same-length-2
-same-length-2 c = search needs
+set-root-requires c κs =
+    let written = c .before .before .before in
+    let s = start-of (within-of (root-of (shared-of (written .before .before)))) in
+    (s .pre .0 .long-frames, s .pre .1 .within)
 
 returns-3 : tie.Need-returns-3
 returns-3 c =
-    let written = c .before .before in
-    let stored = written .before .before .before .before in
-    let root = root-of stored in
-    let room = root .before .before in
-    let e = within-of room in
+    let stored = c .before .before in
+    let written = stored .before .before .before .before in
+    let room = written .before .before in
+    let found = shared-of room in
+    let root = root-of found in
+    let e = within-of root in
     let s = start-of e in
-    write-done (s .args .h) _ _ _ (s .args .w) _ _ (s .args .x) (s .pre .1 .acting) (root .root-at .ensures) (e .if1 .left) (room .if2 .left) _ _ (s .args .v) _ _ (written .write-path .ensures) (stored .set-root .ensures)
+    write-done (s .args .h) _ _ _ (s .args .w) _ _ (s .args .x) (s .pre .1 .acting) (root .root-at .ensures) (e .if1 .left) _ (found .first-shared .ensures .0) (room .if2 .left) _ _ (s .args .v) _ _ _
+    (written .write-from .ensures) (stored .set-root .ensures)
 
 pub write-at-spec : {M : Type 1} → statement M
 write-at-spec =
@@ -65,11 +81,14 @@ write-at-spec =
     (tie.spec
     refused-requires
     returns
-    refused-requires-2
-    returns-2
     root-at-requires
+    first-shared-requires
+    refused-requires-2
+    (λ c. search needs)
+    (λ c. search needs)
+    returns-2
+    write-from-requires
     set-root-requires
-    write-path-requires
-    same-length
-    same-length-2
+    (λ c. search needs)
+    (λ c. search needs)
     returns-3)
