@@ -1,6 +1,6 @@
-//! Document 01's engine in plain, fast, safe Rust: path copying, reference counts, free lists, recursive release. Written from the
-//! document alone. It is what the library is compared with, and the peer it is timed against: what a tape and a single step share is
-//! inlined in both, so that each is as fast as if the other were not there.
+//! Document 01's engine, with R-2 of document 02, in plain, fast, safe Rust: copying of what is shared of a path, reference counts, free
+//! lists, recursive release. Written from the documents alone. It is what the library is compared with, and the peer it is timed
+//! against: what a tape and a single step share is inlined in both, so that each is as fast as if the other were not there.
 
 use std::array;
 
@@ -527,28 +527,45 @@ impl<'a> Engine<'a> {
         Ok(self.nodes[node as usize][VALUE])
     }
 
-    /// The free nodes left.
+    /// The free nodes left. From the root down, nodes with one holder stay where they are; from the first with more holders on, the path
+    /// is new.
     #[inline(always)]
     fn write(&mut self, worker: u32, splitter: u32, value: u32) -> Result<u32, Refusal> {
         let bottom = self.bottom(worker)?;
         if splitter >= self.state.splitters {
             return Err(Refusal::NoSplitter);
         }
-        if self.free_nodes <= self.height {
+        let mut node = self.state.frames[bottom].root;
+        let mut above = NONE;
+        let mut level = self.height;
+        while level > 0 && self.nodes[node as usize][HOLDERS] == 1 {
+            level -= 1;
+            above = node;
+            node = self.nodes[node as usize][LEFT + (splitter >> level & 1) as usize];
+        }
+        if self.nodes[node as usize][HOLDERS] == 1 {
+            self.nodes[node as usize][VALUE] = value;
+            return Ok(self.free_nodes);
+        }
+        if self.free_nodes <= level {
             return Err(Refusal::PoolFull);
         }
-        let old = self.state.frames[bottom].root;
-        self.state.frames[bottom].root = self.copy_path(old, splitter, value);
-        self.release(old);
+        let new = self.copy_rest(node, level, splitter, value);
+        self.nodes[node as usize][HOLDERS] -= 1;
+        if above == NONE {
+            self.state.frames[bottom].root = new;
+        } else {
+            self.nodes[above as usize][LEFT + (splitter >> level & 1) as usize] = new;
+        }
         Ok(self.free_nodes)
     }
 
-    /// A new path from the root to the splitter, beside the old siblings; its root.
+    /// A new path from a node of this level to the splitter, beside the old siblings; its first node.
     #[inline(always)]
-    fn copy_path(&mut self, root: u32, splitter: u32, value: u32) -> u32 {
-        let new_root = self.allocate();
-        let (mut old, mut new) = (root, new_root);
-        for level in (0..self.height).rev() {
+    fn copy_rest(&mut self, node: u32, level: u32, splitter: u32, value: u32) -> u32 {
+        let first = self.allocate();
+        let (mut old, mut new) = (node, first);
+        for level in (0..level).rev() {
             let [_, left, right, _] = self.nodes[old as usize];
             let child = self.allocate();
             if splitter >> level & 1 == 0 {
@@ -565,7 +582,7 @@ impl<'a> Engine<'a> {
             new = child;
         }
         self.nodes[new as usize] = [1, NONE, NONE, value];
-        new_root
+        first
     }
 
     fn allocate(&mut self) -> u32 {

@@ -95,10 +95,11 @@ fn the_example() {
 #[test]
 fn small_pools() {
     let write = [[WRITE, 0, 0, 1]];
-    assert_eq!(answers(1, &[5], 1, &write), [[16, 0]]);
+    assert_eq!(answers(1, &[5], 1, &write), [[106, 0]]);
     assert_eq!(answers(1, &[5], 2, &write), [[106, 1]]);
     assert_eq!(start_refusal(1, 5, 10), 3);
-    assert_eq!(answers(1, &FIVE, 14, &write), [[16, 0]]);
+    assert_eq!(answers(1, &FIVE, 11, &write), [[106, 0]]);
+    assert_eq!(answers(1, &FIVE, 14, &write), [[106, 3]]);
     assert_eq!(answers(1, &FIVE, 15, &write), [[106, 4]]);
 }
 
@@ -213,13 +214,17 @@ fn nested_spawns() {
     assert_eq!(answers[62..], [[101, 63], [13, 0], [102, 0], [101, 63]]);
 }
 
-/// An equal value still takes a new path, and the old one is freed.
+/// An equal value takes what another takes: nothing of a path that nobody else holds, and all of one that the parent holds too.
 #[test]
 fn equal_value() {
-    let (call, after) = run(1, &FIVE, 15, &[[WRITE, 0, 0, 10]]);
-    assert_eq!(after.answers[..2], [106, 4]);
-    assert!(after.pool != call.pool);
-    assert!(sentences::broken(&after.state, &after.pool).is_empty());
+    let write = [WRITE, 0, 0, 10];
+    let (call, after) = run(1, &FIVE, 11, &[write]);
+    assert_eq!(after.answers[..2], [106, 0]);
+    assert!(after.state == call.state && after.pool == call.pool);
+    let entries = [[SPAWN, 0, 0, 0], write, write];
+    let expected = [[101, 1], [106, 0], [106, 0]];
+    assert_eq!(answers(1, &FIVE, 15, &entries), expected);
+    assert_eq!(answers(1, &FIVE, 14, &entries)[1..], [[16, 0], [16, 0]]);
 }
 
 #[test]
