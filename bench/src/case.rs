@@ -1,12 +1,15 @@
 //! What is measured: a start, a prelude that is not measured, and a tape that is.
 
 use crate::generate::Generator;
+use crate::tape::SPAWN;
 
 pub const RECORDS: usize = 8192;
 pub const WORKERS: usize = 4;
 /// The record workloads' pool has this many times T(n) nodes.
 pub const POOL_VIEWS: usize = 32;
 pub const MAX_NODES: usize = 16_384;
+/// The shared writes of a tape, each in a frame of its own.
+pub const SHARED_WRITES: usize = 48;
 /// Steps in calls of their own, and their workers.
 pub const SINGLE_STEPS: usize = 256;
 pub const SINGLE_WORKERS: usize = 2;
@@ -17,13 +20,28 @@ pub const MAX_LIVE: usize = 24;
 pub enum Workload {
     Reads,
     Writes,
+    /// Writes to paths that the frame alone holds.
+    WritesAlone,
+    /// Writes to paths of which the frame shares every node.
+    WritesShared,
     Control,
     Mix,
 }
 
-pub const WORKLOADS: [Workload; 4] = [
+pub const WORKLOADS: [Workload; 6] = [
     Workload::Reads,
     Workload::Writes,
+    Workload::WritesAlone,
+    Workload::WritesShared,
+    Workload::Control,
+    Workload::Mix,
+];
+
+/// Those whose tapes have 8,192 records.
+pub const LONG_WORKLOADS: [Workload; 5] = [
+    Workload::Reads,
+    Workload::Writes,
+    Workload::WritesAlone,
     Workload::Control,
     Workload::Mix,
 ];
@@ -33,6 +51,8 @@ impl Workload {
         match self {
             Workload::Reads => "reads",
             Workload::Writes => "writes",
+            Workload::WritesAlone => "writes alone",
+            Workload::WritesShared => "writes shared",
             Workload::Control => "control",
             Workload::Mix => "mix",
         }
@@ -42,6 +62,14 @@ impl Workload {
         WORKLOADS
             .into_iter()
             .find(|workload| workload.name() == name)
+    }
+
+    /// The records of a tape that are counted.
+    pub fn counted(self) -> usize {
+        match self {
+            Workload::WritesShared => SHARED_WRITES,
+            _ => RECORDS,
+        }
     }
 }
 
@@ -74,10 +102,15 @@ pub fn tree_nodes(n: usize) -> usize {
     sum
 }
 
-/// As many frames as the pool has full views for, beside one path; no write is refused then.
+/// H + 1.
+pub fn path_nodes(n: usize) -> usize {
+    n.next_power_of_two().ilog2() as usize + 1
+}
+
+/// As many frames as the pool has full views for, beside one path; no write is refused then. Since R-2 the path beside them need not be,
+/// but the tapes stay as they were.
 fn max_live(n: usize, nodes: usize) -> usize {
-    let path = n.next_power_of_two().ilog2() as usize + 1;
-    MAX_LIVE.min((nodes - path) / tree_nodes(n))
+    MAX_LIVE.min((nodes - path_nodes(n)) / tree_nodes(n))
 }
 
 fn values(n: usize) -> Vec<u32> {
@@ -87,7 +120,16 @@ fn values(n: usize) -> Vec<u32> {
 impl Case {
     /// A tape of records.
     pub fn records(workload: Workload, n: usize) -> Self {
-        Case::new(workload, n, WORKERS, POOL_VIEWS * tree_nodes(n), RECORDS)
+        match workload {
+            Workload::WritesShared => Case::shared(n),
+            _ => Case::new(workload, n, WORKERS, POOL_VIEWS * tree_nodes(n), RECORDS),
+        }
+    }
+
+    /// Writes alone in a pool without a free node: one that takes a node is refused.
+    pub fn full_pool(n: usize) -> Self {
+        let nodes = WORKERS * tree_nodes(n);
+        Case::new(Workload::WritesAlone, n, WORKERS, nodes, RECORDS)
     }
 
     /// Records to be fed one by one, each in a call of its own.
@@ -95,8 +137,8 @@ impl Case {
         Case::new(workload, n, SINGLE_WORKERS, nodes, SINGLE_STEPS)
     }
 
-    /// Each worker has a frame: Main and its line of descendants. Each frame has made n / 2 writes, so the trees share some nodes. Then
-    /// the records.
+    /// Each worker has a frame: Main and its line of descendants. Each frame has made n / 2 writes, so the trees share some nodes; or, for
+    /// writes alone, one to every splitter, so they share none. Then the records.
     fn new(workload: Workload, n: usize, workers: usize, nodes: usize, records: usize) -> Self {
         let mut generator = Generator::new(1, workers, n, max_live(n, nodes));
         for thief in 1..workers {
@@ -104,7 +146,10 @@ impl Case {
             generator.steal(thief, 0);
         }
         for worker in 0..workers {
-            (0..n.div_ceil(2)).for_each(|_| generator.write(worker));
+            match workload {
+                Workload::WritesAlone => (0..n).for_each(|place| generator.write_to(worker, place)),
+                _ => (0..n.div_ceil(2)).for_each(|_| generator.write(worker)),
+            }
         }
         let prelude = generator.take();
         (0..records).for_each(|_| one_record(&mut generator, workload));
@@ -117,9 +162,32 @@ impl Case {
         }
     }
 
-    /// The same with no record in the tape.
-    pub fn without_records(mut self) -> Self {
-        self.tape.clear();
+    /// Spawns, and after each a write in the new frame, which has its whole tree from its parent. The nodes just suffice. As many frames
+    /// have come and gone before, so that the copying machine has its buffers and no spawn allocates.
+    fn shared(n: usize) -> Self {
+        let mut generator = Generator::new(3, 1, n, 1 + SHARED_WRITES);
+        (0..SHARED_WRITES).for_each(|_| generator.spawn(0));
+        (0..SHARED_WRITES).for_each(|_| generator.end(0));
+        let prelude = generator.take();
+        for _ in 0..SHARED_WRITES {
+            generator.spawn(0);
+            generator.write(0);
+        }
+        Case {
+            workers: 1,
+            values: values(n),
+            nodes: tree_nodes(n) + SHARED_WRITES * path_nodes(n),
+            prelude,
+            tape: generator.take(),
+        }
+    }
+
+    /// The same without the records that are counted: an empty tape, but for the spawns among shared writes.
+    pub fn rest(mut self, workload: Workload) -> Self {
+        self.tape = match workload {
+            Workload::WritesShared => spawns(&self.tape),
+            _ => Vec::new(),
+        };
         self
     }
 
@@ -153,11 +221,18 @@ impl Case {
     }
 }
 
+/// The spawns of a tape.
+fn spawns(tape: &[u8]) -> Vec<u8> {
+    let (records, _) = tape.as_chunks::<8>();
+    let spawns = records.iter().filter(|record| record[0] == SPAWN);
+    spawns.flatten().copied().collect()
+}
+
 /// Mix: 70 in 100 reads, 22 writes, 8 control.
 fn one_record(generator: &mut Generator, workload: Workload) {
     match workload {
         Workload::Reads => read(generator),
-        Workload::Writes => write(generator),
+        Workload::Writes | Workload::WritesAlone | Workload::WritesShared => write(generator),
         Workload::Control => generator.control(),
         Workload::Mix => match generator.choice(100) {
             0..70 => read(generator),

@@ -1,6 +1,6 @@
 //! Every peer must answer as the library does, before anything is measured.
 
-use crate::case::{Case, Workload};
+use crate::case::{path_nodes, Case, Workload, SHARED_WRITES};
 use crate::images;
 use crate::measure::{answers, step_answers};
 use crate::peer::{Peer, PEERS};
@@ -47,6 +47,24 @@ fn assert_same_steps(case: &Case, what: &str) {
     }
 }
 
+/// Writes alone take no node, shared ones a whole path each, and the spawns among these are answered alike without them.
+fn assert_nodes_taken(n: usize) {
+    assert_same_answers(&Case::full_pool(n), &format!("writes in a full pool {n}"));
+    let case = Case::records(Workload::WritesShared, n);
+    let free = answers(Peer::Library, &case)
+        .chunks(2)
+        .filter(|pair| pair[0] == WRITTEN)
+        .map(|pair| pair[1] as usize)
+        .collect::<Vec<_>>();
+    let expected = (0..SHARED_WRITES).rev().map(|left| left * path_nodes(n));
+    assert!(
+        free.into_iter().eq(expected),
+        "writes shared {n}: not whole paths"
+    );
+    let rest = case.rest(Workload::WritesShared);
+    assert_same_answers(&rest, &format!("spawns of writes shared {n}"));
+}
+
 /// Every workload at every size, the single steps, and the images.
 pub fn all(workloads: &[Workload], sizes: &[usize]) {
     images::compare();
@@ -54,6 +72,7 @@ pub fn all(workloads: &[Workload], sizes: &[usize]) {
         let what = format!("single steps, {} {n}", workload.name());
         assert_same_steps(&Case::steps(workload, n, nodes), &what);
     }
+    sizes.iter().for_each(|&n| assert_nodes_taken(n));
     for &workload in workloads {
         for &n in sizes {
             assert_same_answers(

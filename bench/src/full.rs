@@ -1,6 +1,6 @@
 //! The whole benchmark: all peers, all tables, the pictures.
 
-use crate::case::{Standing, WORKLOADS};
+use crate::case::{Standing, LONG_WORKLOADS, WORKLOADS};
 use crate::checks::{self, CheckCost};
 use crate::compare;
 use crate::facts;
@@ -61,7 +61,7 @@ pub fn run(docs: &Path) -> io::Result<()> {
 fn measure() -> Figures {
     let facts = facts::list();
     eprintln!("bench: time");
-    let times = timing::time_all(&WORKLOADS, &SIZES);
+    let times = timing::time_all(&LONG_WORKLOADS, &SIZES);
     eprintln!("bench: instructions of records");
     let costs = records::count(&PEERS, &WORKLOADS, &GROWTH);
     eprintln!("bench: instructions of the check");

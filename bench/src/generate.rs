@@ -77,6 +77,10 @@ impl Generator {
 
     pub fn write(&mut self, worker: usize) {
         let splitter = self.random.below(self.splitters);
+        self.write_to(worker, splitter);
+    }
+
+    pub fn write_to(&mut self, worker: usize, splitter: usize) {
         let value = self.random.word();
         self.push(WRITE, worker, splitter, value);
     }
@@ -91,7 +95,7 @@ impl Generator {
     }
 
     /// The bottom frame ends; it is not Main.
-    fn end(&mut self, worker: usize) {
+    pub fn end(&mut self, worker: usize) {
         let ended = self.bottom(worker);
         self.deques[worker].pop();
         self.live -= 1;

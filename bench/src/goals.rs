@@ -11,6 +11,9 @@ use crate::tables::SIZES;
 const CHECK_LIMIT: f64 = 1.2;
 /// How much more than plain Rust's a control record may cost.
 const CONTROL_LIMIT: f64 = 1.05;
+/// How much more than the copying machine's a write alone may cost, and at which n.
+const COPYING_LIMIT: f64 = 3.0;
+const COPYING_SIZE: usize = 256;
 
 struct Goal {
     what: &'static str,
@@ -39,6 +42,19 @@ pub fn list(costs: &[Cost], checks: &[&CheckCost], stack: Option<&Stack>) -> Str
             Workload::Control,
             |ratio| ratio <= CONTROL_LIMIT,
         ),
+        records_goal(
+            "writes alone: no more instructions per further record than plain Rust",
+            costs,
+            Workload::WritesAlone,
+            |ratio| ratio <= 1.0,
+        ),
+        records_goal(
+            "writes shared: no more instructions per further record than plain Rust",
+            costs,
+            Workload::WritesShared,
+            |ratio| ratio <= 1.0,
+        ),
+        copying_goal(costs),
         check_goal(checks),
     ];
     goals.extend(stack.map(stack_goal));
@@ -63,11 +79,7 @@ fn records_goal(
     workload: Workload,
     meets: fn(f64) -> bool,
 ) -> Goal {
-    let ratio = |n| {
-        let of = |peer| records::find(costs, peer, workload, n).marginal();
-        of(Peer::Library) / of(Peer::Plain)
-    };
-    let ratios = SIZES.map(ratio);
+    let ratios = SIZES.map(|n| ratio(costs, Peer::Plain, workload, n));
     let figures: Vec<String> = SIZES
         .iter()
         .zip(ratios)
@@ -78,6 +90,21 @@ fn records_goal(
         met: ratios.into_iter().all(meets),
         figures: format!("library / plain: {}", figures.join(", ")),
     }
+}
+
+fn copying_goal(costs: &[Cost]) -> Goal {
+    let ratio = ratio(costs, Peer::Copying, Workload::WritesAlone, COPYING_SIZE);
+    Goal {
+        what: "writes alone: at most 3 times the instructions per further record of the copying machine at n = 256",
+        met: ratio <= COPYING_LIMIT,
+        figures: format!("library / copying: n = {COPYING_SIZE}: {ratio:.3}"),
+    }
+}
+
+/// The library's instructions per further record, divided by a peer's.
+fn ratio(costs: &[Cost], peer: Peer, workload: Workload, n: usize) -> f64 {
+    let of = |peer| records::find(costs, peer, workload, n).marginal();
+    of(Peer::Library) / of(peer)
 }
 
 fn check_goal(checks: &[&CheckCost]) -> Goal {

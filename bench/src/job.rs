@@ -6,8 +6,8 @@ use crate::case::{Case, Standing, Workload};
 pub enum Job {
     /// A workload's tape of records.
     Records(Workload, usize),
-    /// An empty tape on the same state.
-    NoRecords(Workload, usize),
+    /// The same without the records that are counted.
+    Rest(Workload, usize),
     /// An empty tape on a state made for the check.
     Check(Standing),
     /// A workload's records, each in a call of its own; n and the nodes of the pool.
@@ -43,7 +43,7 @@ impl Job {
     pub fn case(self) -> Case {
         match self {
             Job::Records(workload, n) => Case::records(workload, n),
-            Job::NoRecords(workload, n) => Case::records(workload, n).without_records(),
+            Job::Rest(workload, n) => Case::records(workload, n).rest(workload),
             Job::Check(standing) | Job::Image(_, standing) => Case::standing(standing),
             Job::Steps(workload, n, nodes) => Case::steps(workload, n, nodes),
         }
@@ -52,8 +52,8 @@ impl Job {
     pub fn words(self) -> Vec<String> {
         match self {
             Job::Records(workload, n) => vec![workload.name().into(), n.to_string()],
-            Job::NoRecords(workload, n) => {
-                vec![workload.name().into(), n.to_string(), "empty".into()]
+            Job::Rest(workload, n) => {
+                vec![workload.name().into(), n.to_string(), "rest".into()]
             }
             Job::Check(standing) => standing_words("check", standing),
             Job::Image(call, standing) => standing_words(call.name(), standing),
@@ -89,7 +89,7 @@ impl Job {
                 number(nodes)?,
             )),
             [workload, n] => Some(Job::Records(Workload::named(workload)?, number(n)?)),
-            [workload, n, "empty"] => Some(Job::NoRecords(Workload::named(workload)?, number(n)?)),
+            [workload, n, "rest"] => Some(Job::Rest(Workload::named(workload)?, number(n)?)),
             _ => None,
         }
     }

@@ -58,7 +58,7 @@ pub fn once(peer: Peer, job: Job) {
             assert!(again == image, "{}: reads something else", peer.name());
             image_call(peer, &case, call, &image);
         }
-        Job::Records(..) | Job::NoRecords(..) | Job::Check(_) => {
+        Job::Records(..) | Job::Rest(..) | Job::Check(_) => {
             let mut answers = answers(peer, &case);
             let mut run = peer.begin(&case);
             let refusal = bench_measured(run.as_mut(), &case.tape, &mut answers);

@@ -17,7 +17,7 @@ pub fn run() {
     println!("Instructions per further record:\n");
     println!(
         "{}",
-        tables::instructions(&costs, &PEERS, Cost::marginal).markdown()
+        tables::instructions(&costs, &WORKLOADS, &PEERS, Cost::marginal).markdown()
     );
     println!("Instructions of a call with one step:\n");
     println!("{}", tables::steps(&steps::count()).markdown());

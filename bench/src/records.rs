@@ -1,7 +1,7 @@
 //! Instructions per record, by workload and n.
 
 use crate::callgrind::count_all;
-use crate::case::{Workload, RECORDS};
+use crate::case::Workload;
 use crate::job::Job;
 use crate::peer::Peer;
 
@@ -11,19 +11,19 @@ pub struct Cost {
     pub n: usize,
     /// Instructions of the call with all records.
     pub whole: u64,
-    /// Instructions of the call with an empty tape.
-    pub empty: u64,
+    /// Instructions of the call without the records that are counted.
+    pub rest: u64,
 }
 
 impl Cost {
     /// What a further record costs.
     pub fn marginal(&self) -> f64 {
-        (self.whole as f64 - self.empty as f64) / RECORDS as f64
+        (self.whole as f64 - self.rest as f64) / self.workload.counted() as f64
     }
 
     /// What a record costs with its share of the call's check.
     pub fn with_check(&self) -> f64 {
-        self.whole as f64 / RECORDS as f64
+        self.whole as f64 / self.workload.counted() as f64
     }
 }
 
@@ -38,19 +38,19 @@ pub fn count(peers: &[Peer], workloads: &[Workload], sizes: &[usize]) -> Vec<Cos
         .iter()
         .map(|&(peer, workload, n)| (peer, Job::Records(workload, n)))
         .collect();
-    let empty: Vec<(Peer, Job)> = asked
+    let rest: Vec<(Peer, Job)> = asked
         .iter()
-        .map(|&(peer, workload, n)| (peer, Job::NoRecords(workload, n)))
+        .map(|&(peer, workload, n)| (peer, Job::Rest(workload, n)))
         .collect();
-    let counts = count_all(&[whole, empty].concat());
-    let (whole, empty) = counts.split_at(asked.len());
-    let pairs = whole.iter().zip(empty);
-    let cost = |((peer, workload, n), (&whole, &empty))| Cost {
+    let counts = count_all(&[whole, rest].concat());
+    let (whole, rest) = counts.split_at(asked.len());
+    let pairs = whole.iter().zip(rest);
+    let cost = |((peer, workload, n), (&whole, &rest))| Cost {
         peer,
         workload,
         n,
         whole,
-        empty,
+        rest,
     };
     asked.into_iter().zip(pairs).map(cost).collect()
 }

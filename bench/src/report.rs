@@ -1,6 +1,9 @@
 //! docs/BENCH.md, from the figures alone.
 
-use crate::case::{MAX_LIVE, POOL_VIEWS, SINGLE_STEPS, SINGLE_WORKERS, WORKERS};
+use crate::case::{
+    LONG_WORKLOADS, MAX_LIVE, POOL_VIEWS, SHARED_WRITES, SINGLE_STEPS, SINGLE_WORKERS, WORKERS,
+    WORKLOADS,
+};
 use crate::checks::CheckCost;
 use crate::contents;
 use crate::full::Figures;
@@ -25,7 +28,8 @@ const PEERS_TEXT: &str = "\
 All are fed the same tapes and give the same answer words, which the bench compares before it measures.
 
 - library: `splitter_tape` of libsplitter.a through its C interface, and `splitter_step` for single steps.
-- plain: the same algorithm in plain Rust on `&mut` state (`tests/host/src/plain.rs`), with the same soundness check in each call.
+- plain: the same algorithm in plain Rust on `&mut` state (`tests/host/src/plain.rs`), with the same soundness check in each call. A
+  write alters the nodes that one holder has where they are and copies the rest of the path from the first node with more (R-2).
 - copying: a machine in Rust that keeps a `Vec<u32>` of values for each live frame; spawn copies it into the buffer of its frame's
   place, which later frames in this place use again.
 - im-rc: the same machine with `im_rc::Vector<u32>` for each frame; spawn clones it, a write sets a place. It is left out where
@@ -83,12 +87,21 @@ fn how() -> String {
 A tape has 8,192 records, all accepted, made from a seed. Before it, not measured, comes a fresh start with {WORKERS} workers and
 {POOL_VIEWS} T(n) nodes and a prelude: each worker gets a frame, and each frame makes n / 2 writes (rounded up) to random splitters, so
 that their trees share some nodes. Reads and writes take a random busy worker and a random splitter. Mix is 70 in 100 reads, 22 writes,
-8 control. At most {MAX_LIVE} frames live.
+8 control. At most {MAX_LIVE} frames live. The tapes of reads, writes, control and mix are those from before R-2.
+
+Writes alone: in the prelude each frame writes to every splitter instead, so that no node has two holders. Then a write takes no node:
+it stores one value. The bench also sees this tape accepted in a pool without a free node.
+
+Writes shared has another tape: one worker, {SHARED_WRITES} times a spawn and then a write to a random splitter in the new frame. This frame and its
+parent hold one root, so that the write takes a whole path, H + 1 nodes. The pool has T(n) + {SHARED_WRITES} (H + 1) nodes: none is free after the
+last write. The prelude is {SHARED_WRITES} spawns and as many returns, after which copying has its buffers and no spawn allocates.
 
 Instructions are callgrind's, of the one call and nothing else, after one such call that is not counted. \"Per further record\" is a
-call with all records less a call with an empty tape, divided by 8,192: the check, once per call, is not in it. \"With the check\" is
-the call with all records divided by 8,192. The C library's memset and memcpy are kept to vector loops while counting, as callgrind
-takes each byte of a `rep stosb` for an instruction. Time is the best of {ROUNDS} calls, the peers by turns in one process.
+call with all records less a call with an empty tape, divided by 8,192: the check, once per call, is not in it. Of writes shared it is
+the call less a call with its {SHARED_WRITES} spawns only, divided by {SHARED_WRITES}: the writes, without the spawns and the check. \"With the check\" is
+the call with all records divided by 8,192; writes shared is left out there and among the times, as most of so short a call is the check.
+The C library's memset and memcpy are kept to vector loops while counting, as callgrind takes each byte of a `rep stosb` for an
+instruction. Time is the best of {ROUNDS} calls, the peers by turns in one process.
 
 No buffer is cleared by the bench between calls: the work slice is as the call before left it, the answer words are those of the call
 before. The state is in the caller's memory for every peer; what the C interface does to it is part of each call of the library.
@@ -98,16 +111,16 @@ before. The state is in the caller's memory for every peer; what the C interface
 }
 
 fn records(figures: &Figures) -> String {
-    let table = |of| tables::instructions(&figures.costs, &PEERS, of);
+    let costs = &figures.costs;
     let ratio = "Ratios below 1: the library needs fewer.";
     section(
         "Instructions per further record",
         ratio,
-        table(Cost::marginal),
+        tables::instructions(costs, &WORKLOADS, &PEERS, Cost::marginal),
     ) + &section(
         "Instructions per record, with the check",
         ratio,
-        table(Cost::with_check),
+        tables::instructions(costs, &LONG_WORKLOADS, &PEERS, Cost::with_check),
     )
 }
 

@@ -1,10 +1,16 @@
 //! What a step costs in a call of its own, `splitter_step`: the instructions of the call, its check included.
 
 use crate::callgrind::count_all;
-use crate::case::{Workload, SINGLE_STEPS, WORKLOADS};
+use crate::case::{Workload, SINGLE_STEPS};
 use crate::job::Job;
 use crate::peer::Peer;
 
+const WORKLOADS: [Workload; 4] = [
+    Workload::Reads,
+    Workload::Writes,
+    Workload::Control,
+    Workload::Mix,
+];
 /// n and the nodes of the pool.
 const POOLS: [(usize, usize); 4] = [(16, 127), (16, 1_024), (64, 4_096), (256, 16_384)];
 

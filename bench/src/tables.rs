@@ -1,6 +1,6 @@
 //! The tables of the report, from the figures.
 
-use crate::case::{Workload, WORKLOADS};
+use crate::case::{Workload, LONG_WORKLOADS};
 use crate::checks::CheckCost;
 use crate::images::{ImageCost, PeerCost, IMAGE_PEERS};
 use crate::peer::{Peer, PEERS};
@@ -13,7 +13,11 @@ use crate::timing::{self, Time};
 pub const SIZES: [usize; 3] = [1, 16, 256];
 
 /// A row for each workload and n: a figure of each peer, then the library's divided by each other peer's.
-fn by_peer(peers: &[Peer], digits: usize, figure: impl Fn(Peer, Workload, usize) -> f64) -> Table {
+fn by_peer(
+    workloads: &[Workload],
+    peers: &[Peer],
+    figure: impl Fn(Peer, Workload, usize) -> f64,
+) -> Table {
     let others = || peers.iter().filter(|&&peer| peer != Peer::Library);
     let names = peers.iter().map(|peer| peer.name().to_string());
     let ratios = others().map(|peer| format!("library / {}", peer.name()));
@@ -22,14 +26,14 @@ fn by_peer(peers: &[Peer], digits: usize, figure: impl Fn(Peer, Workload, usize)
         .chain(names)
         .chain(ratios);
     let mut table = Table::new(header.collect());
-    for workload in WORKLOADS {
+    for &workload in workloads {
         for n in SIZES {
             let library = figure(Peer::Library, workload, n);
             let mut row = vec![workload.name().to_string(), n.to_string()];
             row.extend(
                 peers
                     .iter()
-                    .map(|&peer| format!("{:.digits$}", figure(peer, workload, n))),
+                    .map(|&peer| format!("{:.1}", figure(peer, workload, n))),
             );
             row.extend(others().map(|&peer| format!("{:.2}", library / figure(peer, workload, n))));
             table.row(row);
@@ -39,15 +43,20 @@ fn by_peer(peers: &[Peer], digits: usize, figure: impl Fn(Peer, Workload, usize)
 }
 
 /// Instructions per record, without the check or with its share.
-pub fn instructions(costs: &[Cost], peers: &[Peer], of: fn(&Cost) -> f64) -> Table {
-    by_peer(peers, 1, |peer, workload, n| {
+pub fn instructions(
+    costs: &[Cost],
+    workloads: &[Workload],
+    peers: &[Peer],
+    of: fn(&Cost) -> f64,
+) -> Table {
+    by_peer(workloads, peers, |peer, workload, n| {
         of(records::find(costs, peer, workload, n))
     })
 }
 
 /// Millions of records per second.
 pub fn rates(times: &[Time], of: fn(&Time) -> f64) -> Table {
-    by_peer(&PEERS, 1, |peer, workload, n| {
+    by_peer(&LONG_WORKLOADS, &PEERS, |peer, workload, n| {
         of(timing::find(times, peer, workload, n)) / 1e6
     })
 }

@@ -1,4 +1,5 @@
-//! Runs one peer on one case, for callgrind: see `USAGE`; an image is that of the state that `check` has.
+//! Runs one peer on one case, for callgrind: see `USAGE`; `rest` is the tape without the records that are counted; an image is that of the
+//! state that `check` has.
 //! By hand: `valgrind --tool=callgrind --dump-instr=yes --toggle-collect=bench_measured one library mix 16`.
 
 use bench::job::Job;
@@ -8,7 +9,7 @@ use std::env;
 use std::process::ExitCode;
 
 const USAGE: &str = "\
-one PEER WORKLOAD N [empty]
+one PEER WORKLOAD N [rest]
 one PEER check N NODES FRAMES WRITES
 one PEER steps WORKLOAD N NODES
 one PEER save|load|copy N NODES FRAMES WRITES";
