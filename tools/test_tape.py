@@ -151,10 +151,11 @@ class PlainMachine(unittest.TestCase):
     def test_edges(self):
         write = "\n0 write 0 7\n"
         five = "\nvalues 1 2 3 4 5"
-        self.assertEqual(self.lines("start 1 1\nvalues 5" + write), ["16 0", "free 0"])
+        self.assertEqual(self.lines("start 1 1\nvalues 5" + write), ["106 0", "free 0"])
         self.assertEqual(self.lines("start 1 2\nvalues 5" + write), ["106 1", "free 1"])
         self.assertEqual(self.lines("start 1 10" + five), ["refused 3"])
-        self.assertEqual(self.lines("start 1 14" + five + write), ["16 0", "free 3"])
+        self.assertEqual(self.lines("start 1 11" + five + write), ["106 0", "free 0"])
+        self.assertEqual(self.lines("start 1 14" + five + write), ["106 3", "free 3"])
         self.assertEqual(self.lines("start 1 15" + five + write), ["106 4", "free 4"])
         self.assertEqual(self.lines("start 1 15\nvalues"), ["refused 1"])
         self.assertEqual(self.lines("start 9 15" + five), ["refused 2"])
@@ -172,6 +173,112 @@ class PlainMachine(unittest.TestCase):
         self.assertIn("record 7: Main reads splitter 2: 1 by document 01, 0 under note B", text)
 
 
+# Document 02's R-2: what writes take, and splitrun's lines after the first. T(5) is 11, a path has 4 nodes.
+FORKED = "\nvalues 1 2 3 4 5\n0 spawn\n1 steal 0\n"  # Main on worker 1, its child on worker 0: they share all nodes
+WRITES = {
+    "start 1 1\nvalues 5\n0 write 0 7\n0 write 0 8\n0 read 0\n": "106 0|106 0|105 8|free 0",
+    "start 1 11\nvalues 1 2 3 4 5\n0 write 0 7\n0 write 4 8\n0 write 0 7\n": "106 0|106 0|106 0|free 0",
+    # the first write of either frame takes a path, a second to the same splitter none
+    f"start 2 20{FORKED}1 write 0 7\n1 write 0 8\n0 write 4 7\n0 write 4 8\n": "101 1|103 0|106 5|106 5|106 2|106 2|free 2",
+    # once one of them has written, the other's path to that splitter is its own
+    f"start 2 15{FORKED}0 write 2 7\n1 write 2 8\n0 read 2\n1 read 2\n": "101 1|103 0|106 0|106 0|105 7|105 8|free 0",
+    # a spawn shares again what was a frame's own
+    "start 1 19\nvalues 1 2 3 4 5\n0 write 3 7\n0 spawn\n0 write 3 8\n0 spawn\n0 write 3 9\n0 write 3 9\n": "106 8|101 1|106 4|101 2|106 0|106 0|free 0",
+    # a node too few: of a path from the root, of one from level 2, of a leaf; what is a frame's own can still be written
+    f"start 2 14{FORKED}1 write 0 7\n0 write 0 7\n": "101 1|103 0|16 0|16 0|free 3",
+    f"start 2 17{FORKED}1 write 4 7\n1 write 4 8\n0 write 0 7\n1 write 0 7\n0 write 4 9\n": "101 1|103 0|106 2|106 2|16 0|16 0|106 2|free 2",
+    f"start 2 15{FORKED}1 write 0 7\n0 write 1 7\n0 write 0 8\n0 return\n1 write 1 7\n": "101 1|103 0|106 0|16 0|106 0|102 1|106 4|free 4",
+    # the value that is there already, written again, takes a path as well
+    f"start 2 15{FORKED}1 write 0 1\n0 write 4 5\n": "101 1|103 0|106 0|16 0|free 0",
+}
+
+
+class Node:
+    """A node of a split tree: its links, and how many links and frames hold it."""
+
+    def __init__(self, kids=()):
+        self.holders, self.kids = 1, list(kids)
+
+
+class Trees:
+    """The frames' trees with counts of holders, by documents 01 and 02; without nodes' numbers."""
+
+    def __init__(self, n, nodes):
+        self.height, self.free = machine.height(n), nodes - machine.tree_nodes(n)
+        row = [Node() for _ in range(n)]
+        while len(row) > 1:
+            row = [Node(row[at : at + 2]) for at in range(0, len(row), 2)]
+        self.roots = {(): row[0]}
+
+    def spawn(self, parent, child):
+        self.roots[child] = self.roots[parent]
+        self.roots[child].holders += 1
+
+    def release(self, node):
+        node.holders -= 1
+        if not node.holders:
+            self.free += 1
+            for kid in node.kids:
+                self.release(kid)
+
+    def path(self, frame, splitter):
+        """The nodes from the root to the leaf, and the side taken at each but the leaf."""
+        nodes, sides = [self.roots[frame]], [splitter >> level & 1 for level in reversed(range(self.height))]
+        for side in sides:
+            nodes.append(nodes[-1].kids[side])
+        return nodes, sides
+
+    def rest(self, frame, splitter):
+        """The place on the path of the first node with more holders than one, and how many follow with it."""
+        nodes, _ = self.path(frame, splitter)
+        first = next((at for at, node in enumerate(nodes) if node.holders > 1), len(nodes))
+        return first, len(nodes) - first
+
+    def write(self, frame, splitter):
+        """New nodes for the rest of the path, beside the old siblings."""
+        (nodes, sides), (first, rest) = self.path(frame, splitter), self.rest(frame, splitter)
+        if not rest:
+            return
+        new = Node()
+        for node, side in reversed(list(zip(nodes, sides))[first:]):
+            for at, kid in enumerate(node.kids):
+                kid.holders += at != side
+            new = Node(new if at == side else kid for at, kid in enumerate(node.kids))
+        if first:
+            nodes[first - 1].kids[sides[first - 1]] = new
+        else:
+            self.roots[frame] = new
+        nodes[first].holders -= 1
+        self.free -= rest
+
+
+class Writes(unittest.TestCase):
+    def test_what_writes_take(self):
+        for text, lines in WRITES.items():
+            self.assertEqual(machine.run(script.encode(text)).lines[1:], lines.split("|"), text)
+
+    def test_the_count_is_that_of_the_trees(self):
+        """Both ways in which R-2 says 16: the rest of the path, and the plain machine's count of triples."""
+        new, refused = set(), 0
+        for seed in range(60):
+            run = machine.run(script.encode(random_script(seed)))
+            trees = Trees(len(run.values), run.nodes)
+            for event in run.events:
+                if event.kind == "write" and event.refusal in (0, 16):
+                    rest = trees.rest(event.frame, event.low)[1]
+                    self.assertEqual((event.new, event.refusal), (rest, 16 if rest > trees.free else 0))
+                    new.add(rest)
+                    refused += event.refusal == 16
+                if not event.refusal and event.kind == "write":
+                    trees.write(event.frame, event.low)
+                elif not event.refusal and event.kind == "spawn":
+                    trees.spawn(event.frame, event.other)
+                elif not event.refusal and event.kind == "return":
+                    trees.release(trees.roots.pop(event.frame))
+                self.assertEqual(event.free, trees.free)
+        self.assertTrue(refused and new >= {0, 1, 2, 3, 4, 8})
+
+
 class Words(unittest.TestCase):
     def test_document01(self):
         words = explain.run_words(machine.run(example("document01")))
@@ -179,7 +286,7 @@ class Words(unittest.TestCase):
             (0, "11 in Main's tree, 9 free"),
             (1, "Main spawns frame 1, depth 1"),
             (2, "worker 1 takes Main, depth 0, from worker 0"),
-            (3, "Main writes 99 to splitter 4. Free nodes: 5"),
+            (3, "Main writes 99 to splitter 4, with 4 new nodes. Free nodes: 5"),
             (4, "frame 1 reads splitter 4: 50"),
             (5, "Main has a live child and is suspended"),
             (6, "refused 10: The step is not a steal and the worker is idle."),
@@ -188,6 +295,22 @@ class Words(unittest.TestCase):
             (9, "the run is over. Free nodes: 20"),
         ):
             self.assertIn(part, words[place])
+
+    def test_writes(self):
+        words = explain.run_words(machine.run(example("shared")))
+        sentence = "refused 16: The step is a write and fewer nodes are free than the shared rest of its path has."
+        for place, part in (
+            (1, "Main writes 51 to splitter 4, in place. Free nodes: 8"),
+            (4, "Main writes 52 to splitter 4, with 4 new nodes. Free nodes: 4"),
+            (5, "Main writes 53 to splitter 4, in place. Free nodes: 4"),
+            (6, "frame 1 writes 54 to splitter 4, in place. Free nodes: 4"),
+            (7, "frame 1 writes 11 to splitter 0, with 3 new nodes. Free nodes: 1"),
+            (8, f"{sentence} The rest has 2 nodes, 1 is free. (bottom frame: Main) Nothing changes. Free nodes: 1"),
+            (10, "Main writes 31 to splitter 2, in place. Free nodes: 8"),
+        ):
+            self.assertEqual(part, words[place])
+        words = explain.run_words(machine.run(script.encode(f"start 2 15{FORKED}1 write 0 7\n0 write 1 7\n")))
+        self.assertIn(f"{sentence} The rest has 1 node, 0 are free. (bottom frame: 1)", words[4])
 
     def test_a_difference_is_loud(self):
         data = example("document01")
@@ -216,13 +339,21 @@ class Words(unittest.TestCase):
 
 
 class Documents(unittest.TestCase):
-    def test_the_worked_example_is_what_the_tool_prints(self):
-        data, page = example("note_b"), (ROOT / "docs/TAPES.md").read_text()
-        own = machine.run(data)
-        texts = [(HERE / "examples/note_b.tape").read_text(), explain.explained(data, own, own.lines)[0]]
-        texts.append(explain.side_by_side(data, own, machine.run(data, note_b=True))[0])
+    def on_the_page(self, *texts):
+        page = (ROOT / "docs/TAPES.md").read_text()
         for line in "".join(texts).splitlines():
             self.assertIn(f"    {line}\n" if line else "\n", page)
+
+    def test_the_worked_examples_are_what_the_tool_prints(self):
+        for name in ("note_b", "shared"):
+            data, text = example(name), (HERE / f"examples/{name}.tape").read_text()
+            own = machine.run(data)
+            self.on_the_page(text, explain.explained(data, own, own.lines)[0])
+
+    def test_note_b_and_its_picture_are_what_the_tool_prints(self):
+        data = example("note_b")
+        own = machine.run(data)
+        self.on_the_page(explain.side_by_side(data, own, machine.run(data, note_b=True))[0])
         self.assertEqual((ROOT / "docs/note_b.svg").read_text(encoding="utf-8"), draw.picture(own))
 
 
@@ -455,7 +586,7 @@ class Images(unittest.TestCase):
 @needs_splitrun
 class WithSplitrun(unittest.TestCase):
     def test_examples_and_random_scripts_agree(self):
-        texts = [path.read_text() for path in EXAMPLES] + [random_script(seed) for seed in range(40)]
+        texts = [path.read_text() for path in EXAMPLES] + [*WRITES] + [random_script(seed) for seed in range(40)]
         for text in texts + ["start 1 10\nvalues 1 2 3 4 5\n", "raw 00\n", "start 1 9\nvalues 1\nraw 00\n"]:
             data = script.encode(text)
             self.assertEqual(cli.splitrun_lines(SPLITRUN, data), machine.run(data).lines)

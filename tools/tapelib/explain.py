@@ -2,7 +2,7 @@
 from .machine import name_text, tree_nodes
 from .script import record_line, split_input, split_records
 
-# Document 01's sentences, "Refused, in checking order".
+# Document 01's sentences, "Refused, in checking order"; 16 as document 02, R-2, has it.
 REFUSED = {
     1: "At a start, there are 0 or more than 256 initial values.",
     2: "At a start, there are 0 or more than 8 workers.",
@@ -19,7 +19,7 @@ REFUSED = {
     13: "The step is a spawn and 64 frames live.",
     14: "The step is a return and the frame has a live child.",
     15: "The step is a read or a write and the splitter is not below n.",
-    16: "The step is a write and fewer than H + 1 nodes are free.",
+    16: "The step is a write and fewer nodes are free than the shared rest of its path has.",
 }
 UNFIT = (
     "unfit: header or values cut short, n over 256, nodes over 1,024 or more than 16,384 bytes of records."
@@ -55,15 +55,31 @@ def accepted_words(event):
         return waits if event.number else f"{me} has no live child and passes"
     if kind == "read":
         return f"{me} reads splitter {event.low}: {event.number}"
-    return f"{me} writes {event.value} to splitter {event.low}"
+    return f"{me} writes {event.value} to splitter {event.low}{new_words(event.new)}"
+
+
+def count_words(count, what):
+    """1 node, 2 nodes"""
+    return f"{count} {what}" if count == 1 else f"{count} {what}s"
+
+
+def new_words(new):
+    """The nodes that a write took: the rest of its path, from the first node on that another frame has too."""
+    return f", with {count_words(new, 'new node')}" if new else ", in place"
+
+
+def short_words(event):
+    """Why a write was refused by 16."""
+    return f" The rest has {count_words(event.new, 'node')}, {event.free} {'is' if event.free == 1 else 'are'} free."
 
 
 def event_words(event):
     """What the record did, and the free nodes after it."""
     if not event.refusal:
         return f"{accepted_words(event)}. Free nodes: {event.free}"
+    short = short_words(event) if event.refusal == 16 else ""
     bottom = f" (bottom frame: {name_text(event.frame)})" if event.frame is not None else ""
-    return f"refused {event.refusal}: {REFUSED[event.refusal]}{bottom} Nothing changes. Free nodes: {event.free}"
+    return f"refused {event.refusal}: {REFUSED[event.refusal]}{short}{bottom} Nothing changes. Free nodes: {event.free}"
 
 
 def start_words(run):

@@ -1,4 +1,4 @@
-"""The plain machine of document 01, and the lines that splitrun must print.
+"""The plain machine of documents 01 and 02 (R-2), and the lines that splitrun must print.
 
 With note_b=True the machine has the bug of integration note B: a frame that resumes after its last
 child takes that child's values."""
@@ -20,6 +20,15 @@ def tree_nodes(n):
     return sum((n + 2**level - 1) >> level for level in range(height(n) + 1))
 
 
+def triples(marks):
+    """The triples of level, group and last write in the group; marks has the last write to each splitter."""
+    found, row = set(), list(marks)
+    for level in range(height(len(marks)) + 1):
+        found.update((level, group, mark) for group, mark in enumerate(row))
+        row = [max(row[at : at + 2]) for at in range(0, len(row), 2)]
+    return found
+
+
 def name_text(name):
     """Main, or the chain of spawn ordinals: 1.2"""
     return ".".join(str(k) for k in name) or "Main"
@@ -28,7 +37,8 @@ def name_text(name):
 @dataclass
 class Event:
     """What one record did. frame is the frame that acted (for a steal the stolen one), other the
-    child made, or the parent that goes on; refusal is 0 where the step was accepted."""
+    child made, or the parent that goes on; refusal is 0 where the step was accepted. new is the number of
+    new nodes of a write, also of one refused by 16: the shared rest of its path."""
 
     record: bytes
     worker: int
@@ -39,6 +49,7 @@ class Event:
     number: int = 0
     frame: tuple = None
     other: tuple = None
+    new: int = 0
     free: int = 0
     bottoms: tuple = ()
 
@@ -54,14 +65,11 @@ class Frame:
     def __init__(self, name, values, marks):
         self.name, self.values, self.marks = name, list(values), list(marks)
         self.children, self.spawned, self.suspended = 0, 0, False
-        self.recount()
+        self.triples = triples(marks)
 
-    def recount(self):
-        """The triples of level, group and last write in the group."""
-        self.triples, row = set(), list(self.marks)
-        for level in range(height(len(self.values)) + 1):
-            self.triples.update((level, group, mark) for group, mark in enumerate(row))
-            row = [max(row[at : at + 2]) for at in range(0, len(row), 2)]
+    def marks_after(self, splitter, mark):
+        """The marks after a write of this number."""
+        return self.marks[:splitter] + [mark] + self.marks[splitter + 1 :]
 
 
 class Machine:
@@ -79,6 +87,12 @@ class Machine:
     def count_free(self):
         used = set().union(*(frame.triples for frame in self.frames.values()))
         self.free = self.nodes - len(used)
+
+    def new_nodes(self, frame, splitter):
+        """How many nodes more are in use after a write."""
+        others = (other.triples for other in self.frames.values() if other is not frame)
+        used = triples(frame.marks_after(splitter, self.writes + 1)).union(*others)
+        return len(used) - (self.nodes - self.free)
 
     def bottoms(self):
         return tuple(deque[-1].name if deque else None for deque in self.deques)
@@ -103,9 +117,9 @@ class Machine:
             return 14
         if kind in ("read", "write") and event.low >= self.n:
             return 15
-        if kind == "write" and self.free < height(self.n) + 1:
-            return 16
-        return 0
+        if kind == "write":
+            event.new = self.new_nodes(deque[-1], event.low)
+        return 16 if event.new > self.free else 0
 
     def steal_refusal(self, deque, victim):
         if deque:
@@ -180,8 +194,8 @@ class Machine:
     def do_write(self, event, deque):
         frame = deque[-1]
         self.writes += 1
-        frame.values[event.low], frame.marks[event.low] = event.value, self.writes
-        frame.recount()
+        frame.values[event.low], frame.marks = event.value, frame.marks_after(event.low, self.writes)
+        frame.triples = triples(frame.marks)
         self.count_free()
         event.number = self.free
 
