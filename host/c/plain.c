@@ -67,7 +67,8 @@ static unsigned group_nodes(const struct plain *machine, unsigned first, unsigne
     return count;
 }
 
-unsigned plain_free(const struct plain *machine) {
+/* The nodes in use: the distinct triples of a level, a group and the last write to it, over all live frames. */
+static unsigned used_nodes(const struct plain *machine) {
     unsigned used = 0, n = machine->splitters;
     for (unsigned level = 0; level <= height(n); level++) {
         for (unsigned first = 0; first < n; first += 1u << level) {
@@ -75,7 +76,7 @@ unsigned plain_free(const struct plain *machine) {
             used += group_nodes(machine, first, end < n ? end : n);
         }
     }
-    return machine->nodes - used;
+    return used;
 }
 
 static unsigned bottom(const struct plain *machine, unsigned worker) {
@@ -93,7 +94,7 @@ static uint32_t steal_refusal(const struct plain *machine, uint32_t thief, uint3
     return victim >= machine->workers || machine->lengths[victim] < 2 ? SPLITTER_NO_VICTIM : 0;
 }
 
-/* Document 01's refusals 7 to 16, in its order; 0 where none refuses. */
+/* Document 01's refusals 7 to 15, in its order; 0 where none refuses. The last, 16, is the write's. */
 static uint32_t refusal(const struct plain *machine, uint32_t kind, uint32_t worker, uint32_t field, uint32_t value) {
     int names_splitter = kind == SPLITTER_READ || kind == SPLITTER_WRITE;
     if (kind < SPLITTER_SPAWN || kind > SPLITTER_WRITE || (field != 0 && !names_splitter && kind != SPLITTER_STEAL)
@@ -118,10 +119,7 @@ static uint32_t refusal(const struct plain *machine, uint32_t kind, uint32_t wor
     if (kind == SPLITTER_RETURN && machine->frames[bottom(machine, worker)].children > 0) {
         return SPLITTER_CHILD_LIVES;
     }
-    if (names_splitter && field >= machine->splitters) {
-        return SPLITTER_NO_SPLITTER;
-    }
-    return kind == SPLITTER_WRITE && plain_free(machine) < height(machine->splitters) + 1 ? SPLITTER_POOL_FULL : 0;
+    return names_splitter && field >= machine->splitters ? SPLITTER_NO_SPLITTER : 0;
 }
 
 static uint64_t spawn(struct plain *machine, unsigned worker) {
@@ -181,12 +179,19 @@ static uint64_t sync(struct plain *machine, unsigned worker) {
     return splitter_answer(SPLITTER_SYNCED, SPLITTER_SUSPENDED);
 }
 
+/* Refused where more nodes would be in use than the pool has (document 02, R-2); then nothing has changed. */
 static uint64_t write(struct plain *machine, unsigned worker, unsigned splitter, uint32_t value) {
     struct plain_frame *frame = &machine->frames[bottom(machine, worker)];
+    unsigned before = frame->written[splitter];
+    frame->written[splitter] = machine->writes + 1;
+    unsigned used = used_nodes(machine);
+    if (used > machine->nodes) {
+        frame->written[splitter] = before;
+        return splitter_answer(SPLITTER_POOL_FULL, 0);
+    }
     machine->writes += 1;
     frame->values[splitter] = value;
-    frame->written[splitter] = machine->writes;
-    return splitter_answer(SPLITTER_WRITTEN, plain_free(machine));
+    return splitter_answer(SPLITTER_WRITTEN, machine->nodes - used);
 }
 
 uint64_t plain_step(struct plain *machine, uint32_t kind, uint32_t worker, uint32_t field, uint32_t value) {

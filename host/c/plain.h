@@ -1,4 +1,4 @@
-/* Document 01's plain machine: a full list of values for each frame, free nodes by counting the distinct triples.
+/* The plain machine of documents 01 and 02 (R-2): a full list of values for each frame, free nodes by counting the distinct triples.
  * The worked hosts compare the library's answers with it. A product needs no such thing. */
 #ifndef PLAIN_H
 #define PLAIN_H
@@ -24,8 +24,5 @@ uint32_t plain_start(struct plain *machine, uint32_t workers, const uint32_t *va
 
 /* What splitter_step answers to a sound state and a long enough work slice: 101 to 106, or a refusal 7 to 16. */
 uint64_t plain_step(struct plain *machine, uint32_t kind, uint32_t worker, uint32_t field, uint32_t value);
-
-/* The free nodes: the pool's less the distinct triples of a level, a group and the last write to it, over all live frames. */
-unsigned plain_free(const struct plain *machine);
 
 #endif

@@ -97,12 +97,19 @@ static void refused_return(void) {
     show(checked_return(&run, 1), SPLITTER_CHILD_LIVES, "Main returns while its child runs elsewhere");
 }
 
-/* The pool has room for one path beside the first view: Main's. What the child wants to write must wait, or the child must end. */
+static void write_and_tell(const char *what, unsigned worker, unsigned block, uint32_t value) {
+    printf("    %s: %u nodes free\n", what, splitter_answer_number(checked_write(&run, worker, block, value)));
+}
+
+/* The pool has room for one path beside the first view: Main's. Then Main and its child each have a path to block 12 of their own, and
+ * write there in place. Block 13 they share: what the child wants to write there must wait, or the child must end. */
 static void full_pool(void) {
-    checked_write(&run, 1, 12, 103);
-    show(checked_write(&run, 0, 12, 109), SPLITTER_POOL_FULL, "Main has written, then its child writes");
+    write_and_tell("Main writes block 12", 1, 12, 103);
+    write_and_tell("Main writes block 12 again", 1, 12, 109);
+    write_and_tell("its child writes block 12", 0, 12, 103);
+    show(checked_write(&run, 0, 13, 109), SPLITTER_POOL_FULL, "the child writes block 13");
     checked_return(&run, 0);
-    printf("    the child has ended, Main writes again: %u nodes free\n", splitter_answer_number(checked_write(&run, 1, 13, 109)));
+    write_and_tell("the child has ended, Main writes block 13", 1, 13, 103);
 }
 
 static void full_frames(void) {

@@ -7,7 +7,9 @@
  * Memory to lend, and its owner is always the host:
  *   state     three slices, the members of struct splitter_state: numbers, deques, frames. A call changes them in place; what they hold
  *             between calls is the engine's. Each must have just its length, or the call is refused (SPLITTER_BAD_STATE).
- *   pool      SPLITTER_NODE_WORDS words for each node, T(n) to SPLITTER_MAX_NODES nodes: splitter_tree_nodes(n) gives T(n).
+ *   pool      SPLITTER_NODE_WORDS words for each node, T(n) to SPLITTER_MAX_NODES nodes: splitter_tree_nodes(n) gives T(n). A frame's
+ *             view is a tree of T(n) nodes, and frames share what neither has written since the spawn. A spawn takes no node. A write alters
+ *             nodes of its path that only its frame has where they are; from the first shared one on, the rest of the path is new.
  *   work      a word for each node of the pool, for the check of state and pool; the words are zero afterwards.
  *   answers   two words for each record of a tape.
  *   target    the bytes of an image, to save a run in: splitter_image_bytes(nodes), SPLITTER_IMAGE_BYTES(nodes) for an array.
@@ -124,7 +126,7 @@ enum {
     SPLITTER_FRAMES_FULL = 13,  /* a spawn, and 64 frames live */
     SPLITTER_CHILD_LIVES = 14,  /* a return, and the frame has a live child */
     SPLITTER_NO_SPLITTER = 15,  /* a read or write, and the splitter is not below n */
-    SPLITTER_POOL_FULL = 16,    /* a write, and fewer than H + 1 nodes are free */
+    SPLITTER_POOL_FULL = 16,    /* a write, and fewer nodes are free than the shared rest of its path has */
     /* Of a reading, before 5 and 6, and of a save, after 6. */
     SPLITTER_BAD_BLOCKS = 17,   /* the image is not just as many whole blocks as its first block calls for, or has no whole block */
     SPLITTER_BAD_CHECK = 18,    /* a check is wrong or the rest of the last block is not zero */

@@ -72,7 +72,7 @@ pub enum Refusal {
     ChildLives,
     /// The splitter is not below n.
     NoSplitter,
-    /// A write while fewer than H + 1 nodes are free.
+    /// A write while fewer nodes are free than the shared rest of its path has.
     PoolFull,
     /// An image that is not just as many whole blocks as its first block calls for, or has no whole block.
     BadBlocks,

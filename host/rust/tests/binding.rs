@@ -141,6 +141,25 @@ fn the_example_step_by_step() {
     });
 }
 
+/// Document 02's R-2: from the root down, what one frame alone has is altered in place.
+#[test]
+fn a_write_takes_nodes_only_for_what_is_shared() {
+    let (mut state, mut pool, mut work) = (State::ZERO, [0; 15 * NODE_WORDS], [0; 15]);
+    for nodes in [11, 14, 15] {
+        let mut engine = Engine { state: &mut state, pool: &mut pool[..nodes * NODE_WORDS], work: &mut work };
+        engine.start(2, &[10, 20, 30, 40, 50]).expect("at least T(5) nodes");
+        for splitter in [0, 4, 0] {
+            assert_eq!(engine.write(0, splitter, 7), Ok(nodes as u32 - 11));
+        }
+    }
+    let mut engine = Engine { state: &mut state, pool: &mut pool, work: &mut work };
+    assert_eq!((engine.spawn(0), engine.steal(1, 0)), (Ok(1), Ok(0)));
+    assert_eq!([engine.write(1, 0, 8), engine.write(1, 0, 9), engine.write(0, 0, 6)], [Ok(0); 3]);
+    assert_eq!([engine.write(0, 1, 8), engine.write(1, 4, 8)], [Err(Refusal::PoolFull); 2]);
+    assert_eq!((engine.read(0, 0), engine.read(1, 0)), (Ok(6), Ok(9)));
+    assert_eq!((engine.ret(0), engine.write(1, 4, 8)), (Ok(Returned::Idle), Ok(4)));
+}
+
 #[test]
 fn memory_without_a_start_is_refused() {
     let (mut state, mut pool, mut work) = (State::ZERO, [0; 20 * NODE_WORDS], [0; 20]);

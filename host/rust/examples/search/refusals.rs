@@ -122,13 +122,16 @@ fn refused_return(engine: &mut Engine) -> Outcome {
     show(engine.ret(1), Refusal::ChildLives, "Main returns while its child runs elsewhere")
 }
 
-/// The pool has room for one path beside the first view: Main's. What the child wants to write
-/// must wait, or the child must end.
+/// The pool has room for one path beside the first view: Main's. Then Main and its child each have a path
+/// to block 12 of their own, and write there in place. Block 13 they share: what the child wants to write
+/// there must wait, or the child must end.
 fn full_pool(engine: &mut Engine) -> Outcome {
-    engine.write(1, 12, 103)?;
-    show(engine.write(0, 12, 109), Refusal::PoolFull, "Main has written, then its child writes")?;
+    println!("    Main writes block 12: {} nodes free", engine.write(1, 12, 103)?);
+    println!("    Main writes block 12 again: {} nodes free", engine.write(1, 12, 109)?);
+    println!("    its child writes block 12: {} nodes free", engine.write(0, 12, 103)?);
+    show(engine.write(0, 13, 109), Refusal::PoolFull, "the child writes block 13")?;
     engine.ret(0)?;
-    println!("    the child has ended, Main writes again: {} nodes free", engine.write(1, 13, 109)?);
+    println!("    the child has ended, Main writes block 13: {} nodes free", engine.write(1, 13, 103)?);
     Ok(())
 }
 

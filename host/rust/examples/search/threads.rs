@@ -5,8 +5,8 @@ use crate::layout::{Memory, Search, MAX_WORKERS};
 use std::sync::Mutex;
 use std::thread;
 
-/// Room for a view of each branch and a write beside.
-const NODES: usize = 10 * 31 + 5;
+/// Room for a view of each branch.
+const NODES: usize = 10 * 31;
 
 fn work(search: &Mutex<Search>, worker: u8) {
     loop {
