@@ -178,7 +178,7 @@ FORKED = "\nvalues 1 2 3 4 5\n0 spawn\n1 steal 0\n"  # Main on worker 1, its chi
 WRITES = {
     "start 1 1\nvalues 5\n0 write 0 7\n0 write 0 8\n0 read 0\n": "106 0|106 0|105 8|free 0",
     "start 1 11\nvalues 1 2 3 4 5\n0 write 0 7\n0 write 4 8\n0 write 0 7\n": "106 0|106 0|106 0|free 0",
-    # the first write of either frame takes a path, a second to the same splitter none
+    # the first write after the spawn takes a path, the other frame's the rest of one that is still shared, a second of either none
     f"start 2 20{FORKED}1 write 0 7\n1 write 0 8\n0 write 4 7\n0 write 4 8\n": "101 1|103 0|106 5|106 5|106 2|106 2|free 2",
     # once one of them has written, the other's path to that splitter is its own
     f"start 2 15{FORKED}0 write 2 7\n1 write 2 8\n0 read 2\n1 read 2\n": "101 1|103 0|106 0|106 0|105 7|105 8|free 0",

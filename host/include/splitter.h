@@ -8,8 +8,8 @@
  *   state     three slices, the members of struct splitter_state: numbers, deques, frames. A call changes them in place; what they hold
  *             between calls is the engine's. Each must have just its length, or the call is refused (SPLITTER_BAD_STATE).
  *   pool      SPLITTER_NODE_WORDS words for each node, T(n) to SPLITTER_MAX_NODES nodes: splitter_tree_nodes(n) gives T(n). A frame's
- *             view is a tree of T(n) nodes, and frames share what neither has written since the spawn. A spawn takes no node. A write alters
- *             nodes of its path that only its frame has where they are; from the first shared one on, the rest of the path is new.
+ *             view is a tree of T(n) nodes, and frames share what neither has written since the spawn. A spawn takes no node. On the path
+ *             to its splitter, a write alters in place the nodes that only its frame has; from the first shared one on, the rest is new.
  *   work      a word for each node of the pool, for the check of state and pool; the words are zero afterwards.
  *   answers   two words for each record of a tape.
  *   target    the bytes of an image, to save a run in: splitter_image_bytes(nodes), SPLITTER_IMAGE_BYTES(nodes) for an array.
