@@ -11,7 +11,7 @@ use Rattle.words.specs.Basics.{joined, below}
 use Rattle.words.specs.Below.{Below, Words}
 use Rattle.words.specs.Tests.{both, lt-of}
 use Rattle.sizes.specs.Sizes.{height, width, treeNodes, bit}
-use Rattle.pool.specs.Pool.{refcount, left, right, value, setNode, setRefcount, side, child, sibling, leafOf, readAt, retain, release, pathNode, copyPath, write, initLevel, initInner, initLeaves, initFree, initPool}
+use Rattle.pool.specs.Pool.{refcount, left, right, value, setNode, setRefcount, side, child, sibling, leafOf, readAt, retain, release, pathNode, copyPath, setValue, setLink, renew, firstShared, rest, writeFrom, write, initLevel, initInner, initLeaves, initFree, initPool}
 use Rattle.frames.specs.Frames.{frameAt, setFrame}
 use Rattle.frames.specs.Deques.{size, setSize, place, setPlace, bottom, top, push, pop, shiftUp, dropTop}
 use Rattle.frames.specs.Steps.{spawn, return, returned, steal, sync, synced}
@@ -45,7 +45,7 @@ answersOf o = answersIn (cond (eqb (o .result) 0) (exchangesFrom (o .answers) 0 
 
 -- without the check
 quickly : answersOf (quickTape example exampleBytes (replicate 20 5) (replicate 18 9)) ≡ (101, 1) ∷ (103, 0) ∷ (106, 5) ∷ (105, 50) ∷ (104, 1) ∷ (10, 0) ∷ (102, 2) ∷ (105, 99) ∷ (102, 3) ∷ []
-unfolding startOn startWith runOn recordsFrom recordOf decodeAt spawnOn returnOn stealOn syncOn readOn writeOn stepOn spawn return returned steal sync synced shiftUp dropTop pop top bottom side child sibling bit leafOf readAt retain release setRefcount pathNode copyPath write initPool initFree initLeaves initInner initLevel setNode height width treeNodes push setSize setPlace size place setFrame frameAt cleared refcount left right value
+unfolding startOn startWith runOn recordsFrom recordOf decodeAt spawnOn returnOn stealOn syncOn readOn writeOn stepOn spawn return returned steal sync synced shiftUp dropTop pop top bottom side child sibling bit leafOf readAt retain release setRefcount pathNode copyPath setValue setLink renew firstShared rest writeFrom write initPool initFree initLeaves initInner initLevel setNode height width treeNodes push setSize setPlace size place setFrame frameAt cleared refcount left right value
 quickly = refl
 
 -- the lines of the example

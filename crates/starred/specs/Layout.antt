@@ -5,7 +5,7 @@ use Prim.Native.Nat.{ℕ, _+_, _*_}
 use lib.ListN.{length, replicate}
 use Rattle.words.specs.Basics.{none, joined}
 use Rattle.sizes.specs.Sizes.{height, width, treeNodes, bit}
-use Rattle.pool.specs.Pool.{refcount, left, right, value, setNode, setRefcount, side, child, sibling, leafOf, readAt, retain, release, pathNode, copyPath, write, initLevel, initInner, initLeaves, initFree, initPool}
+use Rattle.pool.specs.Pool.{refcount, left, right, value, setNode, setRefcount, side, child, sibling, leafOf, readAt, retain, release, pathNode, copyPath, setValue, setLink, renew, firstShared, rest, writeFrom, write, initLevel, initInner, initLeaves, initFree, initPool}
 use Rattle.frames.specs.Frames.{frameAt, setFrame}
 use Rattle.frames.specs.Deques.{size, setSize, place, setPlace, bottom, top, push, pop, shiftUp, dropTop}
 use Rattle.frames.specs.Steps.{spawn, return, returned, steal, sync, synced}
@@ -77,29 +77,67 @@ layoutTable =
       leaves [] (five-of 2 3 8 6 1) (deques (0 ∷ []) []) (frames (live none 0 0 0 0 ∷ []))
           (nodes (inner 1 1 2 ∷ inner 1 3 4 ∷ inner 1 5 none ∷ leaf 1 11 ∷ leaf 1 12 ∷ leaf 1 13 ∷ freeNode 7 ∷ freeNode none ∷ [])),
     )
-    -- "A write always takes H + 1 nodes, root first, builds the new path beside the old siblings": a child writes 91 to splitter 0
+    -- R-2: "From the root down, nodes with one holder are altered where they are; from the first with more holders the rest of the path is
+    -- new", "root first". Two splitters, Main in nodes 0 to 2:
+    -- a child writes 91 to splitter 0. The root is shared: 3 and 4 are new; 0 loses a holder, and the kept sibling 2 gains one
     ∷ (
       runs 1 (11 ∷ 12 ∷ []) 7 (spawns 0 ∷ writes 0 0 91 ∷ []),
       leaves (101 ∷ 1 ∷ 106 ∷ 2 ∷ []) (five-of 1 2 7 5 2) (deques (0 ∷ 1 ∷ []) []) (frames (live none 0 1 0 0 ∷ live 0 1 0 0 3 ∷ []))
           (nodes (inner 1 1 2 ∷ leaf 1 11 ∷ leaf 2 12 ∷ inner 1 4 2 ∷ leaf 1 91 ∷ freeNode 6 ∷ freeNode none ∷ [])),
     )
-    -- "then releases the old root": it writes 92 to splitter 1, and node 3 is free
+    -- it writes 92 to splitter 1. Its root 3 has one holder and is altered where it is; the leaf 2 is shared: 5 is new, and 2 loses a holder
     ∷ (
       runs 1 (11 ∷ 12 ∷ []) 7 (spawns 0 ∷ writes 0 0 91 ∷ writes 0 1 92 ∷ []),
-      leaves (101 ∷ 1 ∷ 106 ∷ 2 ∷ 106 ∷ 1 ∷ []) (five-of 1 2 7 3 2) (deques (0 ∷ 1 ∷ []) []) (frames (live none 0 1 0 0 ∷ live 0 1 0 0 5 ∷ []))
-          (nodes (inner 1 1 2 ∷ leaf 1 11 ∷ leaf 1 12 ∷ freeNode none ∷ leaf 1 91 ∷ inner 1 4 6 ∷ leaf 1 92 ∷ [])),
+      leaves (101 ∷ 1 ∷ 106 ∷ 2 ∷ 106 ∷ 1 ∷ []) (five-of 1 2 7 6 2) (deques (0 ∷ 1 ∷ []) []) (frames (live none 0 1 0 0 ∷ live 0 1 0 0 3 ∷ []))
+          (nodes (inner 1 1 2 ∷ leaf 1 11 ∷ leaf 1 12 ∷ inner 1 4 5 ∷ leaf 1 91 ∷ leaf 1 92 ∷ freeNode none ∷ [])),
     )
-    -- "at zero the node is freed, then its left link is released, then its right": it returns, and 5, 4, 6 are freed in this order
+    -- it writes 93 to splitter 1. No node is shared: 5 has another value
     ∷ (
-      runs 1 (11 ∷ 12 ∷ []) 7 (spawns 0 ∷ writes 0 0 91 ∷ writes 0 1 92 ∷ returns 0 ∷ []),
-      leaves (101 ∷ 1 ∷ 106 ∷ 2 ∷ 106 ∷ 1 ∷ 102 ∷ 0 ∷ []) (five-of 1 2 7 6 1) (deques (0 ∷ []) []) (frames (live none 0 0 0 0 ∷ []))
-          (nodes (inner 1 1 2 ∷ leaf 1 11 ∷ leaf 1 12 ∷ freeNode none ∷ freeNode 5 ∷ freeNode 3 ∷ freeNode 4 ∷ [])),
+      runs 1 (11 ∷ 12 ∷ []) 7 (spawns 0 ∷ writes 0 0 91 ∷ writes 0 1 92 ∷ writes 0 1 93 ∷ []),
+      leaves (101 ∷ 1 ∷ 106 ∷ 2 ∷ 106 ∷ 1 ∷ 106 ∷ 1 ∷ []) (five-of 1 2 7 6 2) (deques (0 ∷ 1 ∷ []) []) (frames (live none 0 1 0 0 ∷ live 0 1 0 0 3 ∷ []))
+          (nodes (inner 1 1 2 ∷ leaf 1 11 ∷ leaf 1 12 ∷ inner 1 4 5 ∷ leaf 1 91 ∷ leaf 1 93 ∷ freeNode none ∷ [])),
     )
-    -- "The last node freed is the first taken.": Main writes 77 to splitter 0 and takes 6, the new root, and 4; 0 and 1 are freed
+    -- "at zero the node is freed, then its left link is released, then its right": it returns, and 3, 4, 5 are freed in this order
     ∷ (
-      runs 1 (11 ∷ 12 ∷ []) 7 (spawns 0 ∷ writes 0 0 91 ∷ writes 0 1 92 ∷ returns 0 ∷ writes 0 0 77 ∷ []),
-      leaves (101 ∷ 1 ∷ 106 ∷ 2 ∷ 106 ∷ 1 ∷ 102 ∷ 0 ∷ 106 ∷ 4 ∷ []) (five-of 1 2 7 1 1) (deques (0 ∷ []) []) (frames (live none 0 0 0 6 ∷ []))
-          (nodes (freeNode 5 ∷ freeNode 0 ∷ leaf 1 12 ∷ freeNode none ∷ leaf 1 77 ∷ freeNode 3 ∷ inner 1 4 2 ∷ [])),
+      runs 1 (11 ∷ 12 ∷ []) 7 (spawns 0 ∷ writes 0 0 91 ∷ writes 0 1 92 ∷ writes 0 1 93 ∷ returns 0 ∷ []),
+      leaves (101 ∷ 1 ∷ 106 ∷ 2 ∷ 106 ∷ 1 ∷ 106 ∷ 1 ∷ 102 ∷ 0 ∷ []) (five-of 1 2 7 5 1) (deques (0 ∷ []) []) (frames (live none 0 0 0 0 ∷ []))
+          (nodes (inner 1 1 2 ∷ leaf 1 11 ∷ leaf 1 12 ∷ freeNode 6 ∷ freeNode 3 ∷ freeNode 4 ∷ freeNode none ∷ [])),
+    )
+    -- Main writes 77 to splitter 0. Its nodes have one holder again: 1 has another value
+    ∷ (
+      runs 1 (11 ∷ 12 ∷ []) 7 (spawns 0 ∷ writes 0 0 91 ∷ writes 0 1 92 ∷ writes 0 1 93 ∷ returns 0 ∷ writes 0 0 77 ∷ []),
+      leaves (101 ∷ 1 ∷ 106 ∷ 2 ∷ 106 ∷ 1 ∷ 106 ∷ 1 ∷ 102 ∷ 0 ∷ 106 ∷ 4 ∷ []) (five-of 1 2 7 5 1) (deques (0 ∷ []) []) (frames (live none 0 0 0 0 ∷ []))
+          (nodes (inner 1 1 2 ∷ leaf 1 77 ∷ leaf 1 12 ∷ freeNode 6 ∷ freeNode 3 ∷ freeNode 4 ∷ freeNode none ∷ [])),
+    )
+    -- "The last node freed is the first taken.": another child writes 94 to splitter 1 and takes 5, its root, and 4
+    ∷ (
+      runs 1 (11 ∷ 12 ∷ []) 7 (spawns 0 ∷ writes 0 0 91 ∷ writes 0 1 92 ∷ writes 0 1 93 ∷ returns 0 ∷ writes 0 0 77 ∷ spawns 0 ∷ writes 0 1 94 ∷ []),
+      leaves (101 ∷ 1 ∷ 106 ∷ 2 ∷ 106 ∷ 1 ∷ 106 ∷ 1 ∷ 102 ∷ 0 ∷ 106 ∷ 4 ∷ 101 ∷ 1 ∷ 106 ∷ 2 ∷ []) (five-of 1 2 7 3 2) (deques (0 ∷ 1 ∷ []) []) (frames (live none 0 1 0 0 ∷ live 0 1 0 0 5 ∷ []))
+          (nodes (inner 1 1 2 ∷ leaf 2 77 ∷ leaf 1 12 ∷ freeNode 6 ∷ leaf 1 94 ∷ inner 1 1 4 ∷ freeNode none ∷ [])),
+    )
+    -- the same where Main writes first, on another worker: its root is 3 then, and 0 is its child's alone, whose write takes no node
+    ∷ (
+      runs 2 (11 ∷ 12 ∷ []) 5 (spawns 0 ∷ steals 1 0 ∷ writes 1 0 91 ∷ writes 0 0 92 ∷ []),
+      leaves (101 ∷ 1 ∷ 103 ∷ 0 ∷ 106 ∷ 0 ∷ 106 ∷ 0 ∷ []) (five-of 2 2 5 none 2) (deques (1 ∷ []) (0 ∷ [])) (frames (live none 0 1 0 3 ∷ live 0 1 0 0 0 ∷ []))
+          (nodes (inner 1 1 2 ∷ leaf 1 92 ∷ leaf 2 12 ∷ inner 1 4 2 ∷ leaf 1 91 ∷ [])),
+    )
+    -- and with three levels: a child's write to splitter 2 takes 6, 7, 8; to 1 it takes 9 and 10, for of its path only the root 6 is its own
+    ∷ (
+      runs 1 (11 ∷ 12 ∷ 13 ∷ []) 12 (spawns 0 ∷ writes 0 2 91 ∷ writes 0 1 92 ∷ []),
+      leaves (101 ∷ 1 ∷ 106 ∷ 3 ∷ 106 ∷ 1 ∷ []) (five-of 1 3 12 11 2) (deques (0 ∷ 1 ∷ []) []) (frames (live none 0 1 0 0 ∷ live 0 1 0 0 6 ∷ []))
+          (nodes (inner 1 1 2 ∷ inner 1 3 4 ∷ inner 1 5 none ∷ leaf 2 11 ∷ leaf 1 12 ∷ leaf 1 13 ∷ inner 1 9 7 ∷ inner 1 8 none ∷ leaf 1 91 ∷ inner 1 3 10 ∷ leaf 1 92 ∷ freeNode none ∷ [])),
+    )
+    -- to 0 it takes 11, for the leaf 3 is shared, and none is free
+    ∷ (
+      runs 1 (11 ∷ 12 ∷ 13 ∷ []) 12 (spawns 0 ∷ writes 0 2 91 ∷ writes 0 1 92 ∷ writes 0 0 93 ∷ []),
+      leaves (101 ∷ 1 ∷ 106 ∷ 3 ∷ 106 ∷ 1 ∷ 106 ∷ 0 ∷ []) (five-of 1 3 12 none 2) (deques (0 ∷ 1 ∷ []) []) (frames (live none 0 1 0 0 ∷ live 0 1 0 0 6 ∷ []))
+          (nodes (inner 1 1 2 ∷ inner 1 3 4 ∷ inner 1 5 none ∷ leaf 1 11 ∷ leaf 1 12 ∷ leaf 1 13 ∷ inner 1 9 7 ∷ inner 1 8 none ∷ leaf 1 91 ∷ inner 1 11 10 ∷ leaf 1 92 ∷ leaf 1 93 ∷ [])),
+    )
+    -- it returns, and 6, 9, 11, 10, 7, 8 are freed in this order
+    ∷ (
+      runs 1 (11 ∷ 12 ∷ 13 ∷ []) 12 (spawns 0 ∷ writes 0 2 91 ∷ writes 0 1 92 ∷ writes 0 0 93 ∷ returns 0 ∷ []),
+      leaves (101 ∷ 1 ∷ 106 ∷ 3 ∷ 106 ∷ 1 ∷ 106 ∷ 0 ∷ 102 ∷ 0 ∷ []) (five-of 1 3 12 8 1) (deques (0 ∷ []) []) (frames (live none 0 0 0 0 ∷ []))
+          (nodes (inner 1 1 2 ∷ inner 1 3 4 ∷ inner 1 5 none ∷ leaf 1 11 ∷ leaf 1 12 ∷ leaf 1 13 ∷ freeNode none ∷ freeNode 10 ∷ freeNode 7 ∷ freeNode 6 ∷ freeNode 11 ∷ freeNode 9 ∷ [])),
     )
     -- "an idle worker takes the top frame of a victim with at least two frames"
     ∷ (
@@ -140,7 +178,7 @@ layoutTable =
 
 -- without the check
 quickly : map (λ (row : Run × After). afterOf (quickTape (row .0 .start) (joined (row .0 .records)) (works (row .0)) (replies (row .0)))) layoutTable ≡ map (λ (row : Run × After). row .1) layoutTable
-unfolding layoutTable startOn startWith runOn recordsFrom recordOf decodeAt spawnOn returnOn stealOn syncOn readOn writeOn stepOn spawn return returned steal sync synced shiftUp dropTop pop top bottom side child sibling bit leafOf readAt retain release setRefcount pathNode copyPath write initPool initFree initLeaves initInner initLevel setNode height width treeNodes push setSize setPlace size place setFrame frameAt cleared refcount left right value
+unfolding layoutTable startOn startWith runOn recordsFrom recordOf decodeAt spawnOn returnOn stealOn syncOn readOn writeOn stepOn spawn return returned steal sync synced shiftUp dropTop pop top bottom side child sibling bit leafOf readAt retain release setRefcount pathNode copyPath setValue setLink renew firstShared rest writeFrom write initPool initFree initLeaves initInner initLevel setNode height width treeNodes push setSize setPlace size place setFrame frameAt cleared refcount left right value
 quickly = refl
 
 pub layout : map (λ (row : Run × After). after (row .0)) layoutTable ≡ map (λ (row : Run × After). row .1) layoutTable

@@ -4,7 +4,8 @@
 -- These never hold together. By the kind of step: 10 (no steal) and 11, 12 (steals); 11, 12, 13 (spawns), 14 (returns) and 15, 16 (reads,
 -- writes), but for 11 with 12 and 15 with 16; 7 and 16, for a write has no unused field. By the frames: 8 and 11 or 14, for a worker
 -- that does not exist has no frame; 10 and 14, for an idle worker has none; 9 and 11, 13 or 14, for no frame lives once Main has
--- returned; 9 and 16, for all nodes are free then, and T(n) is at least H + 1. Of all other pairs there is a row.
+-- returned; 9 and 16, for no frame lives then, so no write is judged by 16. Of all other pairs there is a row. (8 or 10 and 16: a worker
+-- without a frame has no path; the rows are where a write by each frame that lives would be refused by 16.)
 use mathlib.Core.Path.{_≡_, refl, ap, _∙_}
 use mathlib.Core.Bool.{Bool, true, cond, _&&_}
 use mathlib.Core.Logic.{inl, inr}
@@ -16,7 +17,7 @@ use borrow.Author.Tests.{eqb-true}
 use Rattle.words.specs.Basics.{joined, same}
 use Rattle.words.specs.Tests.{decided}
 use Rattle.sizes.specs.Sizes.{height, width, treeNodes, bit}
-use Rattle.pool.specs.Pool.{refcount, left, right, value, setNode, setRefcount, side, child, sibling, leafOf, readAt, retain, release, pathNode, copyPath, write, initLevel, initInner, initLeaves, initFree, initPool}
+use Rattle.pool.specs.Pool.{refcount, left, right, value, setNode, setRefcount, side, child, sibling, leafOf, readAt, retain, release, pathNode, copyPath, setValue, setLink, renew, firstShared, rest, writeFrom, write, initLevel, initInner, initLeaves, initFree, initPool}
 use Rattle.frames.specs.Frames.{frameAt, setFrame}
 use Rattle.frames.specs.Deques.{size, setSize, place, setPlace, bottom, top, push, pop, shiftUp, dropTop}
 use Rattle.frames.specs.Steps.{spawn, return, returned, steal, sync, synced}
@@ -96,7 +97,7 @@ abbrev nested : ℕ → ℕ → List Row
 nested zero d = []
 nested (suc c) d = gives (spawns 0) 101 d ∷ nested c (suc d)
 
--- Main alone on worker 0's deque, worker 1 idle, one free node, which is enough for a write
+-- Main alone on worker 0's deque, worker 1 idle, one node free
 abbrev atStart : Case
 atStart = record {
   start = starts 2 1 2;
@@ -237,11 +238,14 @@ childElsewhere = record {
   after = gives (returns 0) 102 1 ∷ gives (returns 1) 102 3 ∷ [];
 }
 
--- "16. The step is a write and fewer than H + 1 nodes are free.": no node is free
-abbrev noNode : Case
-noNode = record {
+-- 16, by R-2: "From the root down, nodes with one holder are altered where they are; from the first with more holders the rest of the
+-- path is new. Refusal 16 is now given when fewer nodes are free than that rest has."
+--
+-- Of one splitter: Main and its child have the same leaf, and no node is free
+abbrev leafShared : Case
+leafShared = record {
   start = starts 2 1 1;
-  before = [];
+  before = gives (spawns 0) 101 1 ∷ [];
   refused =
       by (writes 0 0 5) 16
       -- "skipping the new path when the written value is equal" is a trap
@@ -251,31 +255,110 @@ noNode = record {
       ∷ by (writes 1 0 5) 10
       ∷ by (writes 0 1 5) 15
       ∷ [];
-  after = gives (reads 0 0) 105 1 ∷ [];
+  -- the child has returned, and Main's write takes no node
+  after = gives (reads 0 0) 105 1 ∷ gives (returns 0) 102 0 ∷ gives (writes 0 0 5) 106 0 ∷ gives (reads 0 0) 105 5 ∷ [];
 }
 
--- H is 1: one node is free, or two
-abbrev oneNode : Case
-oneNode = record { start = starts 1 2 4; before = []; refused = by (writes 0 1 5) 16 ∷ by (writes 0 2 5) 15 ∷ []; after = gives (reads 0 1) 105 1 ∷ [] }
+-- the same of both frames, Main being on worker 1
+abbrev leafSharedElsewhere : Case
+leafSharedElsewhere = record {
+  start = starts 3 1 1;
+  before = gives (spawns 0) 101 1 ∷ gives (steals 1 0) 103 0 ∷ [];
+  refused = by (writes 0 0 5) 16 ∷ by (writes 1 0 5) 16 ∷ by (writes 2 0 5) 10 ∷ by (writes 1 1 5) 15 ∷ [];
+  after = gives (returns 0) 102 1 ∷ gives (writes 1 0 5) 106 0 ∷ gives (reads 1 0) 105 5 ∷ [];
+}
 
-abbrev twoNodes : Case
-twoNodes = record { start = starts 1 2 5; before = []; refused = by (writes 0 2 5) 15 ∷ []; after = gives (writes 0 1 5) 106 2 ∷ gives (reads 0 1) 105 5 ∷ [] }
+-- one node is free: the child's write takes it, also if it writes an equal value, and its next takes none
+abbrev leafFree : Case
+leafFree = record {
+  start = starts 2 1 2;
+  before = gives (spawns 0) 101 1 ∷ [];
+  refused = by (writes 1 0 5) 10 ∷ by (writes 0 1 5) 15 ∷ [];
+  after = gives (writes 0 0 1) 106 0 ∷ gives (writes 0 0 6) 106 0 ∷ gives (reads 0 0) 105 6 ∷ gives (returns 0) 102 0 ∷ gives (reads 0 0) 105 1 ∷ [];
+}
+
+-- Of two splitters: Main and its child have the same root, so the rest of either path has two nodes, and one is free
+abbrev rootShared : Case
+rootShared = record {
+  start = starts 2 2 4;
+  before = gives (spawns 0) 101 1 ∷ [];
+  refused = by (writes 0 0 5) 16 ∷ by (writes 0 1 5) 16 ∷ by (writes 0 1 1) 16 ∷ by (writes 2 1 5) 8 ∷ by (writes 1 1 5) 10 ∷ by (writes 0 2 5) 15 ∷ [];
+  after = gives (reads 0 1) 105 1 ∷ gives (returns 0) 102 0 ∷ gives (writes 0 1 5) 106 1 ∷ gives (reads 0 1) 105 5 ∷ [];
+}
+
+-- two are free
+abbrev rootFree : Case
+rootFree = record {
+  start = starts 2 2 5;
+  before = gives (spawns 0) 101 1 ∷ [];
+  refused = by (writes 1 1 5) 10 ∷ by (writes 0 2 5) 15 ∷ [];
+  after = gives (writes 0 1 5) 106 0 ∷ gives (reads 0 1) 105 5 ∷ [];
+}
+
+-- the child's root is its own, and the leaf of splitter 1 is Main's too: the rest has one node, and none is free
+abbrev onlyLeafShared : Case
+onlyLeafShared = record {
+  start = starts 2 2 5;
+  before = gives (spawns 0) 101 1 ∷ gives (writes 0 0 5) 106 0 ∷ [];
+  refused = by (writes 0 1 5) 16 ∷ by (writes 0 1 1) 16 ∷ by (writes 1 1 5) 10 ∷ by (writes 0 2 5) 15 ∷ [];
+  -- of the path to splitter 0 no node is shared
+  after = gives (writes 0 0 6) 106 0 ∷ gives (reads 0 0) 105 6 ∷ gives (reads 0 1) 105 1 ∷ [];
+}
+
+-- one is free
+abbrev onlyLeafFree : Case
+onlyLeafFree = record {
+  start = starts 2 2 6;
+  before = gives (spawns 0) 101 1 ∷ gives (writes 0 0 5) 106 1 ∷ [];
+  refused = by (writes 1 1 5) 10 ∷ by (writes 0 2 5) 15 ∷ [];
+  after = gives (writes 0 1 5) 106 0 ∷ gives (writes 0 1 6) 106 0 ∷ gives (reads 0 1) 105 6 ∷ gives (returns 0) 102 0 ∷ gives (reads 0 1) 105 1 ∷ [];
+}
+
+-- Of four splitters: the child's root is its own, and the node above the leaves of 2 and 3 is Main's too: two nodes, and one is free. It is
+-- enough for 1, of whose path only the leaf is shared
+abbrev innerShared : Case
+innerShared = record {
+  start = starts 1 4 11;
+  before = gives (spawns 0) 101 1 ∷ gives (writes 0 0 5) 106 1 ∷ [];
+  refused = by (writes 0 2 5) 16 ∷ by (writes 0 3 5) 16 ∷ by (writes 0 4 5) 15 ∷ [];
+  after = gives (writes 0 1 5) 106 0 ∷ gives (reads 0 1) 105 5 ∷ gives (reads 0 3) 105 1 ∷ [];
+}
+
+-- two are free
+abbrev innerFree : Case
+innerFree = record {
+  start = starts 1 4 12;
+  before = gives (spawns 0) 101 1 ∷ gives (writes 0 0 5) 106 2 ∷ [];
+  refused = by (writes 0 4 5) 15 ∷ [];
+  after = gives (writes 0 3 5) 106 0 ∷ gives (reads 0 3) 105 5 ∷ by (writes 0 2 6) 16 ∷ [];
+}
 
 pub workersTable : List Case
 workersTable = atStart ∷ eightWorkers ∷ mainReturned ∷ twoFrames ∷ []
 
 workers-quickly : map seenQuick workersTable ≡ map said workersTable
-unfolding workersTable startOn startWith runOn recordsFrom recordOf decodeAt spawnOn returnOn stealOn syncOn readOn writeOn stepOn spawn return returned steal sync synced shiftUp dropTop pop top bottom side child sibling bit leafOf readAt retain release setRefcount pathNode copyPath write initPool initFree initLeaves initInner initLevel setNode height width treeNodes push setSize setPlace size place setFrame frameAt cleared refcount left right value
+unfolding workersTable startOn startWith runOn recordsFrom recordOf decodeAt spawnOn returnOn stealOn syncOn readOn writeOn stepOn spawn return returned steal sync synced shiftUp dropTop pop top bottom side child sibling bit leafOf readAt retain release setRefcount pathNode copyPath setValue setLink renew firstShared rest writeFrom write initPool initFree initLeaves initInner initLevel setNode height width treeNodes push setSize setPlace size place setFrame frameAt cleared refcount left right value
 workers-quickly = refl
 
 pub workers-refusals : map seen workersTable ≡ map said workersTable
 workers-refusals = (λ i. map (λ (k : Case). seen-quick k i) workersTable) ∙ workers-quickly
 
 pub nodesTable : List Case
-nodesTable = childElsewhere ∷ noNode ∷ oneNode ∷ twoNodes ∷ []
+nodesTable =
+    childElsewhere
+    ∷ leafShared
+    ∷ leafSharedElsewhere
+    ∷ leafFree
+    ∷ rootShared
+    ∷ rootFree
+    ∷ onlyLeafShared
+    ∷ onlyLeafFree
+    ∷ innerShared
+    ∷ innerFree
+    ∷ []
 
 nodes-quickly : map seenQuick nodesTable ≡ map said nodesTable
-unfolding nodesTable startOn startWith runOn recordsFrom recordOf decodeAt spawnOn returnOn stealOn syncOn readOn writeOn stepOn spawn return returned steal sync synced shiftUp dropTop pop top bottom side child sibling bit leafOf readAt retain release setRefcount pathNode copyPath write initPool initFree initLeaves initInner initLevel setNode height width treeNodes push setSize setPlace size place setFrame frameAt cleared refcount left right value
+unfolding nodesTable startOn startWith runOn recordsFrom recordOf decodeAt spawnOn returnOn stealOn syncOn readOn writeOn stepOn spawn return returned steal sync synced shiftUp dropTop pop top bottom side child sibling bit leafOf readAt retain release setRefcount pathNode copyPath setValue setLink renew firstShared rest writeFrom write initPool initFree initLeaves initInner initLevel setNode height width treeNodes push setSize setPlace size place setFrame frameAt cleared refcount left right value
 nodes-quickly = refl
 
 pub nodes-refusals : map seen nodesTable ≡ map said nodesTable
@@ -299,7 +382,7 @@ framesTable =
     ∷ [])
 
 frames-quickly : playedQuick (starts 2 1 1) framesTable .answers ≡ saidOf framesTable
-unfolding framesTable startOn startWith runOn recordsFrom recordOf decodeAt spawnOn returnOn stealOn syncOn readOn writeOn stepOn spawn return returned steal sync synced shiftUp dropTop pop top bottom side child sibling bit leafOf readAt retain release setRefcount pathNode copyPath write initPool initFree initLeaves initInner initLevel setNode height width treeNodes push setSize setPlace size place setFrame frameAt cleared refcount left right value
+unfolding framesTable startOn startWith runOn recordsFrom recordOf decodeAt spawnOn returnOn stealOn syncOn readOn writeOn stepOn spawn return returned steal sync synced shiftUp dropTop pop top bottom side child sibling bit leafOf readAt retain release setRefcount pathNode copyPath setValue setLink renew firstShared rest writeFrom write initPool initFree initLeaves initInner initLevel setNode height width treeNodes push setSize setPlace size place setFrame frameAt cleared refcount left right value
 frames-quickly = refl
 
 pub frames-refusals : played (starts 2 1 1) framesTable .answers ≡ saidOf framesTable
@@ -352,7 +435,10 @@ stepTable =
     ∷ enters (starts 2 1 2) (nested 63 1) 1 0 0 0 13 0
     ∷ enters (starts 2 1 2) (gives (spawns 0) 101 1 ∷ gives (steals 1 0) 103 0 ∷ []) 2 1 0 0 14 0
     ∷ enters (starts 2 1 2) [] 5 0 1 0 15 0
-    ∷ enters (starts 2 1 1) [] 6 0 0 5 16 0
+    ∷ enters (starts 2 1 1) (gives (spawns 0) 101 1 ∷ []) 6 0 0 5 16 0
+    ∷ enters (starts 2 1 1) (gives (spawns 0) 101 1 ∷ []) 6 0 0 1 16 0
+    ∷ enters (starts 2 1 2) (gives (spawns 0) 101 1 ∷ []) 6 0 0 5 106 0
+    ∷ enters (starts 2 1 1) [] 6 0 0 5 106 0
     ∷ enters (starts 2 1 2) [] 6 0 0 5 106 1
     ∷ enters (starts 2 1 2) [] 5 0 0 0 105 1
     -- a number that its field in a record could not hold
@@ -381,7 +467,7 @@ step-quick r = elim (decided (eqb (startResult (r .start) .result) 0)) [
 ]
 
 step-quickly : map stepQuick stepTable ≡ map (λ (row : StepRow). (row .words, true)) stepTable
-unfolding stepTable startOn startWith runOn recordsFrom recordOf decodeAt spawnOn returnOn stealOn syncOn readOn writeOn stepOn spawn return returned steal sync synced shiftUp dropTop pop top bottom side child sibling bit leafOf readAt retain release setRefcount pathNode copyPath write initPool initFree initLeaves initInner initLevel setNode height width treeNodes push setSize setPlace size place setFrame frameAt cleared refcount left right value
+unfolding stepTable startOn startWith runOn recordsFrom recordOf decodeAt spawnOn returnOn stealOn syncOn readOn writeOn stepOn spawn return returned steal sync synced shiftUp dropTop pop top bottom side child sibling bit leafOf readAt retain release setRefcount pathNode copyPath setValue setLink renew firstShared rest writeFrom write initPool initFree initLeaves initInner initLevel setNode height width treeNodes push setSize setPlace size place setFrame frameAt cleared refcount left right value
 step-quickly = refl
 
 pub step-refusals : map stepSeen stepTable ≡ map (λ (row : StepRow). (row .words, true)) stepTable

@@ -1,4 +1,4 @@
--- Document 01's starred edges, through the start and the tape: one table, one theorem.
+-- Document 01's starred edges as document 02 changes them, through the start and the tape: one table, one theorem.
 use mathlib.Core.Path.{_≡_, refl, _∙_}
 use mathlib.Core.Bool.{cond}
 use mathlib.Core.List.{List, [], _∷_, _++_, map}
@@ -7,7 +7,7 @@ use lib.ListN.{length, replicate}
 use lib.Dec.{eqb}
 use Rattle.words.specs.Basics.{joined}
 use Rattle.sizes.specs.Sizes.{height, width, treeNodes, bit}
-use Rattle.pool.specs.Pool.{refcount, left, right, value, setNode, setRefcount, side, child, sibling, leafOf, readAt, retain, release, pathNode, copyPath, write, initLevel, initInner, initLeaves, initFree, initPool}
+use Rattle.pool.specs.Pool.{refcount, left, right, value, setNode, setRefcount, side, child, sibling, leafOf, readAt, retain, release, pathNode, copyPath, setValue, setLink, renew, firstShared, rest, writeFrom, write, initLevel, initInner, initLeaves, initFree, initPool}
 use Rattle.frames.specs.Frames.{frameAt, setFrame}
 use Rattle.frames.specs.Deques.{size, setSize, place, setPlace, bottom, top, push, pop, shiftUp, dropTop}
 use Rattle.frames.specs.Steps.{spawn, return, returned, steal, sync, synced}
@@ -72,12 +72,14 @@ table =
       starts 2 five 20 (spawns 0 ∷ steals 1 0 ∷ writes 1 4 99 ∷ reads 0 4 ∷ syncs 1 ∷ reads 1 4 ∷ returns 0 ∷ reads 0 4 ∷ returns 0 ∷ []),
       answered 20 (101 ∷ 1 ∷ 103 ∷ 0 ∷ 106 ∷ 5 ∷ 105 ∷ 50 ∷ 104 ∷ 1 ∷ 10 ∷ 0 ∷ 102 ∷ 2 ∷ 105 ∷ 99 ∷ 102 ∷ 3 ∷ []),
     )
-    -- "n 1, one node: write refused 16; two nodes: accepted, 106 1."
-    ∷ (starts 1 (7 ∷ []) 1 (writes 0 0 5 ∷ []), answered 1 (16 ∷ 0 ∷ []))
+    -- R-2: "n 5 with 11 nodes now accepts a first write, 106 0; so do one node with n 1 and 14 nodes with n 5, with 106 0 and 106 3."
+    ∷ (starts 1 five 11 (writes 0 0 5 ∷ []), answered 11 (106 ∷ 0 ∷ []))
+    ∷ (starts 1 (7 ∷ []) 1 (writes 0 0 5 ∷ []), answered 1 (106 ∷ 0 ∷ []))
+    ∷ (starts 1 five 14 (writes 0 0 5 ∷ []), answered 14 (106 ∷ 3 ∷ []))
+    -- the others of these edges stay. n 1, "two nodes: accepted, 106 1."
     ∷ (starts 1 (7 ∷ []) 2 (writes 0 0 5 ∷ []), answered 2 (106 ∷ 1 ∷ []))
-    -- "n 5, 10 nodes: refused 3; 14 nodes: write refused 16; 15: 106 4."
+    -- "n 5, 10 nodes: refused 3"; "15: 106 4."
     ∷ (starts 1 five 10 (writes 0 0 5 ∷ []), refusedBy 3)
-    ∷ (starts 1 five 14 (writes 0 0 5 ∷ []), answered 14 (16 ∷ 0 ∷ []))
     ∷ (starts 1 five 15 (writes 0 0 5 ∷ []), answered 15 (106 ∷ 4 ∷ []))
     -- "n 0 and n 257: refused 1."
     ∷ (starts 1 [] 20 [], refusedBy 1)
@@ -88,11 +90,31 @@ table =
     ∷ (starts 2 five 20 (steals 1 0 ∷ []), answered 20 (12 ∷ 0 ∷ []))
     -- "Return by Main while its child runs elsewhere: 14."
     ∷ (starts 2 five 20 (spawns 0 ∷ steals 1 0 ∷ returns 1 ∷ []), answered 20 (101 ∷ 1 ∷ 103 ∷ 0 ∷ 14 ∷ 0 ∷ []))
+    -- R-2: "A write pays only for what is shared." A frame that shares with none writes where its nodes are, however often
+    ∷ (
+      starts 1 five 11 (writes 0 4 61 ∷ writes 0 4 62 ∷ writes 0 0 63 ∷ reads 0 4 ∷ reads 0 0 ∷ reads 0 1 ∷ []),
+      answered 11 (106 ∷ 0 ∷ 106 ∷ 0 ∷ 106 ∷ 0 ∷ 105 ∷ 62 ∷ 105 ∷ 63 ∷ 105 ∷ 20 ∷ []),
+    )
+    -- after a spawn the child's first write takes a path, 4 nodes, its second none; Main's takes none then, for it has the old path alone
+    ∷ (
+      starts 2 five 15 (spawns 0 ∷ steals 1 0 ∷ writes 0 4 61 ∷ writes 0 4 62 ∷ reads 0 4 ∷ reads 1 4 ∷ writes 1 4 71 ∷ reads 1 4 ∷ reads 0 4 ∷ []),
+      answered 15 (101 ∷ 1 ∷ 103 ∷ 0 ∷ 106 ∷ 0 ∷ 106 ∷ 0 ∷ 105 ∷ 62 ∷ 105 ∷ 50 ∷ 106 ∷ 0 ∷ 105 ∷ 71 ∷ 105 ∷ 62 ∷ []),
+    )
+    -- the same with Main first; when the child returns, the 2 nodes that it held alone are free
+    ∷ (
+      starts 2 (7 ∷ 8 ∷ []) 5 (spawns 0 ∷ steals 1 0 ∷ writes 1 1 61 ∷ writes 1 1 62 ∷ reads 1 1 ∷ reads 0 1 ∷ writes 0 1 71 ∷ reads 0 1 ∷ reads 1 1 ∷ returns 0 ∷ writes 1 1 63 ∷ []),
+      answered 5 (101 ∷ 1 ∷ 103 ∷ 0 ∷ 106 ∷ 0 ∷ 106 ∷ 0 ∷ 105 ∷ 62 ∷ 105 ∷ 8 ∷ 106 ∷ 0 ∷ 105 ∷ 71 ∷ 105 ∷ 62 ∷ 102 ∷ 1 ∷ 106 ∷ 2 ∷ []),
+    )
+    -- the child's writes to 4, 0 and 1 take 4 nodes, 3 and 1: what its paths still share with Main's; Main's write to 0 takes none
+    ∷ (
+      starts 2 five 20 (spawns 0 ∷ steals 1 0 ∷ writes 0 4 61 ∷ writes 0 0 62 ∷ writes 0 1 63 ∷ writes 1 0 71 ∷ reads 0 0 ∷ reads 1 0 ∷ reads 1 4 ∷ []),
+      answered 20 (101 ∷ 1 ∷ 103 ∷ 0 ∷ 106 ∷ 5 ∷ 106 ∷ 2 ∷ 106 ∷ 1 ∷ 106 ∷ 1 ∷ 105 ∷ 62 ∷ 105 ∷ 71 ∷ 105 ∷ 50 ∷ []),
+    )
     ∷ []
 
 -- without the check
 quickly : map (λ (row : Case × Outcome). told (row .0) (quickTape (startOf (row .0)) (joined (row .0 .records)) (works (row .0)) (replies (row .0)))) table ≡ map (λ (row : Case × Outcome). row .1) table
-unfolding table startOn startWith runOn recordsFrom recordOf decodeAt spawnOn returnOn stealOn syncOn readOn writeOn stepOn spawn return returned steal sync synced shiftUp dropTop pop top bottom side child sibling bit leafOf readAt retain release setRefcount pathNode copyPath write initPool initFree initLeaves initInner initLevel setNode height width treeNodes push setSize setPlace size place setFrame frameAt cleared refcount left right value
+unfolding table startOn startWith runOn recordsFrom recordOf decodeAt spawnOn returnOn stealOn syncOn readOn writeOn stepOn spawn return returned steal sync synced shiftUp dropTop pop top bottom side child sibling bit leafOf readAt retain release setRefcount pathNode copyPath setValue setLink renew firstShared rest writeFrom write initPool initFree initLeaves initInner initLevel setNode height width treeNodes push setSize setPlace size place setFrame frameAt cleared refcount left right value
 quickly = refl
 
 pub starred : map (λ (row : Case × Outcome). outcome (row .0)) table ≡ map (λ (row : Case × Outcome). row .1) table
