@@ -44,7 +44,7 @@ pub const FAULTS: &[Fault] = &[
     },
     Fault {
         name: "equal_write_takes_none",
-        says: "a write of an equal value takes no nodes",
+        says: "a write of an equal value takes no nodes, shared or not",
         file: "machine.rs",
         rule: "frame.values[splitter] = value;\n        frame.history.push(id, splitter);",
         fault: "if frame.values[splitter] != value { \
@@ -54,22 +54,107 @@ pub const FAULTS: &[Fault] = &[
         name: "unshared_trees",
         says: "nodes in use are live frames times T(n)",
         file: "machine.rs",
-        rule: "let count = history::nodes_in_use(self.histories(), self.splitters);",
-        fault: "let count = self.nodes.min(self.frames.len() * shape::tree_nodes(self.splitters));",
+        rule: "let count = history::nodes_in_use(live, self.splitters);",
+        fault: "let count = self.nodes.min(live.len() * shape::tree_nodes(self.splitters));",
     },
     Fault {
-        name: "short_path",
-        says: "16 is tested with H instead of H + 1",
+        name: "two_frames_in_place",
+        says: "a path that just two frames share is altered in place, so in both",
         file: "machine.rs",
-        rule: "self.free_nodes() < shape::path_nodes(self.splitters)",
-        fault: "self.free_nodes() < shape::height(self.splitters)",
+        rule: "self.writes_made += 1;",
+        fault: "let own = self.frames[&frame_id].history.clone(); \
+                let holders: Vec<FrameId> = self.histories() \
+                .filter(|(_, other)| other.shares(&own, 0, splitter)) \
+                .map(|(id, _)| id).collect(); \
+                if holders.len() == 2 { \
+                for id in holders { self.frame_mut(id).values[splitter] = value; } \
+                return self.free_nodes() as u32; } \
+                self.writes_made += 1;",
     },
     Fault {
-        name: "long_path",
-        says: "16 is tested with H + 2 instead of H + 1",
+        name: "shared_leaf_in_place",
+        says: "a shared leaf is altered in place where all nodes above it are the frame's own",
         file: "machine.rs",
-        rule: "self.free_nodes() < shape::path_nodes(self.splitters)",
-        fault: "self.free_nodes() < shape::path_nodes(self.splitters) + 1",
+        rule: "self.writes_made += 1;",
+        fault: "if self.splitters > 1 && self.shared_nodes(frame_id, splitter) == 1 { \
+                let own = self.frames[&frame_id].history.clone(); \
+                for f in self.frames.values_mut() { \
+                if f.history.shares(&own, 0, splitter) { f.values[splitter] = value; } } \
+                return self.free_nodes() as u32; } \
+                self.writes_made += 1;",
+    },
+    Fault {
+        name: "two_frames_uncounted",
+        says: "a write to a path that just two frames share adds nothing to the count",
+        file: "machine.rs",
+        rule: "frame.history.push(id, splitter);",
+        fault: "let own = frame.history.clone(); \
+                let sharing = self.histories() \
+                .filter(|(_, other)| other.shares(&own, 0, splitter)).count(); \
+                if sharing != 2 { self.frame_mut(frame_id).history.push(id, splitter); }",
+    },
+    Fault {
+        name: "path_taken_again",
+        says: "a second write takes a path again, and the old one is not freed",
+        file: "machine.rs",
+        rule: "self.writes_made += 1;",
+        fault: "let path = shape::path_nodes(self.splitters); \
+                if self.shared_nodes(frame_id, splitter) == 0 && self.free_nodes() >= path { \
+                self.nodes -= path; } \
+                self.writes_made += 1;",
+    },
+    Fault {
+        name: "path_always_16",
+        says: "16 is tested with H + 1 nodes, as before R-2",
+        file: "machine.rs",
+        rule: "self.nodes_after_write(bottom, usize::from(splitter)) > self.nodes",
+        fault: "self.free_nodes() < shape::path_nodes(self.splitters)",
+    },
+    Fault {
+        name: "whole_path_16",
+        says: "16 is tested with H + 1 nodes if any node of the path is shared",
+        file: "machine.rs",
+        rule: "self.nodes_after_write(bottom, usize::from(splitter)) > self.nodes",
+        fault: "self.shared_nodes(bottom, usize::from(splitter)) > 0 \
+                && self.free_nodes() < shape::path_nodes(self.splitters)",
+    },
+    Fault {
+        name: "full_pool_16",
+        says: "every write is refused 16 when no node is free",
+        file: "machine.rs",
+        rule: "self.nodes_after_write(bottom, usize::from(splitter)) > self.nodes",
+        fault: "self.nodes_after_write(bottom, usize::from(splitter)) > self.nodes \
+                || self.free_nodes() == 0",
+    },
+    Fault {
+        name: "strict_16",
+        says: "16 is given when a write would take the last free node",
+        file: "machine.rs",
+        rule: "self.nodes_after_write(bottom, usize::from(splitter)) > self.nodes",
+        fault: "self.shared_nodes(bottom, usize::from(splitter)) > 0 \
+                && self.nodes_after_write(bottom, usize::from(splitter)) >= self.nodes",
+    },
+    Fault {
+        name: "late_16",
+        says: "16 is given one node too late",
+        file: "machine.rs",
+        rule: "self.nodes_after_write(bottom, usize::from(splitter)) > self.nodes",
+        fault: "self.nodes_after_write(bottom, usize::from(splitter)) > self.nodes + 1",
+    },
+    Fault {
+        name: "count_before_16",
+        says: "16 is tested with the count before the write",
+        file: "machine.rs",
+        rule: "self.nodes_after_write(bottom, usize::from(splitter)) > self.nodes",
+        fault: "self.nodes_in_use() > self.nodes",
+    },
+    Fault {
+        name: "free_before",
+        says: "a write is answered with the nodes that were free before it",
+        file: "machine.rs",
+        rule: "frame.history.push(id, splitter);\n        self.free_nodes() as u32",
+        fault: "let before = self.free_nodes() as u32; \
+                self.frame_mut(frame_id).history.push(id, splitter); before",
     },
     Fault {
         name: "outcome_1_for_2",
@@ -127,8 +212,9 @@ pub const FAULTS: &[Fault] = &[
         name: "suspended_not_counted",
         says: "nodes that only suspended frames hold count as free",
         file: "machine.rs",
-        rule: "self.frames.values().map(|frame| &frame.history)",
-        fault: "self.frames.values().filter(|f| !f.suspended).map(|frame| &frame.history)",
+        rule: "self.frames.iter().map(|(id, frame)| (*id, &frame.history))",
+        fault: "self.frames.iter().filter(|(_, frame)| !frame.suspended) \
+                .map(|(id, frame)| (*id, &frame.history))",
     },
     Fault {
         name: "resumed_early",

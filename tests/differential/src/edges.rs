@@ -1,7 +1,9 @@
-//! The edges of document 01, starred or not, and the edges of its refusals
-//! and lines. Every expected line is written by hand from the document.
+//! The edges of document 01, as R-2 of document 02 changes them, starred or
+//! not, and the edges of its refusals and lines. Every expected line is
+//! written by hand from the documents.
 
 mod lengths;
+mod shared;
 
 use crate::record::{Record, Step};
 use crate::splitrun::{header, Input, HEADER_BYTES};
@@ -29,6 +31,7 @@ pub fn all() -> Vec<Edge> {
     edges.extend(outcomes());
     edges.extend(traps());
     edges.extend(pools());
+    edges.extend(shared::shared());
     edges
 }
 
@@ -130,10 +133,10 @@ fn starred() -> Vec<Edge> {
             "free 20",
         ),
         run(
-            "n 1, one node: write refused 16",
+            "n 1, one node: 106 0",
             (1, 1, &[7]),
             "1 1 1",
-            &[(write(0, 0, 8), "16 0"), (read(0, 0), "105 7")],
+            &[(write(0, 0, 8), "106 0"), (read(0, 0), "105 8")],
             "free 0",
         ),
         run(
@@ -149,10 +152,17 @@ fn starred() -> Vec<Edge> {
             &["1 5 10", "refused 3"],
         ),
         run(
-            "n 5, 14 nodes: write refused 16",
+            "n 5, 11 nodes: 106 0",
+            (1, 11, &TENS),
+            "1 5 11",
+            &[(write(0, 2, 8), "106 0"), (read(0, 2), "105 8")],
+            "free 0",
+        ),
+        run(
+            "n 5, 14 nodes: 106 3",
             (1, 14, &TENS),
             "1 5 14",
-            &[(write(0, 2, 8), "16 0"), (read(0, 2), "105 30")],
+            &[(write(0, 2, 8), "106 3"), (read(0, 2), "105 8")],
             "free 3",
         ),
         run(
@@ -326,8 +336,8 @@ fn starts() -> Vec<Edge> {
     ]
 }
 
-/// A pool of T(n) nodes is accepted, one node fewer is refused 3; a write
-/// needs H + 1 nodes more.
+/// A pool of T(n) nodes is accepted and takes a write, one node fewer is
+/// refused 3; a child's first write needs H + 1 nodes more.
 fn tree_sizes() -> Vec<Edge> {
     // n, T(n) - 1, T(n), T(n) + H, T(n) + H + 1
     let figures = [
@@ -358,27 +368,39 @@ fn tree_size((n, short, tree, no_path, path): (usize, u32, u32, u32, u32)) -> [E
             &[&format!("1 {n} {short}"), "refused 3"],
         ),
         run(
-            format!("n {n}, {tree} nodes: accepted"),
+            format!("n {n}, {tree} nodes: write accepted"),
             (1, tree, &values),
             &format!("1 {n} {tree}"),
-            &[(read(0, last), "105 3")],
+            &[
+                (read(0, last), "105 3"),
+                (write(0, last, 4), "106 0"),
+                (read(0, last), "105 4"),
+            ],
             "free 0",
         ),
         run(
-            format!("n {n}, {no_path} nodes: write refused 16"),
+            format!("n {n}, {no_path} nodes: a child's write refused 16"),
             (1, no_path, &values),
             &format!("1 {n} {no_path}"),
-            &[(write(0, last, 4), "16 0"), (read(0, last), "105 3")],
+            &[
+                (spawn(0), "101 1"),
+                (write(0, last, 4), "16 0"),
+                (read(0, last), "105 3"),
+            ],
             &format!("free {}", no_path - tree),
         ),
-        edge(
-            format!("n {n}, {path} nodes: write accepted"),
-            bytes(1, path, &values, &write(0, last, 4)),
+        run(
+            format!("n {n}, {path} nodes: a child's write accepted"),
+            (1, path, &values),
+            &format!("1 {n} {path}"),
             &[
-                &format!("1 {n} {path}"),
-                &format!("106 {}", path - tree),
-                &format!("free {}", path - tree),
+                (spawn(0), "101 1"),
+                (write(0, last, 4), "106 0"),
+                (read(0, last), "105 4"),
+                (ret(0), "102 0"),
+                (read(0, last), "105 3"),
             ],
+            &format!("free {}", path - tree),
         ),
     ]
 }
@@ -669,7 +691,7 @@ fn checking_order() -> Vec<Edge> {
             "free 20",
         ),
         run(
-            "10 before 15 and 16",
+            "10 before 15, and with no node free",
             (2, 11, &TENS),
             "2 5 11",
             &[
@@ -690,7 +712,11 @@ fn checking_order() -> Vec<Edge> {
             "15 before 16",
             (1, 1, &[7]),
             "1 1 1",
-            &[(write(0, 1, 8), "15 0"), (write(0, 0, 8), "16 0")],
+            &[
+                (spawn(0), "101 1"),
+                (write(0, 1, 8), "15 0"),
+                (write(0, 0, 8), "16 0"),
+            ],
             "free 0",
         ),
     ]
@@ -852,8 +878,11 @@ fn traps() -> Vec<Edge> {
             ],
             "free 9",
         ),
+        // The child's path to 4 leaves the old one to Main alone; of Main's
+        // path to 0 all but the root is then shared, of that to 1 the leaf,
+        // of that to 2 two nodes.
         run(
-            "a write of an equal value takes a path too",
+            "a write of an equal value takes what is shared of the path",
             (2, 20, &TENS),
             "2 5 20",
             &[
@@ -862,15 +891,21 @@ fn traps() -> Vec<Edge> {
                 (steal(1, 0), "103 0"),
                 (write(1, 4, 50), "106 5"),
                 (write(1, 0, 10), "106 2"),
-                (write(1, 0, 10), "16 0"),
+                (write(1, 0, 10), "106 2"),
+                (write(1, 1, 20), "106 1"),
+                (write(1, 2, 30), "16 0"),
             ],
-            "free 2",
+            "free 1",
         ),
         run(
-            "a write of an equal value needs a path",
+            "a write of an equal value needs what is shared of the path",
             (1, 14, &TENS),
             "1 5 14",
-            &[(write(0, 4, 50), "16 0")],
+            &[
+                (write(0, 4, 50), "106 3"),
+                (spawn(0), "101 1"),
+                (write(0, 4, 50), "16 0"),
+            ],
             "free 3",
         ),
         run(
@@ -901,8 +936,9 @@ fn pools() -> Vec<Edge> {
                 (write(0, 4, 1), "106 5"),
                 (spawn(0), "101 2"),
                 (write(0, 0, 2), "106 1"),
-                (write(0, 1, 3), "16 0"),
-                (read(0, 1), "105 20"),
+                (write(0, 1, 3), "106 0"),
+                (write(0, 2, 3), "16 0"),
+                (read(0, 2), "105 30"),
                 (ret(0), "102 0"),
                 (spawn(0), "101 2"),
                 (write(0, 0, 4), "106 1"),
@@ -925,7 +961,8 @@ fn pools() -> Vec<Edge> {
                 (write(0, 4, 1), "106 5"),
                 (spawn(0), "101 2"),
                 (write(0, 4, 2), "106 1"),
-                (write(0, 4, 3), "16 0"),
+                (write(0, 4, 3), "106 1"),
+                (write(0, 0, 3), "16 0"),
                 (ret(0), "102 0"),
                 (ret(0), "102 2"),
                 (read(0, 4), "105 99"),

@@ -70,6 +70,11 @@ impl History {
         }
     }
 
+    /// Is the last write to a member of the group the same in both?
+    pub fn shares(&self, other: &History, level: usize, group: usize) -> bool {
+        self.last[level][group] == other.last[level][group]
+    }
+
     /// "The last write in that frame's history to a member of the group",
     /// searched for in the whole history.
     fn last_write(&self, level: usize, group: usize) -> WriteId {
@@ -88,7 +93,7 @@ fn groups(splitters: usize) -> impl Iterator<Item = (usize, usize)> {
 /// "Nodes in use are the distinct triples, over all live frames, of a level
 /// l, a group and the last write in that frame's history to a member of the
 /// group." Counted plainly, with no cache.
-pub fn recount_nodes_in_use<'a>(live: impl Iterator<Item = &'a History>) -> usize {
+pub fn recount_nodes_in_use(live: &[&History]) -> usize {
     let mut triples = BTreeSet::new();
     for history in live {
         for (level, group) in groups(history.splitters) {
@@ -99,8 +104,7 @@ pub fn recount_nodes_in_use<'a>(live: impl Iterator<Item = &'a History>) -> usiz
 }
 
 /// The same count from the cached last writes.
-pub fn nodes_in_use<'a>(live: impl Iterator<Item = &'a History>, splitters: usize) -> usize {
-    let live: Vec<&History> = live.collect();
+pub fn nodes_in_use(live: &[&History], splitters: usize) -> usize {
     let mut writes = Vec::new();
     let mut count = 0;
     for (level, group) in groups(splitters) {

@@ -1,5 +1,6 @@
-//! Document 01's plain machine: each live frame has its own full list of
-//! values and its whole history, and nodes in use are counted from those.
+//! Document 01's plain machine, with R-2 of document 02: each live frame has
+//! its own full list of values and its whole history, and nodes in use are
+//! counted from those.
 
 use super::history::{self, History, WriteId};
 use super::record::Step;
@@ -112,7 +113,7 @@ impl Machine {
             Step::Spawn { .. } => self.check_spawn(),
             Step::Return { .. } => self.check_return(bottom),
             Step::Read { splitter, .. } => self.check_splitter(splitter),
-            Step::Write { splitter, .. } => self.check_write(splitter),
+            Step::Write { splitter, .. } => self.check_write(bottom, splitter),
             Step::Steal { .. } | Step::Sync { .. } => Ok(()),
         }
     }
@@ -148,9 +149,11 @@ impl Machine {
         Ok(())
     }
 
-    fn check_write(&self, splitter: u16) -> Result<(), Refusal> {
+    /// R-2: "It gives 16 when the write would bring that count above the
+    /// pool's nodes."
+    fn check_write(&self, bottom: FrameId, splitter: u16) -> Result<(), Refusal> {
         self.check_splitter(splitter)?;
-        if self.free_nodes() < shape::path_nodes(self.splitters) {
+        if self.nodes_after_write(bottom, usize::from(splitter)) > self.nodes {
             return Err(Refusal::TooFewNodes);
         }
         Ok(())
@@ -267,15 +270,43 @@ impl Machine {
     }
 
     fn nodes_in_use(&self) -> usize {
-        let count = history::nodes_in_use(self.histories(), self.splitters);
+        let live: Vec<&History> = self.histories().map(|(_, history)| history).collect();
+        self.count(&live)
+    }
+
+    /// The nodes in use after a write to the splitter by this frame.
+    fn nodes_after_write(&self, writer: FrameId, splitter: usize) -> usize {
+        let mut written = self.frames[&writer].history.clone();
+        written.push(self.writes_made + 1, splitter);
+        let live: Vec<&History> = self
+            .histories()
+            .map(|(frame, history)| if frame == writer { &written } else { history })
+            .collect();
+        self.count(&live)
+    }
+
+    fn count(&self, live: &[&History]) -> usize {
+        let count = history::nodes_in_use(live, self.splitters);
         if self.counting == Counting::Recounted {
-            assert_eq!(count, history::recount_nodes_in_use(self.histories()));
+            assert_eq!(count, history::recount_nodes_in_use(live));
         }
         count
     }
 
-    fn histories(&self) -> impl Iterator<Item = &History> {
-        self.frames.values().map(|frame| &frame.history)
+    fn histories(&self) -> impl Iterator<Item = (FrameId, &History)> {
+        self.frames.iter().map(|(id, frame)| (*id, &frame.history))
+    }
+
+    /// The nodes of the path to the splitter that another live frame's tree
+    /// has too: R-2's "rest of the path", which a write takes anew. The
+    /// machine does not ask for it, only the generator and the tallies do.
+    pub fn shared_nodes(&self, frame: FrameId, splitter: usize) -> usize {
+        let own = &self.frames[&frame].history;
+        let shared = |level: &usize| {
+            self.histories()
+                .any(|(id, other)| id != frame && other.shares(own, *level, splitter >> level))
+        };
+        (0..=shape::height(self.splitters)).filter(shared).count()
     }
 
     /// "A frame's outstanding count is the number of its live children."

@@ -29,7 +29,8 @@ pub enum Refusal {
     LiveChild = 14,
     /// "The step is a read or a write and the splitter is not below n."
     Splitter = 15,
-    /// "The step is a write and fewer than H + 1 nodes are free."
+    /// The step is a write, and fewer nodes are free than "the rest of the
+    /// path" has that must be new (R-2 of document 02).
     TooFewNodes = 16,
 }
 

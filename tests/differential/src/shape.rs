@@ -21,7 +21,7 @@ pub fn tree_nodes(splitters: usize) -> usize {
         .sum()
 }
 
-/// "A write always takes H + 1 nodes."
+/// A path from the root to a leaf.
 pub fn path_nodes(splitters: usize) -> usize {
     height(splitters) + 1
 }
