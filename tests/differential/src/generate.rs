@@ -1,12 +1,14 @@
 //! Seeded inputs for splitrun. The generator runs the plain machine beside
 //! the tape it writes, so that most steps mean something.
 
-use crate::machine::{Counting, Machine, MAIN};
+use crate::machine::{Counting, FrameId, Machine, MAIN};
 use crate::random::Random;
 use crate::record::{self, Record, Step, RECORD_BYTES};
 use crate::refusal::Refusal;
 use crate::shape;
+use crate::sharing;
 use crate::splitrun::{Input, MAX_NODES, MAX_SPLITTERS, MAX_TAPE_BYTES};
+use std::ops::RangeInclusive;
 
 /// Past this many records, a run that is to bring Main home only heads home.
 const LONG_TAPE: usize = 1_700;
@@ -19,7 +21,8 @@ pub fn input(seed: u64) -> Vec<u8> {
         6..=11 => refused_whole(&mut random),
         12..=13 => longest(&mut random),
         14..=19 => run(&mut random, Ending::Unfinished).to_bytes(),
-        20..=74 => run(&mut random, Ending::Home).to_bytes(),
+        20..=52 => run(&mut random, Ending::Home).to_bytes(),
+        53..=74 => aimed(&mut random).to_bytes(),
         _ => run(&mut random, Ending::PastHome).to_bytes(),
     }
 }
@@ -213,19 +216,50 @@ fn run(random: &mut Random, ending: Ending) -> Input {
 }
 
 fn run_of(random: &mut Random, splitters: usize, ending: Ending) -> Input {
-    let workers = random.between(1, 8);
     let nodes = pool_nodes(random, splitters);
+    run_with(random, splitters, nodes, |writer| {
+        writer.body();
+        if ending != Ending::Unfinished {
+            writer.bring_main_home();
+        }
+        if ending == Ending::PastHome {
+            writer.past_home();
+        }
+    })
+}
+
+/// A run whose writes are aimed at R-2's cases, in a pool that holds the tree
+/// and a few paths.
+fn aimed(random: &mut Random) -> Input {
+    // The longer the path, the more cases.
+    let every_n: Vec<usize> = sharing::every_n()
+        .flat_map(|n| vec![n; shape::path_nodes(n)])
+        .collect();
+    let splitters = random.pick(&every_n);
+    let path = shape::path_nodes(splitters);
+    let paths = random.pick(&[0, 1, 2, 3, 3, 3, 3, 3]);
+    let nodes = shape::tree_nodes(splitters) + paths * path + random.below(path + 1);
+    run_with(random, splitters, nodes as u32, |writer| {
+        for _ in 0..writer.random.between(30, 60) {
+            writer.aim();
+        }
+        writer.bring_main_home();
+    })
+}
+
+/// A run with so many splitters and nodes.
+fn run_with(
+    random: &mut Random,
+    splitters: usize,
+    nodes: u32,
+    write: impl FnOnce(&mut TapeWriter),
+) -> Input {
+    let workers = random.between(1, 8);
     let values = initial_values(random, splitters);
     let machine = Machine::start(workers, nodes as usize, &values, Counting::Cached)
         .expect("a start that is not refused");
     let mut writer = TapeWriter::new(random, machine);
-    writer.body();
-    if ending != Ending::Unfinished {
-        writer.bring_main_home();
-    }
-    if ending == Ending::PastHome {
-        writer.past_home();
-    }
+    write(&mut writer);
     Input {
         workers: workers as u16,
         nodes,
@@ -389,9 +423,13 @@ impl<'a> TapeWriter<'a> {
         Step::Read { worker, splitter }
     }
 
-    /// A write, one time in four of the value that is there already.
     fn write(&mut self, worker: u8) -> Step {
         let splitter = self.splitter();
+        self.write_to(worker, splitter)
+    }
+
+    /// A write, one time in four of the value that is there already.
+    fn write_to(&mut self, worker: u8, splitter: u16) -> Step {
         let bottom = self.machine.bottom(worker.into());
         let value = match bottom {
             Some(frame) if self.random.percent(25) => self.machine.value(frame, splitter.into()),
@@ -402,6 +440,104 @@ impl<'a> TapeWriter<'a> {
             splitter,
             value,
         }
+    }
+
+    /// A write that finds a certain number of its path's nodes shared, with
+    /// none free, one too few or just enough. It may miss.
+    fn aim(&mut self) {
+        let path = shape::path_nodes(self.machine.splitters());
+        let rest = self.random.between(0, path);
+        let free = match rest {
+            0 => self.random.pick(&[0, 0, path]),
+            _ => self.random.pick(&[0, rest - 1, rest]),
+        };
+        if self.random.percent(70) {
+            while self.end_a_child() {}
+        }
+        if self.random.percent(30) {
+            if let Some(steal) = self.accepted_steal() {
+                self.push(steal.encode());
+            }
+        }
+        // A new frame shares its whole path, and less of it after a write.
+        let first = if rest < path { path } else { 0 };
+        while self.machine.free_nodes() < first + free {
+            if !self.end_a_child() {
+                return;
+            }
+        }
+        let worker = self.busy_worker();
+        let surplus = self.machine.free_nodes() - first - free;
+        if !self.take_nodes(worker, surplus) || !self.accepted(Step::Spawn { worker }) {
+            return;
+        }
+        if first > 0 {
+            self.write_taking(worker, path..=path);
+        }
+        self.write_taking(worker, rest..=rest);
+    }
+
+    /// A return of a frame other than Main; false if none can end.
+    fn end_a_child(&mut self) -> bool {
+        let ends: Vec<Record> = (0..self.machine.workers() as u8)
+            .filter(|worker| self.machine.bottom((*worker).into()) != Some(MAIN))
+            .map(|worker| Step::Return { worker })
+            .filter(|end| self.machine.check(*end).is_ok())
+            .map(Step::encode)
+            .collect();
+        if !ends.is_empty() {
+            let end = self.random.pick(&ends);
+            self.push(end);
+        }
+        !ends.is_empty()
+    }
+
+    /// Takes just so many nodes, by writes of the worker's bottom frame and
+    /// of new frames below it; false if that does not come out.
+    fn take_nodes(&mut self, worker: u8, count: usize) -> bool {
+        let left = self.machine.free_nodes() - count;
+        for _ in 0..20 {
+            let count = self.machine.free_nodes() - left;
+            if count == 0 {
+                return true;
+            }
+            if !self.write_taking(worker, 1..=count) && !self.accepted(Step::Spawn { worker }) {
+                return false;
+            }
+        }
+        false
+    }
+
+    /// A write by the worker that finds so many nodes of its path shared;
+    /// false if no splitter is such.
+    fn write_taking(&mut self, worker: u8, rest: RangeInclusive<usize>) -> bool {
+        let Some(bottom) = self.machine.bottom(worker.into()) else {
+            return false;
+        };
+        let Some(splitter) = self.splitter_taking(bottom, rest) else {
+            return false;
+        };
+        let step = self.write_to(worker, splitter);
+        self.push(step.encode());
+        true
+    }
+
+    fn splitter_taking(&mut self, frame: FrameId, rest: RangeInclusive<usize>) -> Option<u16> {
+        let splitters = self.machine.splitters();
+        let first = self.random.below(splitters);
+        (0..splitters)
+            .map(|place| (first + place) % splitters)
+            .find(|splitter| rest.contains(&self.machine.shared_nodes(frame, *splitter)))
+            .map(|splitter| splitter as u16)
+    }
+
+    /// Writes the step down if the machine accepts it.
+    fn accepted(&mut self, step: Step) -> bool {
+        let accepted = self.machine.check(step).is_ok();
+        if accepted {
+            self.push(step.encode());
+        }
+        accepted
     }
 
     fn stray_record(&mut self) -> Record {

@@ -1,5 +1,6 @@
-//! The copying program of document 01 and the differential test of splitrun
-//! against it. Everything here is written from document 01's text alone.
+//! The copying program of document 01, with R-2 of document 02, and the
+//! differential test of splitrun against it. Everything here is written from
+//! the documents' text alone.
 
 pub mod demand3;
 pub mod edges;
@@ -11,6 +12,7 @@ pub mod random;
 pub mod record;
 pub mod refusal;
 pub mod shape;
+pub mod sharing;
 pub mod splitrun;
 pub mod tally;
 pub mod transcript;

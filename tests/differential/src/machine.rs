@@ -302,11 +302,13 @@ impl Machine {
     /// machine does not ask for it, only the generator and the tallies do.
     pub fn shared_nodes(&self, frame: FrameId, splitter: usize) -> usize {
         let own = &self.frames[&frame].history;
-        let shared = |level: &usize| {
-            self.histories()
-                .any(|(id, other)| id != frame && other.shares(own, *level, splitter >> level))
+        let others = self.histories().filter(|(id, _)| *id != frame);
+        let with = |(_, other): (FrameId, &History)| {
+            (0..=shape::height(self.splitters))
+                .take_while(|level| other.shares(own, *level, splitter >> level))
+                .count()
         };
-        (0..=shape::height(self.splitters)).filter(shared).count()
+        others.map(with).max().unwrap_or(0)
     }
 
     /// "A frame's outstanding count is the number of its live children."
@@ -357,6 +359,7 @@ impl Machine {
 #[cfg(test)]
 mod tests {
     use super::*;
+    use crate::{generate, record, splitrun};
 
     fn refusal_of(workers: usize, nodes: usize, splitters: usize) -> Option<Refusal> {
         Machine::start(workers, nodes, &vec![0; splitters], Counting::Recounted).err()
@@ -373,5 +376,33 @@ mod tests {
         assert_eq!(refusal_of(8, 16_385, 256), Some(Refusal::PoolNodes));
         assert_eq!(refusal_of(8, 511, 256), None);
         assert_eq!(refusal_of(8, 16_384, 256), None);
+    }
+
+    /// By how much a write brings the count up.
+    #[test]
+    fn the_rest_of_the_path_is_what_is_shared() {
+        let mut writes = 0;
+        let mut watch = |machine: &Machine, record| {
+            let Ok(Step::Write {
+                worker, splitter, ..
+            }) = record::decode(record)
+            else {
+                return;
+            };
+            let (worker, splitter) = (usize::from(worker), usize::from(splitter));
+            if worker >= machine.workers() || splitter >= machine.splitters {
+                return;
+            }
+            if let Some(bottom) = machine.bottom(worker) {
+                let after = machine.nodes_after_write(bottom, splitter);
+                let shared = machine.shared_nodes(bottom, splitter);
+                assert_eq!(after - machine.nodes_in_use(), shared);
+                writes += 1;
+            }
+        };
+        for seed in 0..200 {
+            splitrun::watched_output(&generate::input(seed), Counting::Cached, &mut watch);
+        }
+        assert!(writes > 1_000, "{writes} writes");
     }
 }

@@ -71,12 +71,17 @@ fn word(bytes: &[u8]) -> u32 {
 
 /// All that splitrun prints for this input.
 pub fn output(bytes: &[u8], counting: Counting) -> String {
+    watched_output(bytes, counting, &mut |_, _| {})
+}
+
+/// The same, with a look at the machine before it takes each record.
+pub fn watched_output(bytes: &[u8], counting: Counting, watch: Watch) -> String {
     let Some(input) = Input::parse(bytes) else {
         return "unfit\n".to_string();
     };
     let mut lines = String::new();
     line(&mut lines, &[input.workers.into(), n(&input), input.nodes]);
-    match run(&input, counting, &mut lines) {
+    match run(&input, counting, watch, &mut lines) {
         Ok(free) => writeln!(lines, "free {free}"),
         Err(refusal) => writeln!(lines, "refused {}", refusal.number()),
     }
@@ -88,14 +93,23 @@ fn n(input: &Input) -> u32 {
     input.values.len() as u32
 }
 
+/// What looks at the machine and at the record that it is about to take.
+pub type Watch<'a> = &'a mut dyn FnMut(&Machine, Record);
+
 /// The start and the tape: the free nodes at the end, or the refusal of a
 /// call refused whole.
-fn run(input: &Input, counting: Counting, lines: &mut String) -> Result<usize, Refusal> {
+fn run(
+    input: &Input,
+    counting: Counting,
+    watch: Watch,
+    lines: &mut String,
+) -> Result<usize, Refusal> {
     let mut machine = input.start(counting)?;
     if !input.tape.len().is_multiple_of(RECORD_BYTES) {
         return Err(Refusal::RaggedTape);
     }
     for record in record::records(&input.tape) {
+        watch(&machine, record);
         line(lines, &answer(&mut machine, record));
     }
     Ok(machine.free_nodes())

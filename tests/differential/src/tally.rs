@@ -1,5 +1,7 @@
-//! How often each accepted kind, outcome and refusal occurred.
+//! How often each accepted kind, outcome and refusal occurred, and each case
+//! of a write.
 
+use crate::sharing::Sharing;
 use std::collections::BTreeMap;
 
 /// Each line that splitrun can show, by the words that tell it apart.
@@ -34,6 +36,7 @@ const EVENTS: [(&str, &str); 25] = [
 #[derive(Default)]
 pub struct Tally {
     counts: BTreeMap<String, usize>,
+    pub sharing: Sharing,
 }
 
 impl Tally {
@@ -46,8 +49,13 @@ impl Tally {
         }
     }
 
-    fn count(&self, event: &str) -> usize {
-        self.counts.get(event).copied().unwrap_or(0)
+    /// Every event and case by its name, with its count.
+    fn rows(&self) -> Vec<(String, usize)> {
+        let count = |key: &str| self.counts.get(key).copied().unwrap_or(0);
+        let events = EVENTS
+            .iter()
+            .map(|(key, name)| (name.to_string(), count(key)));
+        events.chain(self.sharing.cases()).collect()
     }
 }
 
@@ -59,13 +67,12 @@ fn event(line: &str) -> String {
     }
 }
 
-/// The table of both tallies, and the events that one of them lacks.
-pub fn table(edges: &Tally, random: &Tally) -> (String, Vec<&'static str>) {
-    let mut table = format!("{:20} {:>9} {:>9}\n", "", "edges", "random");
+/// The table of both tallies, and the events and cases that one of them lacks.
+pub fn table(edges: &Tally, random: &Tally) -> (String, Vec<String>) {
+    let mut table = format!("{:24} {:>9} {:>9}\n", "", "edges", "random");
     let mut missing = Vec::new();
-    for (key, name) in EVENTS {
-        let (in_edges, in_random) = (edges.count(key), random.count(key));
-        table += &format!("{name:20} {in_edges:>9} {in_random:>9}\n");
+    for ((name, in_edges), (_, in_random)) in edges.rows().into_iter().zip(random.rows()) {
+        table += &format!("{name:24} {in_edges:>9} {in_random:>9}\n");
         if in_edges == 0 || in_random == 0 {
             missing.push(name);
         }

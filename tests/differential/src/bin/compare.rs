@@ -16,6 +16,9 @@ use std::time::Instant;
 const USAGE: &str = "usage: compare PROGRAM [--runs 3000] [--seed 1] [--recount]
 PROGRAM is the path of an executable that reads splitrun's input.";
 
+/// From so many on, every case of a write must have been met at every n.
+const ENOUGH_RUNS: u64 = 3_000;
+
 struct Options {
     program: PathBuf,
     runs: u64,
@@ -74,7 +77,18 @@ fn compare(options: &Options) -> bool {
     for event in &missing {
         println!("never seen in one of the columns: {event}");
     }
-    missing.is_empty()
+    let (fewest, absent) = random.tally.sharing.at_every_n();
+    println!(
+        "random: at n 1 to 40, 255 and 256, for each number of shared nodes on a write's path, \
+         every case at least {fewest} times"
+    );
+    if options.runs < ENOUGH_RUNS {
+        return missing.is_empty();
+    }
+    for case in &absent {
+        println!("never seen in the random runs: {case}");
+    }
+    missing.is_empty() && absent.is_empty()
 }
 
 /// PROGRAM's output if it is the expected one, byte for byte; else why not.
@@ -95,7 +109,11 @@ fn compare_edges(program: &Program, tally: &mut Tally) -> bool {
     let mut failed = 0;
     for edge in &edges {
         match expect(program, &edge.input, &edge.expected) {
-            Ok(output) => tally.add(&output),
+            Ok(output) => {
+                tally.add(&output);
+                let mut watch = |machine: &_, record| tally.sharing.see(machine, record);
+                splitrun::watched_output(&edge.input, Counting::Cached, &mut watch);
+            }
             Err(reason) => {
                 println!("edge: {}", edge.name);
                 if failed == 0 {
@@ -168,7 +186,8 @@ impl<'a> RandomRuns<'a> {
 
     fn compare_one(&mut self, seed: u64) -> Result<(), String> {
         let bytes = generate::input(seed);
-        let expected = splitrun::output(&bytes, self.counting);
+        let mut watch = |machine: &_, record| self.tally.sharing.see(machine, record);
+        let expected = splitrun::watched_output(&bytes, self.counting, &mut watch);
         let output = expect(self.program, &bytes, &expected)?;
         self.tally.add(&output);
         if !demand3::main_has_returned(&output) {
