@@ -150,7 +150,7 @@ impl Pair {
         self.pool[at..at + 4].copy_from_slice(&words);
     }
 
-    fn live(&self) -> Vec<usize> {
+    pub fn live(&self) -> Vec<usize> {
         (0..MAX_FRAMES)
             .filter(|&place| self.state.frames[place].live != 0)
             .collect()

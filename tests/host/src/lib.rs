@@ -1,4 +1,4 @@
-//! libsplitter.a beside document 01's engine in plain Rust: see README.md.
+//! libsplitter.a beside the documents' engine in plain Rust: see README.md.
 
 pub mod base;
 pub mod call;
@@ -14,6 +14,8 @@ pub mod record;
 pub mod runs;
 pub mod sentences;
 pub mod session;
+pub mod sharing;
+pub mod sketch;
 pub mod soundness;
 pub mod steps;
 pub mod tally;

@@ -2,43 +2,93 @@
 
 use crate::call::{Call, Entry, Outcome};
 use crate::parts::Parts;
-use crate::plain::{self, State, RECORD_BYTES};
+use crate::plain::{self, Refusal, State, MAX_NODES, RECORD_BYTES, WRITE};
 use crate::random::Random;
 use crate::sentences;
 use crate::session::{Failure, Session};
+use crate::sharing::{self, Case};
+use crate::sketch::Sketch;
 use crate::steps::{self, Driver};
 
+const POOL_FULL: u32 = Refusal::PoolFull as u32;
+const WRITTEN: u32 = 106;
 const SIZES: [usize; 12] = [1, 2, 3, 5, 7, 8, 16, 31, 64, 100, 255, 256];
 
-/// The run of one seed.
+/// The run of one seed: one of four is aimed at R-2's cases.
 pub fn run(seed: u64, session: &mut Session) -> Result<(), Failure> {
     let random = Random::new(seed);
-    let call = starting(&random);
-    let after = session.both(&call)?;
-    if after.result[0] != 0 {
-        return Ok(());
+    if random.one_in(4) {
+        aimed(random, session)
+    } else {
+        mixed(random, session)
     }
-    let calls = random.below(60);
-    let mut run = Run {
-        state: after.state,
-        pool: after.pool,
-        driver: Driver::new(12, 30),
-        random,
+}
+
+fn mixed(random: Random, session: &mut Session) -> Result<(), Failure> {
+    let Some(mut run) = Run::begin(starting(&random), random, session)? else {
+        return Ok(());
     };
-    for _ in 0..calls {
+    for _ in 0..run.random.below(60) {
         run.vary_pool();
-        let call = run.next_call();
-        let after = session.both(&call)?;
-        run.adopt(after)?;
+        let (call, cases) = run.next_call();
+        run.make(&call, &cases, session)?;
         if !run.typed().main_lives() && run.random.one_in(3) {
             break;
         }
     }
-    if run.random.one_in(2) {
-        let after = session.both(&run.going_home())?;
-        run.adopt(after)?;
+    run.end(session)
+}
+
+/// Writes with none, some and all of their path shared, around the number of nodes that they take; one of thirty in a pool as large as can
+/// be, filled before.
+fn aimed(random: Random, session: &mut Session) -> Result<(), Failure> {
+    let large = random.one_in(30);
+    let Some(mut run) = Run::begin(starting_tight(large, &random), random, session)? else {
+        return Ok(());
+    };
+    if large {
+        run.make_tape(session, |sketch, _, _| sketch.fill(0))?;
     }
-    Ok(())
+    let most = if large { 8 } else { 40 };
+    for _ in 0..run.random.below(most) {
+        run.vary_pool();
+        let aim = |sketch: &mut Sketch, _: &mut Driver, random: &Random| {
+            for _ in 0..1 + random.below(6) {
+                sketch.aim(!large && !random.one_in(3));
+            }
+        };
+        if !large && run.random.one_in(4) {
+            run.make_steps(session, aim)?;
+        } else {
+            run.make_tape(session, aim)?;
+        }
+    }
+    run.end(session)
+}
+
+/// A start with the tree and a few paths in the pool, or with just room for a few large trees.
+fn starting_tight(large: bool, random: &Random) -> Call {
+    let (splitters, nodes) = if large {
+        let splitters = random.pick(&[129, 200, 255, 255, 256, 256]);
+        (splitters, MAX_NODES - random.below(3))
+    } else {
+        // the longer the path, the more cases
+        let path = |n: u32| plain::height(n) as usize + 1;
+        let sizes: Vec<u32> = sharing::every_n().flat_map(|n| vec![n; path(n)]).collect();
+        let n = random.pick(&sizes);
+        let paths = random.pick(&[0, 1, 2, 3, 3, 3, 3, 3]) * path(n) + random.below(path(n) + 1);
+        (n as usize, plain::tree_nodes(n) as usize + paths)
+    };
+    let pool_words = 4 * nodes + random.below(4);
+    Call {
+        state: Parts::garbage(random),
+        pool: random.words(pool_words),
+        work: Vec::new(),
+        entry: Entry::Start {
+            workers: 1 + random.word_below(8),
+            values: random.words(splitters),
+        },
+    }
 }
 
 fn starting(random: &Random) -> Call {
@@ -91,6 +141,75 @@ struct Run {
 }
 
 impl Run {
+    /// None if the start was refused.
+    fn begin(call: Call, random: Random, session: &mut Session) -> Result<Option<Run>, Failure> {
+        let after = session.both(&call)?;
+        let run = Run {
+            state: after.state,
+            pool: after.pool,
+            driver: Driver::new(12, 30),
+            random,
+        };
+        Ok((after.result[0] == 0).then_some(run))
+    }
+
+    /// Half of the runs go home.
+    fn end(&mut self, session: &mut Session) -> Result<(), Failure> {
+        if self.random.one_in(2) {
+            let live = self.typed().frames.iter().filter(|f| f.live == 1).count();
+            self.make_tape(session, |sketch, driver, random| {
+                go_home(live + 4, sketch, driver, random)
+            })?;
+        }
+        Ok(())
+    }
+
+    /// Makes the call on both sides and takes over what it left. The cases are those of its writes.
+    fn make(&mut self, call: &Call, cases: &[Case], session: &mut Session) -> Result<(), Failure> {
+        let after = session.both(call)?;
+        if matches!(after.result[0], 0 | POOL_FULL | WRITTEN) {
+            cases.iter().for_each(|case| session.sharing.add(case));
+        }
+        self.adopt(after)
+    }
+
+    /// A tape of what is sketched.
+    fn make_tape(
+        &mut self,
+        session: &mut Session,
+        draw: impl FnOnce(&mut Sketch, &mut Driver, &Random),
+    ) -> Result<(), Failure> {
+        let (bytes, cases) = self.sketched(draw, |sketch| (sketch.bytes(), sketch.cases()));
+        let entry = self.tape(bytes);
+        let call = self.call(entry);
+        self.make(&call, &cases, session)
+    }
+
+    /// The same, each step entered from outside.
+    fn make_steps(
+        &mut self,
+        session: &mut Session,
+        draw: impl FnOnce(&mut Sketch, &mut Driver, &Random),
+    ) -> Result<(), Failure> {
+        let steps = self.sketched(draw, |sketch| sketch.steps);
+        for (step, case) in steps {
+            let call = self.call(Entry::Step(step));
+            self.make(&call, case.as_slice(), session)?;
+        }
+        Ok(())
+    }
+
+    /// What follows from the present state by what is drawn.
+    fn sketched<T>(
+        &mut self,
+        draw: impl FnOnce(&mut Sketch, &mut Driver, &Random),
+        take: impl FnOnce(Sketch) -> T,
+    ) -> T {
+        let mut sketch = Sketch::new(self.typed(), self.pool.clone(), &self.random);
+        draw(&mut sketch, &mut self.driver, &self.random);
+        take(sketch)
+    }
+
     fn typed(&self) -> State {
         self.state.state().unwrap_or_else(State::zero)
     }
@@ -110,14 +229,19 @@ impl Run {
     }
 
     /// A step or a tape; one in some has a slice of a wrong length, or several.
-    fn next_call(&mut self) -> Call {
-        let entry = if self.random.one_in(3) {
-            Entry::Step(self.driver.next(&self.typed(), &self.random))
+    fn next_call(&mut self) -> (Call, Vec<Case>) {
+        let (entry, cases) = if self.random.one_in(3) {
+            self.next_step()
         } else {
             let most = self.random.pick(&[1, 6, 40, 40, 200]);
             let records = self.random.below(most + 1);
-            let bytes = self.records(records, |run, state| run.driver.next(state, &run.random));
-            self.tape(bytes)
+            let draw = |sketch: &mut Sketch, driver: &mut Driver, random: &Random| {
+                for _ in 0..records {
+                    sketch.push(driver.next(&sketch.state, random));
+                }
+            };
+            let (bytes, cases) = self.sketched(draw, |sketch| (sketch.bytes(), sketch.cases()));
+            (self.tape(bytes), cases)
         };
         let mut call = self.call(entry);
         if self.random.one_in(16) {
@@ -126,7 +250,19 @@ impl Run {
                 self.spoil_length(&mut call);
             }
         }
-        call
+        (call, cases)
+    }
+
+    fn next_step(&mut self) -> (Entry, Vec<Case>) {
+        let state = self.typed();
+        let step = self.driver.next(&state, &self.random);
+        let mut work = vec![0; state.nodes as usize];
+        let free = match step {
+            [WRITE, ..] => plain::sound(&state, &self.pool, &mut work),
+            _ => None,
+        };
+        let case = free.and_then(|free| Case::of(step, &state, &self.pool, free));
+        (Entry::Step(step), case.into_iter().collect())
     }
 
     fn call(&mut self, entry: Entry) -> Call {
@@ -145,26 +281,6 @@ impl Run {
             bytes,
             answers: self.random.words(answers),
         }
-    }
-
-    /// Records that follow each other well: each is chosen for the state that the ones before it leave.
-    fn records(
-        &mut self,
-        count: usize,
-        mut choose: impl FnMut(&mut Run, &State) -> steps::StepWords,
-    ) -> Vec<u8> {
-        let mut state = self.typed();
-        let mut pool = self.pool.clone();
-        let mut work = vec![0; state.nodes as usize];
-        let mut free_nodes = plain::sound(&state, &pool, &mut work).unwrap_or(0);
-        let mut bytes = Vec::new();
-        for _ in 0..count {
-            let record = steps::record(choose(self, &state));
-            let mut answer = [0; 2];
-            free_nodes = plain::run_tape(&mut state, free_nodes, &mut pool, &record, &mut answer);
-            bytes.extend_from_slice(&record);
-        }
-        bytes
     }
 
     fn spoil_length(&mut self, call: &mut Call) {
@@ -203,18 +319,16 @@ impl Run {
         }
         Ok(())
     }
+}
 
-    /// A tape that brings Main's return, and some steps after it.
-    fn going_home(&mut self) -> Call {
-        let live = self.typed().frames.iter().filter(|f| f.live == 1).count();
-        let bytes = self.records(live + 4, |run, state| {
-            if state.main_lives() {
-                steps::homeward(state)
-            } else {
-                run.driver.next(state, &run.random)
-            }
-        });
-        let entry = self.tape(bytes);
-        self.call(entry)
+/// Brings Main's return, with some steps after it.
+fn go_home(steps: usize, sketch: &mut Sketch, driver: &mut Driver, random: &Random) {
+    for _ in 0..steps {
+        let step = if sketch.state.main_lives() {
+            steps::homeward(&sketch.state)
+        } else {
+            driver.next(&sketch.state, random)
+        };
+        sketch.push(step);
     }
 }

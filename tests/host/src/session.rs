@@ -3,6 +3,7 @@
 use crate::call::{Call, Entry, Outcome};
 use crate::plain::RECORD_BYTES;
 use crate::record::Recorder;
+use crate::sharing::Sharing;
 use crate::tally::Tally;
 
 /// Why a comparison stopped.
@@ -13,6 +14,7 @@ pub struct Session {
     pub guard: usize,
     pub recorder: Option<Recorder>,
     pub tally: Tally,
+    pub sharing: Sharing,
     pub calls: u64,
     pub records: u64,
 }
@@ -23,6 +25,7 @@ impl Session {
             guard,
             recorder,
             tally: Tally::default(),
+            sharing: Sharing::default(),
             calls: 0,
             records: 0,
         }

@@ -4,10 +4,11 @@ use crate::base;
 use crate::call::{Call, Entry, Outcome};
 use crate::corrupt::{self, Expected, Pair, KINDS};
 use crate::parts::Parts;
-use crate::plain::{Refusal, SPAWN, STATE_WORDS};
+use crate::plain::{Refusal, SPAWN, STATE_WORDS, WRITE};
 use crate::random::Random;
 use crate::sentences::{self, SENTENCES};
 use crate::session::{Failure, Session};
+use crate::sharing::Case;
 use crate::steps;
 
 /// Pairs made from one base: as many as are judged under one seed.
@@ -27,6 +28,10 @@ pub struct Counts {
     pub alone: [u64; SENTENCES.len()],
     /// How often each state word was the one changed.
     pub turns: [u64; STATE_WORDS],
+    /// The writes from sound pairs, by the part of the path that is shared; and those by the only frame, with a node that stands in
+    /// several places of its tree.
+    pub writes: [u64; 3],
+    pub beside_itself: u64,
 }
 
 impl Default for Counts {
@@ -35,6 +40,8 @@ impl Default for Counts {
             kinds: [Judged::default(); KINDS.len()],
             alone: [0; SENTENCES.len()],
             turns: [0; STATE_WORDS],
+            writes: [0; 3],
+            beside_itself: 0,
         }
     }
 }
@@ -94,7 +101,7 @@ fn judge(
     }
     expect_agreement(&broken, KINDS[kind].expected, after.result[0])?;
     if broken.is_empty() {
-        go_on(call, pair, random, session)?;
+        go_on(call, pair, random, session, counts)?;
     }
     Ok(())
 }
@@ -157,11 +164,27 @@ fn expect_agreement(broken: &[usize], expected: Expected, result: u32) -> Result
     )
 }
 
-/// One likely step from a sound pair; what it leaves must be sound.
-fn go_on(call: Call, pair: &Pair, random: &Random, session: &mut Session) -> Result<(), Failure> {
-    let kind = SPAWN + random.word_below(6);
+/// One likely step from a sound pair, every other one a write; what it leaves must be sound.
+fn go_on(
+    call: Call,
+    pair: &Pair,
+    random: &Random,
+    session: &mut Session,
+    counts: &mut Counts,
+) -> Result<(), Failure> {
+    let kind = if random.one_in(2) {
+        WRITE
+    } else {
+        SPAWN + random.word_below(6)
+    };
+    let step = steps::plausible(&pair.state, kind, random);
+    if let Some(case) = Case::of(step, &pair.state, &pair.pool, 0) {
+        counts.writes[case.part()] += 1;
+        let alone = pair.live().len() == 1;
+        counts.beside_itself += u64::from(alone && case.part() > 0);
+    }
     let step = Call {
-        entry: Entry::Step(steps::plausible(&pair.state, kind, random)),
+        entry: Entry::Step(step),
         ..call
     };
     let after = session.both(&step)?;

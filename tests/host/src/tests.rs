@@ -1,4 +1,4 @@
-//! Document 01's example and edges through plain.rs and the library, and the sentences on states corrupted by hand.
+//! Document 01's example and edges, as R-2 changes them, through plain.rs and the library, and the sentences on states corrupted by hand.
 
 use crate::call::{Call, Entry, Outcome, BAD_STATE};
 use crate::parts::{Parts, LENGTHS};
@@ -225,6 +225,125 @@ fn equal_value() {
     let expected = [[101, 1], [106, 0], [106, 0]];
     assert_eq!(answers(1, &FIVE, 15, &entries), expected);
     assert_eq!(answers(1, &FIVE, 14, &entries)[1..], [[16, 0], [16, 0]]);
+    // the leaf beside it, alone of its path, is still the parent's too
+    let entries = [[SPAWN, 0, 0, 0], write, [WRITE, 0, 1, 20]];
+    let expected = [[101, 1], [106, 1], [106, 0]];
+    assert_eq!(answers(1, &FIVE, 16, &entries), expected);
+    assert_eq!(answers(1, &FIVE, 15, &entries)[1..], [[106, 0], [16, 0]]);
+}
+
+/// One frame needs no free node, whatever it writes.
+#[test]
+fn writes_of_one_frame() {
+    let writes: Vec<[u32; 4]> = (0..10).map(|n| [WRITE, 0, n % 5, n]).collect();
+    assert_eq!(answers(1, &FIVE, 11, &writes), [[106, 0]; 10]);
+    assert_eq!(answers(1, &FIVE, 20, &writes), [[106, 9]; 10]);
+    let writes: Vec<[u32; 4]> = (0..256).map(|n| [WRITE, 0, n, n]).collect();
+    assert_eq!(answers(1, &[7; 256], 511, &writes), [[106, 0]; 256]);
+}
+
+/// After a spawn the first write of either frame takes a path, and then neither takes a node for this splitter.
+#[test]
+fn first_and_second_writes() {
+    let begin = [[SPAWN, 0, 0, 0], [STEAL, 1, 0, 0]];
+    let child = [WRITE, 0, 0, 1];
+    let parent = [WRITE, 1, 0, 2];
+    for [first, second] in [[child, parent], [parent, child]] {
+        let entries = [&begin[..], &[first, first, second, second]].concat();
+        assert_eq!(answers(2, &FIVE, 15, &entries)[2..], [[106, 0]; 4]);
+        assert_eq!(answers(2, &FIVE, 14, &entries)[2..], [[16, 0]; 4]);
+        assert_eq!(answers(2, &FIVE, 20, &entries)[2..], [[106, 5]; 4]);
+    }
+}
+
+/// A child that has written to 0 takes one node more for 1, two for 2 or 3, and three for 4.
+#[test]
+fn rests_of_the_path() {
+    let begin = [[SPAWN, 0, 0, 0], [WRITE, 0, 0, 1]];
+    for (splitter, rest) in [(1, 1), (2, 2), (3, 2), (4, 3)] {
+        let write = [WRITE, 0, splitter, 9];
+        let entries = [&begin[..], &[write, write, [READ, 0, splitter, 0]]].concat();
+        let enough = answers(1, &FIVE, 15 + rest, &entries);
+        let rest = rest as u32;
+        assert_eq!(enough[1..], [[106, rest], [106, 0], [106, 0], [105, 9]]);
+        let few = answers(1, &FIVE, 14 + rest as usize, &entries);
+        let old = FIVE[splitter as usize];
+        assert_eq!(few[1..], [[106, rest - 1], [16, 0], [16, 0], [105, old]]);
+        let none = answers(1, &FIVE, 15, &entries);
+        assert_eq!(none[1..], [[106, 0], [16, 0], [16, 0], [105, old]]);
+    }
+}
+
+/// The nodes of a call's end, four words each.
+fn nodes(after: &Outcome) -> &[plain::Node] {
+    after.pool.as_chunks().0
+}
+
+/// Level by level the first tree is 0; 1, 2; 3, 4, 5; 6 to 10, and 11 to 19 are free. The child's first write takes 11 to 14, root first; that
+/// to 1 takes the leaf 15; that to 4 takes 16, 17 and 18; then one node is free, and 2 would take two.
+#[test]
+fn nodes_of_a_child() {
+    let entries = [
+        [SPAWN, 0, 0, 0],
+        [WRITE, 0, 0, 99],
+        [WRITE, 0, 1, 98],
+        [WRITE, 0, 4, 97],
+        [WRITE, 0, 2, 96],
+        [WRITE, 0, 0, 95],
+    ];
+    let (_, after) = run(1, &FIVE, 20, &entries);
+    let expected = [[101, 1], [106, 5], [106, 4], [106, 1], [16, 0], [106, 1]];
+    assert_eq!(after.answers.as_chunks().0, expected);
+    let expected = [
+        [1, 1, 2, 0],
+        [1, 3, 4, 0],
+        [1, 5, NONE, 0],
+        [1, 6, 7, 0],
+        [2, 8, 9, 0],
+        [1, 10, NONE, 0],
+        [1, NONE, NONE, 10],
+        [1, NONE, NONE, 20],
+        [1, NONE, NONE, 30],
+        [1, NONE, NONE, 40],
+        [1, NONE, NONE, 50],
+        [1, 12, 16, 0],
+        [1, 13, 4, 0],
+        [1, 14, 15, 0],
+        [1, NONE, NONE, 95],
+        [1, NONE, NONE, 98],
+        [1, 17, NONE, 0],
+        [1, 18, NONE, 0],
+        [1, NONE, NONE, 97],
+        [0, NONE, 0, 0],
+    ];
+    assert_eq!(nodes(&after), expected);
+    let state = after.state.state().expect("a whole state");
+    assert_eq!([state.frames[0].root, state.frames[1].root], [0, 11]);
+    assert_eq!(state.free, 19);
+}
+
+/// Refused by 16 a write changes nothing; after a return it is accepted.
+#[test]
+fn refused_write() {
+    let begin = [[SPAWN, 0, 0, 0], [WRITE, 0, 4, 1], [SPAWN, 0, 0, 0]];
+    let (call, before) = run(1, &FIVE, 18, &begin);
+    let write = [WRITE, 0, 4, 2];
+    let step = |state, pool, entry| Call {
+        state,
+        pool,
+        work: vec![7; 18],
+        entry: Entry::Step(entry),
+        ..call.clone()
+    };
+    let refused = both(&step(before.state.clone(), before.pool.clone(), write));
+    assert_eq!(refused.result, [16, 0]);
+    assert!(refused.state == before.state && refused.pool == before.pool);
+    let read = both(&step(refused.state, refused.pool, [READ, 0, 4, 0]));
+    assert_eq!(read.result, [105, 1]);
+    let ended = both(&step(read.state, read.pool, [RETURN, 0, 0, 0]));
+    assert_eq!(ended.result, [102, 0]);
+    let written = both(&step(ended.state, ended.pool, write));
+    assert_eq!(written.result, [106, 3]);
 }
 
 #[test]
@@ -324,6 +443,55 @@ fn leaf_in_two_places() {
         state.numbers[3] = 7;
     };
     assert!(broken(share).is_empty());
+}
+
+/// A write by one frame alone, in a tree that has a node in two places: it is left as it is in the other place. The start is one of four
+/// splitters and nine nodes, 0; 1, 2; 3 to 6; 7 and 8 free. First leaf 3 stands in the places of 3 and 4, then node 1 in those of 1 and 2.
+#[test]
+fn write_beside_itself() {
+    let write = |links: &[(usize, plain::Node)], free: u32| {
+        let (mut call, _) = run(1, &[10, 20, 30, 40], 9, &[]);
+        for &(node, words) in links {
+            call.pool[4 * node..4 * node + 4].copy_from_slice(&words);
+        }
+        call.state.numbers[3] = free;
+        call.entry = Entry::Step([WRITE, 0, 0, 99]);
+        let after = both(&call);
+        assert!(sentences::broken(&after.state, &after.pool).is_empty());
+        after
+    };
+    let leaf = [1, NONE, NONE, 10];
+    let after = write(
+        &[
+            (1, [1, 3, 3, 0]),
+            (3, [2, NONE, NONE, 10]),
+            (4, [0, 7, 0, 0]),
+        ],
+        4,
+    );
+    assert_eq!(after.result, [106, 2]);
+    assert_eq!(nodes(&after)[1], [1, 4, 3, 0]);
+    assert_eq!(nodes(&after)[3..5], [leaf, [1, NONE, NONE, 99]]);
+    let after = write(
+        &[
+            (0, [1, 1, 1, 0]),
+            (1, [2, 3, 4, 0]),
+            (2, [0, 5, 0, 0]),
+            (5, [0, 6, 0, 0]),
+            (6, [0, 7, 0, 0]),
+        ],
+        2,
+    );
+    assert_eq!(after.result, [106, 3]);
+    let expected = [
+        [1, 2, 1, 0],
+        [1, 3, 4, 0],
+        [1, 5, 4, 0],
+        leaf,
+        [2, NONE, NONE, 20],
+        [1, NONE, NONE, 99],
+    ];
+    assert_eq!(nodes(&after)[..6], expected);
 }
 
 /// Node 5 has one leaf, node 4 has two: it may not stand in the place of node 4, though both are of level 1.

@@ -19,6 +19,8 @@ const USAGE: &str = "usage: compare [--runs N] [--corrupt N] [--images N] [--dam
 const GUARD: usize = 7;
 /// From so many on, every event, kind and sentence must have been met.
 const ENOUGH_RUNS: u64 = 1_000;
+/// And from so many runs on, every case of a write at every n.
+const ENOUGH_WRITES: u64 = 4_000;
 const ENOUGH_PAIRS: usize = 50_000;
 const ENOUGH_IMAGES: u64 = 10_000;
 const ENOUGH_DAMAGED: usize = 50_000;
@@ -119,9 +121,17 @@ fn compare_runs(options: &Options, session: &mut Session) -> Result<(), Failure>
         options.runs, session.calls, session.records
     );
     println!("{}", session.tally.line());
+    if options.runs > 0 {
+        let lines = session.sharing.lines();
+        lines.iter().for_each(|line| println!("{line}"));
+    }
     let missing = session.tally.missing();
     if options.runs >= ENOUGH_RUNS && !missing.is_empty() {
         return Err(format!("never met: {missing:?}"));
+    }
+    let missing = session.sharing.missing();
+    if options.runs >= ENOUGH_WRITES && !missing.is_empty() {
+        return Err(format!("writes never met: {missing:?}"));
     }
     Ok(())
 }
@@ -224,6 +234,11 @@ fn report(counts: &Counts) {
     }
     let fewest = counts.turns.iter().min().unwrap_or(&0);
     println!("each state word was the one changed at least {fewest} times");
+    let [none, some, all] = counts.writes;
+    println!(
+        "writes from sound pairs: {none} with none of the path shared, {some} with some, {all} with all; {} by the only frame, in a tree with a node in two places",
+        counts.beside_itself
+    );
 }
 
 fn all_met(counts: &Counts) -> Result<(), Failure> {
@@ -241,6 +256,9 @@ fn all_met(counts: &Counts) -> Result<(), Failure> {
     }
     if counts.turns.contains(&0) {
         return Err("a state word never had its turn".to_string());
+    }
+    if counts.writes.contains(&0) || counts.beside_itself == 0 {
+        return Err("a case of a write from a sound pair was never met".to_string());
     }
     Ok(())
 }
