@@ -495,17 +495,17 @@ impl<'a> TapeWriter<'a> {
     /// Takes just so many nodes, by writes of the worker's bottom frame and
     /// of new frames below it; false if that does not come out.
     fn take_nodes(&mut self, worker: u8, count: usize) -> bool {
-        let left = self.machine.free_nodes() - count;
-        for _ in 0..20 {
-            let count = self.machine.free_nodes() - left;
-            if count == 0 {
-                return true;
-            }
-            if !self.write_taking(worker, 1..=count) && !self.accepted(Step::Spawn { worker }) {
+        let path = shape::path_nodes(self.machine.splitters());
+        let mut count = count;
+        while count > 0 {
+            let before = self.machine.free_nodes();
+            if self.write_taking(worker, 1..=count) {
+                count -= before - self.machine.free_nodes();
+            } else if count < path || !self.accepted(Step::Spawn { worker }) {
                 return false;
             }
         }
-        false
+        true
     }
 
     /// A write by the worker that finds so many nodes of its path shared;
