@@ -1,9 +1,9 @@
 -- What the tests of a step and a ready core give to the calls after them.
 use mathlib.Core.Path.{_≡_, refl, sym, ap, _∙_, subst}
 use mathlib.Core.Logic.{inl, inr, _⊎_}
-use mathlib.Core.Bool.{Bool, true, false, not, _||_}
+use mathlib.Core.Bool.{Bool, true, false, cond, not, _||_}
 use mathlib.Core.List.{List, [], _∷_}
-use Prim.Native.Nat.{ℕ, _-_, _*_, _≤_, _<_}
+use Prim.Native.Nat.{ℕ, suc, _+_, _-_, _*_, _≤_, _<_}
 use native.Mathlib.Omega.{arith}
 use lib.Dec.{eqb, ltb}
 use lib.ListN.{length}
@@ -104,15 +104,25 @@ module _ (c : Core) (w n p : ℕ) (r : Ready c) (a : ActsAt c w n p) (root : ℕ
     subst (λ (i : ℕ). PathIn (c .head .numbers .nodes) (c .pool) (c .head .height) i x) (sym er) (a .path x l),
   )
 
-  pub write-asks : (x i j k : ℕ) → x < c .head .numbers .splitters → IsShared i j k (firstShared (c .head .height) (c .pool) root root x) → i ≤ c .head .«free_count»
-      → (4 * c .head .numbers .nodes ≤ length (c .pool)) × (c .head .height ≤ 32) × (i ≤ c .head .«free_count») × IsShared i j k (firstShared (c .head .height) (c .pool) root root x)
-      × WriteIn (c .head .numbers .nodes) (c .head .height) (c .pool) (c .head .numbers .«free_node») x (firstShared (c .head .height) (c .pool) root root x)
+  -- the write meets nodes only
+  writes-in : (x : ℕ) → x < c .head .numbers .splitters → firstShared (c .head .height) (c .pool) root root x .0 ≤ c .head .«free_count»
+      → WriteIn (c .head .numbers .nodes) (c .head .height) (c .pool) (c .head .numbers .«free_node») x (firstShared (c .head .height) (c .pool) root root x)
   unfolding rest
-  write-asks x i j k l e enough = (
-    r .links .room,
-    omega (arith, r .low),
-    enough,
-    e,
-    subst (λ (i : ℕ). rest (c .head .height) (c .pool) i x ≤ c .head .«free_count» → WriteIn (c .head .numbers .nodes) (c .head .height) (c .pool) (c .head .numbers .«free_node») x (firstShared (c .head .height) (c .pool) i i x))
-    (sym er) (a .writes x l) (omega (arith, e .0)),
-  )
+  writes-in x l enough =
+      subst (λ (i : ℕ). rest (c .head .height) (c .pool) i x ≤ c .head .«free_count» → WriteIn (c .head .numbers .nodes) (c .head .height) (c .pool) (c .head .numbers .«free_node») x (firstShared (c .head .height) (c .pool) i i x))
+      (sym er) (a .writes x l) enough
+
+  module _ (x : ℕ) (l : x < c .head .numbers .splitters) {b : Bool} {m at link : ℕ} (e : IsShared (c .head .height) x b m at link (firstShared (c .head .height) (c .pool) root root x)) where
+    -- of the leaf, no node being shared
+    pub leaf-asks : b ≡ false → at + 3 < length (c .pool)
+    leaf-asks n =
+        let z : firstShared (c .head .height) (c .pool) root root x .0 ≡ 0 = e .rest ∙ ap (λ b. cond b (suc m) 0) n in
+        omega (arith, r .links .room, e .place, writes-in x l (omega arith) .node)
+
+    pub write-asks : b ≡ true → m < c .head .«free_count»
+        → (4 * c .head .numbers .nodes ≤ length (c .pool)) × (c .head .height ≤ 32) × (b ≡ true) × (m < c .head .«free_count»)
+        × IsShared (c .head .height) x b m at link (firstShared (c .head .height) (c .pool) root root x)
+        × WriteIn (c .head .numbers .nodes) (c .head .height) (c .pool) (c .head .numbers .«free_node») x (firstShared (c .head .height) (c .pool) root root x)
+    write-asks n enough =
+        let z : firstShared (c .head .height) (c .pool) root root x .0 ≡ suc m = e .rest ∙ ap (λ b. cond b (suc m) 0) n in
+        (r .links .room, omega (arith, r .low), n, enough, e, writes-in x l (omega arith))

@@ -1,16 +1,18 @@
 -- A step's ways out, over plain variables: refused by a test, or done.
 use mathlib.Core.Path.{_≡_, refl, sym, ap, ap₂, _∙_}
 use mathlib.Core.Logic.{inl, inr}
-use mathlib.Core.Bool.{Bool}
+use mathlib.Core.Bool.{Bool, true, false, cond}
 use mathlib.Core.List.{List, [], _∷_, _++_}
-use Prim.Native.Nat.{ℕ, _≤_, _<_}
+use Prim.Native.Nat.{ℕ, suc, _+_, _≤_, _<_}
 use native.Mathlib.Omega.{arith}
 use lib.Dec.{ltb}
+use lib.ListN.{set}
 use borrow.Author.Tests.{eq-eqb, ne-eqb, lt-ltb, le-ltb}
 use Rattle.words.specs.Basics.{none, plus}
 use Rattle.words.specs.Tests.{decided}
-use Rattle.pool.specs.Pool.{readAt, retain, release, firstShared, rest, write}
-use Rattle.pool.specs.Links.{Wrote}
+use Rattle.pool.specs.Pool.{readAt, retain, release, setValue, firstShared, rest, writeFrom, write}
+use Rattle.pool.specs.Links.{IsShared, Wrote}
+use Rattle.frames.specs.Theory.Records.{root-kept}
 use Rattle.frames.specs.declared.Frame.{Frame}
 use Rattle.frames.specs.declared.Returned.{Returned}
 use Rattle.frames.specs.declared.Synced.{Synced}
@@ -127,22 +129,37 @@ module _ (h : Head) (ds fs ws : List ℕ) (w : ℕ) where
         let acts : stepResult h ds fs ws (Accepted (Value y)) ≡ kindOn (core h ds fs ws) (Read w x) = rw (lt-ltb x (h .numbers .splitters) l, e, er, ep) in
         ap₂ (λ (g : Head) (a : Answer). stepResult g ds fs ws a) (u .0) (u .1) ∙ acts
 
-    -- the test for 16, of the rest i of the path
-    room-is : (i : ℕ) → i ≡ firstShared (h .height) ws root root x .0 → ltb (h .«free_count») (rest (h .height) ws (frameAt fs (bottom ds w) .root) x) ≡ ltb (h .«free_count») i
-    unfolding rest
-    room-is i e = rw (e, er, ep)
+    module _ {b : Bool} {m at link : ℕ} (e : IsShared (h .height) x b m at link (firstShared (h .height) ws root root x)) where
+      -- the test for 16, by the rest of the path
+      room-is : {i : ℕ} → cond b (suc m) 0 ≡ i → ltb (h .«free_count») (rest (h .height) ws (frameAt fs (bottom ds w) .root) x) ≡ ltb (h .«free_count») i
+      unfolding rest
+      room-is d = rw (← ep, ← er) (ap (ltb (h .«free_count»)) (e .rest ∙ d))
 
-    pub write-full : (o : Out) (i v : ℕ) → i ≡ firstShared (h .height) ws root root x .0 → h .«free_count» < i → (headAfter h o ≡ h) × (o .answer ≡ Refused PoolFull)
-        → Leaves h o ds fs ws (kindOn (core h ds fs ws) (Write w x v))
-    write-full o i v e f q = rw (lt-ltb x (h .numbers .splitters) l, room-is i e, lt-ltb (h .«free_count») i f) (out-refused h o ds fs ws PoolFull q)
+      pub write-full : b ≡ true → (o : Out) (v : ℕ) → h .«free_count» ≤ m → (headAfter h o ≡ h) × (o .answer ≡ Refused PoolFull) → Leaves h o ds fs ws (kindOn (core h ds fs ws) (Write w x v))
+      write-full n o v f q = rw (lt-ltb x (h .numbers .splitters) l, room-is (ap (λ b. cond b (suc m) 0) n), lt-ltb (h .«free_count») (suc m) (omega arith)) (out-refused h o ds fs ws PoolFull q)
 
-    pub write-done : (i : ℕ) → i ≡ firstShared (h .height) ws root root x .0 → i ≤ h .«free_count» → (fs′ ws′ : List ℕ) (v first count new : ℕ)
-        → Wrote (write (h .height) ws (h .numbers .«free_node») (h .«free_count») root x v) ws′ first count new
-        → fs′ ≡ setFrame fs p (withRoot (frameAt fs p) new)
-        → stepResult (withFreeNodes h first count) ds fs′ ws′ (Accepted (Written count)) ≡ kindOn (core h ds fs ws) (Write w x v)
-    unfolding writeOn
-    write-done i e f fs′ ws′ v first count new ew es =
-        rw (lt-ltb x (h .numbers .splitters) l, room-is i e, le-ltb (h .«free_count») i f) (rw (es, ew .0, ew .1, ew .2, ew .3, er, ep))
+      pub write-done : b ≡ true → m < h .«free_count» → (fs′ ws′ : List ℕ) (v first count new : ℕ)
+          → Wrote (write (h .height) ws (h .numbers .«free_node») (h .«free_count») root x v) ws′ first count new
+          → fs′ ≡ setFrame fs p (withRoot (frameAt fs p) new)
+          → stepResult (withFreeNodes h first count) ds fs′ ws′ (Accepted (Written count)) ≡ kindOn (core h ds fs ws) (Write w x v)
+      unfolding writeOn
+      write-done n f fs′ ws′ v first count new ew es =
+          rw (lt-ltb x (h .numbers .splitters) l, room-is (ap (λ b. cond b (suc m) 0) n), le-ltb (h .«free_count») (suc m) f) (rw (es, ew .0, ew .1, ew .2, ew .3, er, ep))
+
+      -- no node is shared: the leaf's value alone is stored
+      leaf-write : b ≡ false → (v : ℕ) → write (h .height) ws (h .numbers .«free_node») (h .«free_count») root x v ≡ (set ws (at + 3) v, h .numbers .«free_node», h .«free_count», root)
+      unfolding write writeFrom setValue
+      leaf-write n v = rw (e .rest ∙ ap (λ b. cond b (suc m) 0) n, e .place)
+
+      pub write-leaf : b ≡ false → (o : Out) (ws′ : List ℕ) (v : ℕ) → ws′ ≡ set ws (at + 3) v → (headAfter h o ≡ h) × (o .answer ≡ Accepted (Written (h .«free_count»)))
+          → Leaves h o ds fs ws′ (kindOn (core h ds fs ws) (Write w x v))
+      unfolding writeOn
+      write-leaf n o ws′ v ew u =
+          let P = leaf-write n v in
+          let acts : stepResult h ds fs ws′ (Accepted (Written (h .«free_count»))) ≡ kindOn (core h ds fs ws) (Write w x v) =
+          rw (lt-ltb x (h .numbers .splitters) l, room-is (ap (λ b. cond b (suc m) 0) n), le-ltb (h .«free_count») 0 (omega arith), ← ep, ← er, P, ew)
+          (ap (λ (gs : List ℕ). stepResult h ds gs (set ws (at + 3) v) (Accepted (Written (h .«free_count»)))) (sym (ap (λ (q : ℕ). setFrame fs p (withRoot (frameAt fs p) q)) er ∙ root-kept fs p))) in
+          ap₂ (λ (g : Head) (a : Answer). stepResult g ds fs ws′ a) (u .0) (u .1) ∙ acts
 
 -- ---- a steal
 

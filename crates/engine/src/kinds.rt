@@ -25,7 +25,8 @@ use pool::first_shared;
 use pool::read_at;
 use pool::release;
 use pool::retain;
-use pool::write_from;
+use pool::set_value;
+use pool::write_shared;
 use semantics::Answer;
 use semantics::Done;
 use semantics::Head;
@@ -170,11 +171,15 @@ fn write_at(
         return refused(h, Refusal::NoSplitter);
     }
     let root = root_at(frames, p);
-    let at = first_shared(pool, h.numbers.nodes, h.height, root, x);
-    if h.free_count < at.rest {
+    let found = first_shared(pool, h.numbers.nodes, h.height, root, x);
+    if !found.shared {
+        set_value(pool, found.at, v);
+        return unchanged(h, Answer::Accepted(Done::Written(h.free_count)));
+    }
+    if h.free_count <= found.level {
         return refused(h, Refusal::PoolFull);
     }
-    let written = write_from(
+    let written = write_shared(
         pool,
         h.numbers.nodes,
         h.height,
@@ -183,7 +188,7 @@ fn write_at(
         root,
         x,
         v,
-        at,
+        found,
     );
     set_root(frames, p, written.root);
     Out {

@@ -1,17 +1,20 @@
 -- A write as the code runs it: a turn of each loop, and the ends. Over plain variables.
 use mathlib.Core.Path.{_≡_, refl, sym, ap, _∙_, subst}
-use mathlib.Core.Bool.{cond}
+use mathlib.Core.Bool.{Bool, true, false, cond}
 use mathlib.Core.List.{List}
-use Prim.Native.Nat.{ℕ, zero, suc, _+_, _-_, _*_, _<_, _≤_}
+use Prim.Native.Nat.{ℕ, zero, suc, _+_, _-_, _*_, _/_, _<_, _≤_}
 use native.Mathlib.Numerals.{sub-one}
 use native.Mathlib.Omega.{arith}
-use lib.Dec.{ltb}
-use lib.ListN.{getD, set}
+use lib.ListN.{length, getD, set}
 use Rattle.words.specs.Basics.{none}
+use Rattle.words.specs.Tests.{true≢false}
+use Rattle.sizes.specs.Bits.{bit-lt}
 use Rattle.sizes.specs.Sizes.{bit}
 use Rattle.pool.specs.Pool.{refcount, left, child, sibling, setNode, setRefcount, setValue, setLink, pathNode, copyPath, renew, firstShared, writeFrom, write}
-use Rattle.pool.specs.Links.{Link, CopyIn, IsShared, WriteIn, Wrote}
-use Rattle.pool.specs.Theory.Write.{first-here, first-below, from-root, from-below}
+use Rattle.pool.specs.Links.{Link, PathIn, CopyIn, IsShared, WriteIn, Wrote}
+use Rattle.pool.specs.Theory.Links.{path-here, path-on}
+use Rattle.pool.specs.Theory.Write.{first-here, first-none, first-below, from-root, from-below}
+use Rattle.pool.proofs.Words.{child-word, link-word}
 use Rattle.pool.proofs.Laws.{parts, path-step, path-end}
 
 -- ---- the new path
@@ -44,61 +47,122 @@ renew-by l ws free old x v e n c = rw (c, e, n) (refl, refl)
 
 -- ---- the way down
 
-abbrev parts-of : {p q : ℕ × ℕ × ℕ} → p ≡ q → IsShared (p .0) (p .1) (p .2) q
-parts-of e = (ap (λ p. p .0) e, ap (λ p. p .1) e, ap (λ p. p .2) e)
+first-turn : (l : ℕ) (ws : List ℕ) (a i x : ℕ) → 0 < l → refcount ws i ≤ 1 → firstShared (l - 1) ws i (child ws i (bit (l - 1) x)) x ≡ firstShared l ws a i x
+first-turn zero ws a i x h c = absurd (omega arith)
+first-turn (suc l) ws a i x h c = rw sub-one (sym (first-below ws a i x l c))
 
--- the node has one holder: the loop goes on
-pub first-turn : (l : ℕ) (ws : List ℕ) (a i x : ℕ) {down c : ℕ} → 0 < l → c ≡ refcount ws i → c ≤ 1 → down ≡ child ws i (bit (l - 1) x) → firstShared (l - 1) ws i down x ≡ firstShared l ws a i x
-first-turn zero ws a i x h e c d = absurd (omega arith)
-first-turn (suc l) ws a i x h e c d = rw d (rw sub-one (sym (first-below ws a i x l (omega arith))))
+-- the node i of level l, at this place, has one holder, and the walk from here on finds p
+pub record Alone (N l : ℕ) (ws : List ℕ) (x at : ℕ) (p : ℕ × ℕ × ℕ) : Type 0 where
+  pub above : ℕ
+  pub node : ℕ
+  pub place : at ≡ 4 * node
+  pub path : PathIn N ws l node x
+  pub one : refcount ws node ≤ 1
+  pub finds : firstShared l ws above node x ≡ p
 
--- it has more
-pub first-found : (l : ℕ) (ws : List ℕ) (a i x : ℕ) {c : ℕ} {p : ℕ × ℕ × ℕ} → c ≡ refcount ws i → 1 < c → firstShared l ws a i x ≡ p → IsShared (l + 1) i a p
-first-found l ws a i x e c q =
-    let t = parts-of (sym (first-here ws a i x l (omega arith)) ∙ q) in
-    (omega (arith, t .0), t .1, t .2)
+pub alone-within : {N l : ℕ} {ws : List ℕ} {x at : ℕ} {p : ℕ × ℕ × ℕ} → Alone N l ws x at p → at < 4 * N
+alone-within {N} {l} {ws} {x} A = omega (arith, A .place, path-here N ws l (A .node) x (A .path))
+
+-- the root
+pub root-shared : (h : ℕ) (ws : List ℕ) (root x : ℕ) {at link c : ℕ} → at ≡ 4 * root → c ≡ getD ws at 0 → 1 < c → IsShared h x true h at link (firstShared h ws root root x)
+unfolding refcount
+root-shared h ws root x e d c = (let big : 1 < refcount ws root = subst (λ k. 1 < k) (d ∙ ap (λ k. getD ws k 0) e) c in
+  rw (first-here ws root root x h big) (record { rest = refl; place = e; linked = λ _ b. absurd (omega arith) }))
+
+pub root-alone : (N h : ℕ) (ws : List ℕ) (root x : ℕ) {at c : ℕ} → PathIn N ws h root x → at ≡ 4 * root → c ≡ getD ws at 0 → c ≤ 1 → Alone N h ws x at (firstShared h ws root root x)
+unfolding refcount
+root-alone N h ws root x P e d c = record { above = root; node = root; place = e; path = P; one = subst (λ k. k ≤ 1) (d ∙ ap (λ k. getD ws k 0) e) c; finds = refl }
+
+module _ {N l : ℕ} {ws : List ℕ} {x at : ℕ} {p : ℕ × ℕ × ℕ} (A : Alone N l ws x at p) (h : 0 < l) {link : ℕ} (el : link ≡ at + 1 + bit (l - 1) x) where
+  here : A .node < N
+  here = path-here N ws l (A .node) x (A .path)
+
+  abbrev down : ℕ
+  down = child ws (A .node) (bit (l - 1) x)
+
+  on : PathIn N ws (l - 1) down x
+  on = path-on N ws l (A .node) x h (A .path)
+
+  link-is : link ≡ 4 * A .node + 1 + bit (l - 1) x
+  link-is = omega (arith, el, A .place)
+
+  pub link-in : 4 * N ≤ length ws → link < length ws
+  link-in m = omega (arith, link-is, bit-lt (l - 1) x, here)
+
+  module _ {next : ℕ} (en : next ≡ 4 * getD ws link 0) where
+    next-is : next ≡ 4 * down
+    next-is = en ∙ ap (λ k. 4 * k) (ap (λ k. getD ws k 0) link-is ∙ child-word ws (A .node) (bit (l - 1) x) (bit-lt (l - 1) x))
+
+    pub next-in : 4 * N ≤ length ws → next < length ws
+    next-in m = omega (arith, next-is, path-here N ws (l - 1) down x on)
+
+    below : firstShared (l - 1) ws (A .node) down x ≡ p
+    below = first-turn l ws (A .above) (A .node) x h (A .one) ∙ A .finds
+
+    module _ {c : ℕ} (ec : c ≡ getD ws next 0) where
+      holders-are : c ≡ refcount ws down
+      unfolding refcount
+      holders-are = ec ∙ ap (λ k. getD ws k 0) next-is
+
+      -- the next node has one holder too
+      pub goes-on : c ≤ 1 → Alone N (l - 1) ws x next p
+      goes-on b = record { above = A .node; node = down; place = next-is; path = on; one = omega (arith, holders-are); finds = below }
+
+      -- it has more
+      pub next-shared : {k : ℕ} → 1 < c → IsShared k x true (l - 1) next link p
+      next-shared b = (let f = sym (first-here ws (A .node) down x (l - 1) (omega (arith, holders-are))) ∙ below in
+        rw (sym f) (record { rest = refl; place = next-is; linked = λ _ _. link-is }))
 
 -- the leaf
-pub first-end : (l : ℕ) (ws : List ℕ) (a i x : ℕ) {c r : ℕ} {p : ℕ × ℕ × ℕ} → l ≤ 0 → c ≡ refcount ws i → r ≡ cond (ltb 1 c) 1 0 → firstShared l ws a i x ≡ p → IsShared r i a p
-unfolding firstShared
-first-end zero ws a i x h e d q = rw (d, e) (parts-of q)
-first-end (suc l) ws a i x h e d q = absurd (omega arith)
+pub leaf-alone : {N l h : ℕ} {ws : List ℕ} {x at link : ℕ} {p : ℕ × ℕ × ℕ} → Alone N l ws x at p → l ≤ 0 → IsShared h x false 0 at link p
+leaf-alone {N} {l} {h} {ws} {x} A b = (let f = sym (first-none ws (A .above) (A .node) x (A .one)) ∙ ap (λ k. firstShared k ws (A .above) (A .node) x) {x = 0} {y = l} (omega arith) ∙ A .finds in
+  rw (sym f) (record { rest = refl; place = A .place; linked = λ e. absurd (true≢false (sym e)) }))
 
 -- ---- the write
 
 wrote : {p q : List ℕ × ℕ × ℕ × ℕ} → p ≡ q → Wrote q (p .0) (p .1) (p .2) (p .3)
 wrote e = (ap (λ p. p .0) e, ap (λ p. p .1) e, ap (λ p. p .2) e, ap (λ p. p .3) e)
 
--- what the code asks, of the numbers that it was handed
-pub shared-in : (N h : ℕ) (ws : List ℕ) (free x : ℕ) {p : ℕ × ℕ × ℕ} {r i a : ℕ} → IsShared r i a p → WriteIn N h ws free x p → WriteIn N h ws free x (r, i, a)
-shared-in N h ws free x f W = record {
-  within = omega (arith, f .0, W .within);
-  node = omega (arith, f .1, W .node);
-  above = λ b c. omega (arith, f .2, W .above (omega (arith, f .0)) (omega (arith, f .0)));
-  copies = λ b. rw (f .0, f .1) (W .copies (omega (arith, f .0)));
-}
+less-one : (k m : ℕ) → k - m - 1 ≡ k - suc m
+less-one k m = omega arith
 
-module _ (h : ℕ) (ws : List ℕ) (free k root x v : ℕ) {r i a : ℕ} (f : IsShared r i a (firstShared h ws root root x)) where
-  from : writeFrom r i a h ws free k root x v ≡ write h ws free k root x v
+-- of a shared node: m is its level, and i the node
+module _ (h : ℕ) (ws : List ℕ) (free k root x v : ℕ) {b : Bool} {m at link : ℕ} (shared : b ≡ true) (f : IsShared h x b m at link (firstShared h ws root root x)) where
+  abbrev p : ℕ × ℕ × ℕ
+  p = firstShared h ws root root x
+
+  rest-is : p .0 ≡ suc m
+  rest-is = f .rest ∙ ap (λ b. cond b (suc m) 0) shared
+
+  node-is : at / 4 ≡ p .1
+  node-is = omega (arith, f .place)
+
+  from : writeFrom (suc m) (at / 4) (p .2) h ws free k root x v ≡ write h ws free k root x v
   unfolding write
-  from = rw (f .0, f .1, f .2)
+  from = rw (sym rest-is, node-is)
 
-  pub write-leaf : {w : List ℕ} → r ≡ 0 → w ≡ setValue ws i v → Wrote (write h ws free k root x v) w free k root
-  unfolding writeFrom
-  write-leaf e w = rw w (wrote (sym (ap (λ r. writeFrom r i a h ws free k root x v) e) ∙ from))
+  module _ {N : ℕ} (W : WriteIn N h ws free x p) where
+    pub level-in : m ≤ h
+    level-in = omega (arith, rest-is, W .within)
 
-  pub write-root : {w : List ℕ} {n : ℕ} → h < r → r ≤ suc h → (w ≡ renew (r - 1) ws free i x v .0) × (n ≡ renew (r - 1) ws free i x v .1) → Wrote (write h ws free k root x v) w n (k - r) free
-  write-root b c e = (
-    let m : r ≡ suc h = omega arith in
-    let t = wrote (sym (from-root i a h ws free k root x v h refl) ∙ ap (λ r. writeFrom r i a h ws free k root x v) (sym m) ∙ from) in
-    let d : r - 1 ≡ h = omega arith in
-    rw (e .0, e .1) (ap (λ l. renew l ws free i x v .0) d ∙ t .0, ap (λ l. renew l ws free i x v .1) d ∙ t .1, ap (λ r. k - r) m ∙ t .2, t .3)
-  )
+    pub node-in : at / 4 < N
+    node-in = omega (arith, node-is, W .node)
 
-  pub write-below : {w w' : List ℕ} {n : ℕ} → 0 < r → r ≤ h → (w ≡ renew (r - 1) ws free i x v .0) × (n ≡ renew (r - 1) ws free i x v .1) → w' ≡ setLink w a (bit (r - 1) x) free
-      → Wrote (write h ws free k root x v) w' n (k - r) root
-  write-below b c e l = (
-    let m : r ≡ suc (r - 1) = omega arith in
-    let t = wrote (sym (from-below i a h ws free k root x v (r - 1) (λ d. omega arith)) ∙ ap (λ r. writeFrom r i a h ws free k root x v) (sym m) ∙ from) in
-    rw (l, e .0, e .1) (t .0, t .1, ap (λ r. k - r) m ∙ t .2, t .3)
-  )
+    pub copies-in : CopyIn N m ws free (at / 4) x
+    copies-in =
+        let e : p .0 - 1 ≡ m = omega (arith, rest-is) in
+        subst (λ i. CopyIn N m ws free i x) (sym node-is) (subst (λ l. CopyIn N l ws free (p .1) x) e (W .copies (omega (arith, rest-is))))
+
+    pub link-within : m < h → link < 4 * N
+    link-within l = omega (arith, f .linked shared l, bit-lt m x, W .above (omega (arith, rest-is)) (omega (arith, rest-is)))
+
+  pub write-root : {w : List ℕ} {n : ℕ} → m ≡ h → (w ≡ renew m ws free (at / 4) x v .0) × (n ≡ renew m ws free (at / 4) x v .1) → Wrote (write h ws free k root x v) w n (k - m - 1) free
+  write-root e r =
+      let t = wrote (sym (from-root (at / 4) (p .2) h ws free k root x v m e) ∙ from) in
+      rw (r .0, r .1) (t .0, t .1, less-one k m ∙ t .2, t .3)
+
+  pub write-below : {w : List ℕ} {n : ℕ} → m < h → (w ≡ renew m ws free (at / 4) x v .0) × (n ≡ renew m ws free (at / 4) x v .1) → Wrote (write h ws free k root x v) (set w link free) n (k - m - 1) root
+  write-below {w = w} l r =
+      let t = wrote (sym (from-below (at / 4) (p .2) h ws free k root x v m (λ e. omega arith)) ∙ from) in
+      let s : set w link free ≡ setLink w (p .2) (bit m x) free = ap (λ j. set w j free) (f .linked shared l) ∙ link-word w (p .2) (bit m x) (bit m x) free refl (bit-lt m x) in
+      rw (s, r .0, r .1) (t .0, t .1, less-one k m ∙ t .2, t .3)

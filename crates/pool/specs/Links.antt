@@ -1,9 +1,9 @@
 -- What fast functions ask of a pool: its links are nodes or none, so that no index needs a test. Definitions only.
 use mathlib.Core.Path.{_≡_}
 use mathlib.Core.Logic.{_⊎_}
-use mathlib.Core.Bool.{Bool, true, false}
+use mathlib.Core.Bool.{Bool, true, false, cond}
 use mathlib.Core.List.{List}
-use Prim.Native.Nat.{ℕ, zero, suc, _-_, _*_, _≤_, _<_}
+use Prim.Native.Nat.{ℕ, zero, suc, _+_, _-_, _*_, _≤_, _<_}
 use lib.ListN.{length}
 use Rattle.words.specs.Basics.{none}
 use Rattle.sizes.specs.Sizes.{bit}
@@ -31,9 +31,12 @@ CopyIn N (suc l) ws i old x =
     (i < N) × (old < N) × Link N (sibling ws old (bit l x))
     × CopyIn N l (pathNode ws i (bit l x) (nextFree ws i) (sibling ws old (bit l x))) (nextFree ws i) (child ws old (bit l x)) x
 
--- the numbers that firstShared gives
-abbrev pub IsShared : ℕ → ℕ → ℕ → ℕ × ℕ × ℕ → Type 0
-IsShared r i a p = (r ≡ p .0) × (i ≡ p .1) × (a ≡ p .2)
+-- what the walk tells of p, which firstShared gives: whether a node is shared and its level; the place of its first word, or of the
+-- leaf's; and the place of the link to it, if it is not the root
+pub record IsShared (h x : ℕ) (shared : Bool) (level at link : ℕ) (p : ℕ × ℕ × ℕ) : Type 0 where
+  pub rest : p .0 ≡ cond shared (suc level) 0
+  pub place : at ≡ 4 * p .1
+  pub linked : shared ≡ true → level < h → link ≡ 4 * p .2 + 1 + bit level x
 
 -- a write to x in a tree of height h meets nodes only, where p is what firstShared gives
 pub record WriteIn (N h : ℕ) (ws : List ℕ) (free x : ℕ) (p : ℕ × ℕ × ℕ) : Type 0 where

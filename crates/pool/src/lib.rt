@@ -15,4 +15,5 @@ pub use tree::FirstShared;
 pub use tree::Written;
 pub use tree::first_shared;
 pub use tree::read_at;
-pub use tree::write_from;
+pub use tree::set_value;
+pub use tree::write_shared;

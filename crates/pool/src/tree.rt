@@ -1,13 +1,12 @@
 // The walk to a splitter's leaf, and a write: from the root down, nodes with one holder are altered where they are; from the first
 // with more holders the rest of the path is new. No index is tested: the contracts ask that links are in range.
 ghost use mathlib.Core.Path.{_≡_};
-ghost use mathlib.Core.Bool.{cond};
-ghost use Prim.Native.Nat.{_*_, _<_, _≤_};
-ghost use lib.Dec.{ltb};
-ghost use lib.ListN.{length};
+ghost use mathlib.Core.Bool.{true};
+ghost use Prim.Native.Nat.{_+_, _*_, _<_, _≤_};
+ghost use lib.ListN.{length, getD, set};
 ghost use Rattle.sizes.specs.Sizes.{bit};
 ghost use Rattle.pool.specs.Links.{Link, PathIn, CopyIn, IsShared, WriteIn, Wrote};
-ghost use Rattle.pool.specs.Pool.{refcount, child, sibling, setValue, setLink, nextFree, readAt, pathNode, copyPath, renew, firstShared, write};
+ghost use Rattle.pool.specs.Pool.{child, sibling, nextFree, readAt, pathNode, copyPath, renew, firstShared, write};
 use crate::node::NONE;
 use crate::node::store_node;
 use crate::refs::retain;
@@ -93,71 +92,92 @@ fn renew(pool: &mut [u32], nodes: u32, level: u32, free: u32, old: u32, x: u32, 
     next
 }
 
-// Stores the link of node i of level l + 1 on the way to splitter x.
-fn set_link(pool: &mut [u32], nodes: u32, i: u32, l: u32, x: u32, to: u32)
-    requires { ⌜ (4 * nodes ≤ length (now pool)) × (i < nodes) × (l < 32) ⌝ }
-    ensures { λ _. ⌜ now (pool .exit) ≡ setLink (now (pool .entry)) i (bit l x) to ⌝ }
+// Stores a leaf's value; its words begin at `at`.
+pub fn set_value(pool: &mut [u32], at: usize, v: u32)
+    requires { ⌜ at + 3 < length (now pool) ⌝ }
+    ensures { λ _. ⌜ now (pool .exit) ≡ set (now (pool .entry)) (at + 3) v ⌝ }
+{
+    pool[at + 3] = v;
+}
+
+// ---- where a write takes nodes
+
+// A node is told by the place of its first word, so that the walk shifts it once.
+
+// The place of node i.
+fn place_of(i: u32) -> usize
+    ensures { λ r. ⌜ r ≡ 4 * i ⌝ }
+{
+    4 * (i as usize)
+}
+
+// The holders of the node at this place.
+fn holders_at(pool: &[u32], at: usize) -> u32
+    requires { ⌜ at < length (now pool) ⌝ }
+    ensures { λ r. ⌜ r ≡ getD (now (pool .entry)) at 0 ⌝ }
+{
+    pool[at]
+}
+
+// The place of the link on the way to splitter x, of the node of level l + 1 at this place: indexed by the bit, with no branch.
+fn link_at(at: usize, l: u32, x: u32) -> usize
+    requires { ⌜ (at ≤ 17179869180) × (l < 32) ⌝ }
+    ensures { λ r. ⌜ r ≡ at + 1 + bit l x ⌝ }
 {
     let b = ((x >> l) & 1) as usize;
-    pool[4 * (i as usize) + 1 + b] = to;
+    at + 1 + b
 }
 
-// 1 for more than one holder, else 0.
-fn more_than_one(c: u32) -> u32
-    ensures { λ r. ⌜ r ≡ cond (ltb 1 c) 1 0 ⌝ }
+// The place of the node that this link leads to.
+fn linked(pool: &[u32], link: usize) -> usize
+    requires { ⌜ link < length (now pool) ⌝ }
+    ensures { λ r. ⌜ r ≡ 4 * getD (now (pool .entry)) link 0 ⌝ }
 {
-    if c > 1 { 1 } else { 0 }
+    place_of(pool[link])
 }
 
-// How many holders node i has.
-fn refcount_in(pool: &[u32], nodes: u32, i: u32) -> u32
-    requires { ⌜ (4 * nodes ≤ length (now pool)) × (i < nodes) ⌝ }
-    ensures { λ r. ⌜ r ≡ refcount (now (pool .entry)) i ⌝ }
-{
-    pool[4 * (i as usize)]
-}
-
-// Stores a leaf's value.
-fn set_value(pool: &mut [u32], nodes: u32, i: u32, v: u32)
-    requires { ⌜ (4 * nodes ≤ length (now pool)) × (i < nodes) ⌝ }
-    ensures { λ _. ⌜ now (pool .exit) ≡ setValue (now (pool .entry)) i v ⌝ }
-{
-    pool[4 * (i as usize) + 3] = v;
-}
-
-// Where a write takes nodes: how many the rest of the path has, the first node with more than one holder or else the leaf, and the
-// node above it.
+// The first node with more than one holder on the way to a splitter: its level, its place and that of the link to it. If none is
+// shared, the leaf's place.
 pub struct FirstShared {
-    pub rest: u32,
-    pub node: u32,
-    pub above: u32,
+    pub shared: bool,
+    pub level: u32,
+    pub at: usize,
+    pub link: usize,
 }
 
-// The first node with more than one holder on the way to splitter x, or else the leaf.
 pub fn first_shared(pool: &[u32], nodes: u32, height: u32, root: u32, x: u32) -> FirstShared
     requires { ⌜ (4 * nodes ≤ length (now pool)) × (height ≤ 32) × PathIn nodes (now pool) height root x ⌝ }
-    ensures { λ r. ⌜ IsShared (r .rest) (r .node) (r .above) (firstShared height (now (pool .entry)) root root x) ⌝ }
+    ensures { λ r. ⌜ IsShared height x (r .shared) (r .level) (r .at) (r .link) (firstShared height (now (pool .entry)) root root x) ⌝ }
 {
+    let mut at = place_of(root);
+    let mut link = at;
+    if holders_at(pool, at) > 1 {
+        return FirstShared {
+            shared: true,
+            level: height,
+            at: at,
+            link: link,
+        };
+    }
     let mut l = height;
-    let mut i = root;
-    let mut above = root;
     while l > 0 {
-        if refcount_in(pool, nodes, i) > 1 {
+        l -= 1;
+        link = link_at(at, l, x);
+        at = linked(pool, link);
+        if holders_at(pool, at) > 1 {
             return FirstShared {
-                rest: l + 1,
-                node: i,
-                above: above,
+                shared: true,
+                level: l,
+                at: at,
+                link: link,
             };
         }
-        l -= 1;
-        above = i;
-        i = child_in(pool, nodes, i, l, x);
     }
-    let c = refcount_in(pool, nodes, i);
     FirstShared {
-        rest: more_than_one(c),
-        node: i,
-        above: above,
+        shared: false,
+        level: 0,
+        at: at,
+        link: link,
     }
 }
 
@@ -168,9 +188,9 @@ pub struct Written {
     pub root: u32,
 }
 
-// Writes v at splitter x, where `at` is the first node with more than one holder on the way, or else the leaf. Nodes above it are
-// altered where they are; the rest of the path is new, in nodes of the free list. `count` nodes are free.
-pub fn write_from(
+// Writes v at splitter x, where `found` is the first node with more than one holder on the way: the rest of the path is new, in nodes
+// of the free list, and the link to it, or the frame's root, goes there. `count` nodes are free.
+pub fn write_shared(
     pool: &mut [u32],
     nodes: u32,
     height: u32,
@@ -179,35 +199,28 @@ pub fn write_from(
     root: u32,
     x: u32,
     v: u32,
-    at: FirstShared,
+    found: FirstShared,
 ) -> Written
-    requires { ⌜ (4 * nodes ≤ length (now pool)) × (height ≤ 32) × (at .rest ≤ count)
-        × IsShared (at .rest) (at .node) (at .above) (firstShared height (now pool) root root x)
+    requires { ⌜ (4 * nodes ≤ length (now pool)) × (height ≤ 32) × (found .shared ≡ true) × (found .level < count)
+        × IsShared height x (found .shared) (found .level) (found .at) (found .link) (firstShared height (now pool) root root x)
         × WriteIn nodes height (now pool) free x (firstShared height (now pool) root root x) ⌝ }
     ensures { λ r. ⌜ Wrote (write height (now (pool .entry)) free count root x v) (now (pool .exit)) (r .first) (r .count) (r .root) ⌝ }
 {
-    let node = at.node;
-    let rest = at.rest;
-    if rest == 0 {
-        set_value(pool, nodes, node, v);
-        return Written {
-            first: free,
-            count: count,
-            root: root,
-        };
-    }
-    let next = renew(pool, nodes, rest - 1, free, node, x, v);
-    if rest > height {
+    let level = found.level;
+    let node = (found.at / 4) as u32;
+    let next = renew(pool, nodes, level, free, node, x, v);
+    if level >= height {
         return Written {
             first: next,
-            count: count - rest,
+            count: count - level - 1,
             root: free,
         };
     }
-    set_link(pool, nodes, at.above, rest - 1, x, free);
+    let link = found.link;
+    pool[link] = free;
     Written {
         first: next,
-        count: count - rest,
+        count: count - level - 1,
         root: root,
     }
 }

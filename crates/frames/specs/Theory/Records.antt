@@ -118,3 +118,7 @@ module _ (fs : List ℕ) (p n : ℕ) where
   root-set =
       let a : ℕ = recordWords * p in
       rw (set-getD fs a 0, set-getD fs (a + 1) 0, set-getD fs (a + 2) 0, set-getD fs (a + 3) 0, set-getD fs (a + 4) 0)
+
+-- the root that it has
+pub root-kept : (fs : List ℕ) (p : ℕ) → setFrame fs p (withRoot (frameAt fs p) (frameAt fs p .root)) ≡ fs
+root-kept fs p = sym (root-set fs p (frameAt fs p .root)) ∙ (unfold frameAt in set-getD fs (recordWords * p + 5) 0)
