@@ -96,7 +96,6 @@ module _ (h : Head) (ds fs ws : List ℕ) (w : ℕ) where
       pub write-none : (v : ℕ) → h .numbers .splitters ≤ x → (headAfter h o ≡ h) × (o .answer ≡ Refused NoSplitter) → Leaves h o ds fs ws (kindOn (core h ds fs ws) (Write w x v))
       write-none v l q = rw (le-ltb x (h .numbers .splitters) l) (out-refused h o ds fs ws NoSplitter q)
 
-
   -- done
   module _ (p : ℕ) (f : Frame) (ep : p ≡ bottom ds w) (ef : f ≡ frameAt fs p) where
     pub spawn-done : (h .numbers .«free_place» ≡ none → ⊥) → (ds′ fs′ ws′ : List ℕ) (k place : ℕ) → ws′ ≡ retain ws (f .root)

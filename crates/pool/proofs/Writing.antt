@@ -67,7 +67,7 @@ alone-within {N} {l} {ws} {x} A = omega (arith, A .place, path-here N ws l (A .n
 pub root-shared : (h : ℕ) (ws : List ℕ) (root x : ℕ) {at link c : ℕ} → at ≡ 4 * root → c ≡ getD ws at 0 → 1 < c → IsShared h x true h at link (firstShared h ws root root x)
 unfolding refcount
 root-shared h ws root x e d c = (let big : 1 < refcount ws root = subst (λ k. 1 < k) (d ∙ ap (λ k. getD ws k 0) e) c in
-  rw (first-here ws root root x h big) (record { rest = refl; place = e; linked = λ _ b. absurd (omega arith) }))
+    rw (first-here ws root root x h big) (record { rest = refl; place = e; linked = λ _ b. absurd (omega arith) }))
 
 pub root-alone : (N h : ℕ) (ws : List ℕ) (root x : ℕ) {at c : ℕ} → PathIn N ws h root x → at ≡ 4 * root → c ≡ getD ws at 0 → c ≤ 1 → Alone N h ws x at (firstShared h ws root root x)
 unfolding refcount
@@ -111,12 +111,12 @@ module _ {N l : ℕ} {ws : List ℕ} {x at : ℕ} {p : ℕ × ℕ × ℕ} (A : A
       -- it has more
       pub next-shared : {k : ℕ} → 1 < c → IsShared k x true (l - 1) next link p
       next-shared b = (let f = sym (first-here ws (A .node) down x (l - 1) (omega (arith, holders-are))) ∙ below in
-        rw (sym f) (record { rest = refl; place = next-is; linked = λ _ _. link-is }))
+          rw (sym f) (record { rest = refl; place = next-is; linked = λ _ _. link-is }))
 
 -- the leaf
 pub leaf-alone : {N l h : ℕ} {ws : List ℕ} {x at link : ℕ} {p : ℕ × ℕ × ℕ} → Alone N l ws x at p → l ≤ 0 → IsShared h x false 0 at link p
 leaf-alone {N} {l} {h} {ws} {x} A b = (let f = sym (first-none ws (A .above) (A .node) x (A .one)) ∙ ap (λ k. firstShared k ws (A .above) (A .node) x) {x = 0} {y = l} (omega arith) ∙ A .finds in
-  rw (sym f) (record { rest = refl; place = A .place; linked = λ e. absurd (true≢false (sym e)) }))
+    rw (sym f) (record { rest = refl; place = A .place; linked = λ e. absurd (true≢false (sym e)) }))
 
 -- ---- the write
 

@@ -59,5 +59,9 @@ inUse-none n = sum-zero (suc (height n)) (λ l. sum (width n l) (λ g. 0)) (λ l
 pub inUse-positive : (n : ℕ) (f : Frame) (L : List Frame) → 0 < n → 0 < inUse n (f ∷ L)
 unfolding nodesInUse
 inUse-positive n f L p =
-    omega (arith, sum-ge (suc (height n)) 0 (λ l. sum (width n l) (λ g. distinct (lastMarks l g (f ∷ L)))) (omega arith), sum-ge (width n 0) 0 (λ g. distinct (lastMarks 0 g (f ∷ L))) (omega (arith, width-pos n 0 p)),
-    distinct-positive (lastOf 0 0 f) (lastMarks 0 0 L))
+    omega (
+      arith,
+      sum-ge (suc (height n)) 0 (λ l. sum (width n l) (λ g. distinct (lastMarks l g (f ∷ L)))) (omega arith),
+      sum-ge (width n 0) 0 (λ g. distinct (lastMarks 0 g (f ∷ L))) (omega (arith, width-pos n 0 p)),
+      distinct-positive (lastOf 0 0 f) (lastMarks 0 0 L),
+    )

@@ -13,9 +13,12 @@ renewed-of e = e .before .before .before
 
 renew-requires : tie.Need-renew-requires
 renew-requires c κs =
-    let s = c .before .before .before in
-    (s .pre .0, omega (arith, s .pre .1, level-in _ _ (s .args .free) (s .args .count) _ _ (s .args .v) (s .pre .2) (s .pre .4) (s .pre .5)),
-    node-in _ _ (s .args .free) (s .args .count) _ _ (s .args .v) (s .pre .2) (s .pre .4) (s .pre .5), copies-in _ _ (s .args .free) (s .args .count) _ _ (s .args .v) (s .pre .2) (s .pre .4) (s .pre .5))
+    let s = c .before .before .before in (
+      s .pre .0,
+      omega (arith, s .pre .1, level-in _ _ (s .args .free) (s .args .count) _ _ (s .args .v) (s .pre .2) (s .pre .4) (s .pre .5)),
+      node-in _ _ (s .args .free) (s .args .count) _ _ (s .args .v) (s .pre .2) (s .pre .4) (s .pre .5),
+      copies-in _ _ (s .args .free) (s .args .count) _ _ (s .args .v) (s .pre .2) (s .pre .4) (s .pre .5),
+    )
 
 returns : tie.Need-returns
 returns c =
