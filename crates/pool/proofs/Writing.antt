@@ -52,7 +52,7 @@ first-turn zero ws a i x h c = absurd (omega arith)
 first-turn (suc l) ws a i x h c = rw sub-one (sym (first-below ws a i x l c))
 
 -- the node i of level l, at this place, has one holder, and the walk from here on finds p
-pub record Alone (N l : ℕ) (ws : List ℕ) (x at : ℕ) (p : ℕ × ℕ × ℕ) : Type 0 where
+pub record Walked (N l : ℕ) (ws : List ℕ) (x at : ℕ) (p : ℕ × ℕ × ℕ) : Type 0 where
   pub above : ℕ
   pub node : ℕ
   pub place : at ≡ 4 * node
@@ -60,8 +60,8 @@ pub record Alone (N l : ℕ) (ws : List ℕ) (x at : ℕ) (p : ℕ × ℕ × ℕ
   pub one : refcount ws node ≤ 1
   pub finds : firstShared l ws above node x ≡ p
 
-pub alone-within : {N l : ℕ} {ws : List ℕ} {x at : ℕ} {p : ℕ × ℕ × ℕ} → Alone N l ws x at p → at < 4 * N
-alone-within {N} {l} {ws} {x} A = omega (arith, A .place, path-here N ws l (A .node) x (A .path))
+pub walked-within : {N l : ℕ} {ws : List ℕ} {x at : ℕ} {p : ℕ × ℕ × ℕ} → Walked N l ws x at p → at < 4 * N
+walked-within {N} {l} {ws} {x} A = omega (arith, A .place, path-here N ws l (A .node) x (A .path))
 
 -- the root
 pub root-shared : (h : ℕ) (ws : List ℕ) (root x : ℕ) {at link c : ℕ} → at ≡ 4 * root → c ≡ getD ws at 0 → 1 < c → IsShared h x true h at link (firstShared h ws root root x)
@@ -69,11 +69,11 @@ unfolding refcount
 root-shared h ws root x e d c = (let big : 1 < refcount ws root = subst (λ k. 1 < k) (d ∙ ap (λ k. getD ws k 0) e) c in
     rw (first-here ws root root x h big) (record { rest = refl; place = e; linked = λ _ b. absurd (omega arith) }))
 
-pub root-alone : (N h : ℕ) (ws : List ℕ) (root x : ℕ) {at c : ℕ} → PathIn N ws h root x → at ≡ 4 * root → c ≡ getD ws at 0 → c ≤ 1 → Alone N h ws x at (firstShared h ws root root x)
+pub root-alone : (N h : ℕ) (ws : List ℕ) (root x : ℕ) {at c : ℕ} → PathIn N ws h root x → at ≡ 4 * root → c ≡ getD ws at 0 → c ≤ 1 → Walked N h ws x at (firstShared h ws root root x)
 unfolding refcount
 root-alone N h ws root x P e d c = record { above = root; node = root; place = e; path = P; one = subst (λ k. k ≤ 1) (d ∙ ap (λ k. getD ws k 0) e) c; finds = refl }
 
-module _ {N l : ℕ} {ws : List ℕ} {x at : ℕ} {p : ℕ × ℕ × ℕ} (A : Alone N l ws x at p) (h : 0 < l) {link : ℕ} (el : link ≡ at + 1 + bit (l - 1) x) where
+module _ {N l : ℕ} {ws : List ℕ} {x at : ℕ} {p : ℕ × ℕ × ℕ} (A : Walked N l ws x at p) (h : 0 < l) {link : ℕ} (el : link ≡ at + 1 + bit (l - 1) x) where
   here : A .node < N
   here = path-here N ws l (A .node) x (A .path)
 
@@ -105,7 +105,7 @@ module _ {N l : ℕ} {ws : List ℕ} {x at : ℕ} {p : ℕ × ℕ × ℕ} (A : A
       holders-are = ec ∙ ap (λ k. getD ws k 0) next-is
 
       -- the next node has one holder too
-      pub goes-on : c ≤ 1 → Alone N (l - 1) ws x next p
+      pub goes-on : c ≤ 1 → Walked N (l - 1) ws x next p
       goes-on b = record { above = A .node; node = down; place = next-is; path = on; one = omega (arith, holders-are); finds = below }
 
       -- it has more
@@ -114,7 +114,7 @@ module _ {N l : ℕ} {ws : List ℕ} {x at : ℕ} {p : ℕ × ℕ × ℕ} (A : A
           rw (sym f) (record { rest = refl; place = next-is; linked = λ _ _. link-is }))
 
 -- the leaf
-pub leaf-alone : {N l h : ℕ} {ws : List ℕ} {x at link : ℕ} {p : ℕ × ℕ × ℕ} → Alone N l ws x at p → l ≤ 0 → IsShared h x false 0 at link p
+pub leaf-alone : {N l h : ℕ} {ws : List ℕ} {x at link : ℕ} {p : ℕ × ℕ × ℕ} → Walked N l ws x at p → l ≤ 0 → IsShared h x false 0 at link p
 leaf-alone {N} {l} {h} {ws} {x} A b = (let f = sym (first-none ws (A .above) (A .node) x (A .one)) ∙ ap (λ k. firstShared k ws (A .above) (A .node) x) {x = 0} {y = l} (omega arith) ∙ A .finds in
     rw (sym f) (record { rest = refl; place = A .place; linked = λ e. absurd (true≢false (sym e)) }))
 

@@ -5,12 +5,12 @@ use native.Mathlib.Omega.{arith}
 use borrow.Author.Needs.{needs}
 use Rattle.pool.specs.Pool.{firstShared}
 use Rattle.pool.specs.Theory.Links.{path-here}
-use Rattle.pool.proofs.Writing.{Alone, alone-within, root-shared, root-alone, link-in, next-in, goes-on, next-shared, leaf-alone}
+use Rattle.pool.proofs.Writing.{Walked, walked-within, root-shared, root-alone, link-in, next-in, goes-on, next-shared, leaf-alone}
 use Rattle.pool.proofs.tree.first_shared.Statement.{statement}
 use Rattle.pool.proofs.tree.first_shared.Tie as tie
 
 abbrev Inv-loop : tie.InvT-loop
-Inv-loop pool nodes height root x at₀ link₀ l₀ at link l = (l ≤ 32) × Alone nodes l pool x at (firstShared height pool root root x)
+Inv-loop pool nodes height root x at₀ link₀ l₀ at link l = (l ≤ 32) × Walked nodes l pool x at (firstShared height pool root root x)
 
 abbrev μ-loop : tie.MeasureT-loop
 μ-loop pool nodes height root x at₀ link₀ l₀ at link l = l
@@ -35,7 +35,7 @@ loop-holds c =
 link-at-requires : tie.Need-link-at-requires Inv-loop μ-loop
 link-at-requires c κs =
     let turn = c .before in
-    (omega (arith, alone-within (turn .loop .inv .1)), omega (arith, turn .loop .inv .0))
+    (omega (arith, walked-within (turn .loop .inv .1)), omega (arith, turn .loop .inv .0))
 
 linked-requires : tie.Need-linked-requires Inv-loop μ-loop
 linked-requires c κs =
