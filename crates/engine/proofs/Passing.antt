@@ -1,6 +1,6 @@
 -- What the tests of a step and a ready core give to the calls after them.
 use mathlib.Core.Path.{_≡_, refl, sym, ap, _∙_, subst}
-use mathlib.Core.Logic.{inl, inr, _⊎_}
+use mathlib.Core.Logic.{inl, inr}
 use mathlib.Core.Bool.{Bool, true, false, cond, not, _||_}
 use mathlib.Core.List.{List, [], _∷_}
 use Prim.Native.Nat.{ℕ, suc, _+_, _-_, _*_, _≤_, _<_}
@@ -23,7 +23,7 @@ use Rattle.semantics.specs.declared.Refusal.the-variants.{NoWorker, MainReturne
 use Rattle.semantics.specs.Core.{Core, stealTests, allIdle}
 use Rattle.semantics.specs.Ranges.{Ready}
 use Rattle.engine.specs.declared.Verdict.{Verdict}
-use Rattle.engine.specs.declared.Verdict.the-variants.{Pass, Refuse}
+use Rattle.engine.specs.declared.Verdict.the-variants.{Pass}
 use Rattle.engine.specs.Promises.{core, verdict, ActsOn, ActsAt, SizesIn}
 
 pub sizes-in : {c : Core} → Ready c → SizesIn (c .head .numbers .workers) (c .deques)

@@ -42,4 +42,6 @@ pub mod FreshMarks
 pub mod Bounds
 -- all of them together, along a run from a start
 pub mod Invariant
+-- R-2: a second write takes no node
+pub mod SecondWrite
 pub mod Unused

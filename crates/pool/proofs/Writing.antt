@@ -10,7 +10,7 @@ use Rattle.words.specs.Basics.{none}
 use Rattle.words.specs.Tests.{true≢false}
 use Rattle.sizes.specs.Bits.{bit-lt}
 use Rattle.sizes.specs.Sizes.{bit}
-use Rattle.pool.specs.Pool.{refcount, left, child, sibling, setNode, setRefcount, setValue, setLink, pathNode, copyPath, renew, firstShared, writeFrom, write}
+use Rattle.pool.specs.Pool.{refcount, left, child, sibling, setNode, setRefcount, setLink, pathNode, copyPath, renew, firstShared, writeFrom, write}
 use Rattle.pool.specs.Links.{Link, PathIn, CopyIn, IsShared, WriteIn, Wrote}
 use Rattle.pool.specs.Theory.Links.{path-here, path-on}
 use Rattle.pool.specs.Theory.Write.{first-here, first-none, first-below, from-root, from-below}

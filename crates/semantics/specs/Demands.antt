@@ -17,7 +17,7 @@ use Rattle.model.specs.declared.Decoded.{Decoded}
 use Rattle.model.specs.declared.Decoded.the-variants.{Valid, Invalid}
 use Rattle.model.specs.Machine.{Name, Frame, Machine, start, live, deque, inUse}
 use Rattle.model.specs.Machine.{freeNodes as plainFree}
-use Rattle.model.specs.Steps.{step, answer, afterWrite}
+use Rattle.model.specs.Steps.{refusal, step, answer, afterWrite}
 use Rattle.model.specs.Run.{Entry, IsFrame, stepsOf, readsOf, oneWorkerSteps}
 use Rattle.semantics.specs.Entries.{State, zeros, wholeNodes, numbersOf, isSound, chainFree}
 use Rattle.image.specs.Image.{imageBytes, nodesIn}
@@ -116,6 +116,13 @@ RestIsCounted b calls =
     let M : Machine = plainNow b calls in
     (w x v : ℕ) (q : Frame) (d : List Frame) → deque M w ≡ q ∷ d → x < M .splitters →
     lacksIn (coreIn (runFrom b calls .now)) (Valid (Write w x v)) ≡ ltb (M .nodes) (inUse (M .splitters) (live (afterWrite M w q d x v)))
+
+-- R-2: "Layout searches write the same block many times in one branch": after an accepted write of a worker its next one to the same
+-- splitter is accepted and takes no node
+abbrev pub WritesAgain : Start → List Call → Type 0
+WritesAgain b calls =
+    let M : Machine = plainNow b calls in
+    (w x v v′ : ℕ) → refusal M (Write w x v) ≡ 0 → answer (step M (Write w x v)) (Write w x v′) ≡ (106, plainFree (step M (Write w x v)))
 
 -- for sound states, however obtained: "the values its trees hold" (SoundMachine)
 abbrev pub plainOf : StateAndPool → Machine

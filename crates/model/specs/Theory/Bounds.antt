@@ -1,9 +1,9 @@
 -- At most 64 frames live; each has a value for each splitter, and its writes were to splitters below n.
-use mathlib.Core.Path.{_≡_, refl, sym, ap, _∙_, subst}
+use mathlib.Core.Path.{_≡_, refl, sym, _∙_, subst}
 use mathlib.Core.Logic.{inl, inr}
 use mathlib.Core.List.{List·Memᴰ as In, List·Memᴰ·head as here, List·Memᴰ·tail as there, List·Memᴰ·not-nil as not-in-nil, List·Memᴰ·eq-of-singleton as In-one, List·Memᴰ·cases-cons as In-cons, List·Memᴰ·append-cases as In-cases}
 use mathlib.Core.List.{List, _∷_, _++_, List·Permᴰ, Permᴰ·symm}
-use Prim.Native.Nat.{ℕ, suc, _≤_, _<_}
+use Prim.Native.Nat.{ℕ, _≤_, _<_}
 use native.Mathlib.Omega.{arith}
 use lib.ListN.{length, length-set}
 use Rattle.words.specs.Lists.{In-perm, perm-length}

@@ -10,7 +10,7 @@ use Rattle.words.specs.Counting.{δ-same, δ-other, count-cons, sum-ge}
 use Rattle.sizes.specs.Bits.{bit-lt, Agree}
 use Rattle.sizes.specs.Sizes.{bit}
 use Rattle.pool.specs.Pool.{refcount, left, right, side, child}
-use Rattle.pool.specs.Theory.Invariant.{link, indegree, Invariant, link-pos, indegree-ge}
+use Rattle.pool.specs.Theory.Invariant.{link, indegree, link-pos, indegree-ge}
 use Rattle.pool.specs.Theory.Operations.{Live, root-covers}
 use Rattle.pool.specs.Theory.Reached.{reached-in-use}
 use Rattle.pool.specs.Theory.Walk.{walk, walk-here, walk-down, Covers}

@@ -19,7 +19,7 @@ use Rattle.pool.specs.Theory.InUse.{historiesOf, free-nodes}
 use Rattle.pool.specs.Theory.Init.{init-start, init-length, init-beyond}
 use Rattle.pool.specs.Theory.Operations.{Live, live-perm, live-spawn, live-return}
 use Rattle.pool.specs.Theory.Reached.{all-free}
-use Rattle.pool.specs.Theory.Rest.{rest-counted, rest-again}
+use Rattle.pool.specs.Theory.Rest.{rest-counted}
 use Rattle.pool.specs.Theory.Sharing.{Frame, rootsOf, root-of, Fresh, Share, share-spawn, share-return, share-write}
 use Rattle.pool.specs.Theory.Soundness.{live-sound}
 use Rattle.pool.specs.Theory.Start.{startLevel, startSize, startFree, start-free, start-live, start-read, start-share}
@@ -168,8 +168,3 @@ module _ (N n : ℕ) (most : N ≤ 16384) (some : 0 < n) where
       let r = rest-counted N n small root h Fs e bx (G .live) (G .share) fresh in
       let f = good-free {Fs = (root, h) ∷ Fs} G in
       (r, ((λ q. omega (arith, r, f)), (λ q. omega (arith, r, f))))
-
-  -- "Layout searches write the same block many times in one branch": the frame writes there again with no new node
-  pub good-again : {ws : List ℕ} {free k root : ℕ} {h : History} {Fs : List Frame} (e : Event) (old : ℕ) → e .splitter < n → Fresh (e .mark) ((old, h) ∷ Fs) → Good N n ws free k ((root, e ∷ h) ∷ Fs)
-      → rest (height n) ws root (e .splitter) ≡ 0
-  good-again {root = root} {h} {Fs} e old bx fresh G = rest-again N n small root h Fs e bx old (G .live) (G .share) fresh

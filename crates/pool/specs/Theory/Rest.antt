@@ -10,7 +10,7 @@ use native.Mathlib.Decide.{ℕ-discrete, decLe}
 use native.Mathlib.Nat.{div-mul-le-self}
 use lib.Pow.{pow-pos}
 use Rattle.words.specs.Basics.{none, sum, distinct, among, δ, count}
-use Rattle.words.specs.Counting.{δ-same, δ-other, δ-eq, count-cons, sum-cong, sum-upd, sum-add, sum-pos, sum-zero, hit as cond-yes, miss as cond-no}
+use Rattle.words.specs.Counting.{δ-same, δ-other, δ-eq, count-cons, sum-cong, sum-upd, sum-add, sum-pos, hit as cond-yes, miss as cond-no}
 use Rattle.words.specs.Distinct.{among→In, In→among, distinct-in, distinct-out}
 use Rattle.words.specs.Tests.{decided}
 use Rattle.sizes.specs.Bits.{bit-lt, Agree, group-agree}
@@ -232,11 +232,3 @@ module _ (N n : ℕ) (small : N ≤ none) {level size : ℕ → ℕ} {ws : List 
   rest-counted L S fresh =
       in-use-sum n e h (historiesOf Fs) bx (fresh-out root h Fs (e .mark) fresh)
       ∙ ap (λ r. nodesInUse n (h ∷ historiesOf Fs) + r) (both-rest N (height n) n small (height-covers n) root h Fs (e .splitter) L S bx)
-
-  -- once it has written, the frame writes there again with no new node: "Layout searches write the same block many times in one branch"
-  pub rest-again : (old : ℕ) → Live N (height n) n level size ws free fs (rootsOf ((root, e ∷ h) ∷ Fs)) → Share N (height n) n level ws ((root, e ∷ h) ∷ Fs) → Fresh (e .mark) ((old, h) ∷ Fs)
-      → rest (height n) ws root (e .splitter) ≡ 0
-  rest-again old L S fresh =
-      sym (both-rest N (height n) n small (height-covers n) root (e ∷ h) Fs (e .splitter) L S bx)
-      ∙ sum-zero (suc (height n)) (λ l. cond (among (lastWrite l (e .splitter / 2 ^ l) (e ∷ h)) (marksAt l (e .splitter / 2 ^ l) (historiesOf Fs))) 1 0)
-      (λ l _. cond-no (ap (λ m. among m (marksAt l (e .splitter / 2 ^ l) (historiesOf Fs))) (lastWrite-hit l (e .splitter / 2 ^ l) e h refl) ∙ fresh-out old h Fs (e .mark) fresh l (e .splitter / 2 ^ l)))

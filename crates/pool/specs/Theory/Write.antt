@@ -20,7 +20,7 @@ use Rattle.pool.specs.Links.{CopyIn, WriteIn}
 use Rattle.pool.specs.Theory.Alone.{Alone, FirstShared, alone}
 use Rattle.pool.specs.Theory.Changes.{grows-refl}
 use Rattle.pool.specs.Theory.CopyPath.{Before, Copied, new-links, sibling-used, path-copied, path-in}
-use Rattle.pool.specs.Theory.Invariant.{NodeAt, Links, Invariant, used-out, links-at, inv-perm}
+use Rattle.pool.specs.Theory.Invariant.{NodeAt, Links, used-out, links-at, inv-perm}
 use Rattle.pool.specs.Theory.Nodes.{SameContent, content-trans, length-setRefcount, drop-setRefcount, setRefcount-is, setRefcount-other, setRefcount-content, length-setValue, drop-setValue, setValue-is, setValue-refcount, setValue-left, setValue-right, setValue-other, length-setLink, drop-setLink, setLink-left, setLink-right, setLink-refcount, setLink-value, setLink-other}
 use Rattle.pool.specs.Theory.Operations.{Live, SameTree, root-covers, same-tree}
 use Rattle.pool.specs.Theory.PathNode.{side-same, side-other, side-sum, child-sibling}

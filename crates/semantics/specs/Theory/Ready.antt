@@ -1,6 +1,6 @@
 -- What a sound core gives to code that indexes the deques, the frame table and the pool without a test.
 use mathlib.Core.Path.{_≡_, refl, sym, ap, _∙_, subst}
-use mathlib.Core.Logic.{_⊎_, inl, inr}
+use mathlib.Core.Logic.{inl, inr}
 use mathlib.Core.Bool.{Bool, true, false, cond}
 use mathlib.Core.List.{List, [], _∷_}
 use Prim.Native.Nat.{ℕ, zero, suc, _-_, _≤_, _<_}
@@ -8,7 +8,7 @@ use native.Mathlib.Omega.{arith}
 use native.Mathlib.Decide.{ℕ-discrete}
 use lib.ListN.{length, length-append}
 use borrow.Author.Tests.{eq-eqb}
-use Rattle.words.specs.Basics.{none, Chain, below, δ, count, howMany}
+use Rattle.words.specs.Basics.{none, Chain, δ, count, howMany}
 use Rattle.words.specs.Chains.{chain-start}
 use Rattle.words.specs.Counting.{hit, δ-same, δ-other, δ-le, count-cons, sum-ge}
 use Rattle.words.specs.Tallies.{and-of}
@@ -17,7 +17,7 @@ use Rattle.sizes.specs.Sizes.{height, width, treeNodes}
 use Rattle.sizes.specs.Heights.{height-covers, height-le}
 use Rattle.sizes.specs.Widths.{width-pos}
 use Rattle.pool.specs.Pool.{firstShared, rest}
-use Rattle.pool.specs.Links.{Link, LinksIn, PathIn, WriteIn}
+use Rattle.pool.specs.Links.{PathIn, WriteIn}
 use Rattle.pool.specs.Theory.Operations.{Live}
 use Rattle.pool.specs.Theory.Soundness.{linkLevel, linkSize, sound-live}
 use Rattle.pool.specs.Theory.LiveLinks.{live-links, live-free, live-path, live-writes}

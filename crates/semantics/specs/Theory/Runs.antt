@@ -23,7 +23,7 @@ use Rattle.semantics.specs.declared.Refusal.the-variants.{Tape}
 use Rattle.semantics.specs.declared.Answer.{Answer}
 use Rattle.semantics.specs.Answers.{answerWords, wordsIn}
 use Rattle.semantics.specs.Core.{Core}
-use Rattle.semantics.specs.Entries.{numbersOf, coreOf, stateOf, isSound, checkedState, chainFree, recordOn, OutsideResult, outsideDone, outsideChecked, outsideWith, outsideOn, recordsOf, putAnswer, RecordsResult, recordsResult, runOn, TapeResult, tapeDone, tapeRefused, tapeChecked, unfitTape, tapeWith, tapeOn}
+use Rattle.semantics.specs.Entries.{numbersOf, coreOf, stateOf, checkedState, recordOn, OutsideResult, outsideDone, outsideChecked, outsideWith, outsideOn, recordsOf, putAnswer, RecordsResult, recordsResult, runOn, TapeResult, tapeDone, tapeRefused, tapeChecked, unfitTape, tapeWith, tapeOn}
 use Rattle.semantics.specs.Calls.{HostCall, outside, tape, StateAndPool, afterCall, Exchange, refusedWhole, exchangesFrom, exchangesOf, recordsIn, answersIn, PoolAt, poolAt, poolsAt, coreIn}
 use Rattle.semantics.specs.Demands.{Specification, answersBy, machineBy}
 use Rattle.semantics.specs.Promises.{Fits}

@@ -31,7 +31,8 @@ use Rattle.model.specs.Theory.Effects.{rest as plainRest}
 use Rattle.model.specs.Theory.Histories.{inUse-perm}
 use Rattle.model.specs.Theory.RunSteps.{sizes-step}
 use Rattle.model.specs.Theory.FrameTree.{tree-start}
-use Rattle.model.specs.Theory.Invariant.{Invariant, invariant-start, invariant-step}
+use Rattle.model.specs.Theory.Invariant.{Invariant, invariant-start, invariant-step, invariant-run}
+use Rattle.model.specs.Theory.SecondWrite.{second-write}
 use Rattle.model.specs.Theory.MainEnds.{returned-ends}
 use Rattle.model.specs.Theory.Demand3Proof.{demand3 as plain-demand3}
 use Rattle.semantics.specs.Answers.{answerWords}
@@ -39,7 +40,7 @@ use Rattle.frames.specs.declared.Frame.{Frame as FrameWords}
 use Rattle.semantics.specs.Core.{Core, actingIn, stepOn}
 use Rattle.semantics.specs.Entries.{State, StartResult, fits, isSound, numbersOf, recordOn, wholeNodes}
 use Rattle.semantics.specs.Calls.{Start, startResult, HostCall, outside, StateAndPool, afterStart, afterCall, Exchange, exchangesOf, recordsIn, answersIn, lacksIn, poolsAt, coreIn, Run, Call, call, begun, runAfter, runOf}
-use Rattle.semantics.specs.Demands.{plainAfter, plainAnswer, fromStart, answersBy, machineBy, plainStart, runFrom, Demand2, plainNow, RestIsCounted, StartWords, AllCallWords, traceOf, MainReturned, callOf, oneByOne, oneWorkerCalls, aloneStart, allAccepted, AllFree, Demand3}
+use Rattle.semantics.specs.Demands.{plainAfter, plainAnswer, fromStart, answersBy, machineBy, plainStart, runFrom, Demand2, plainNow, RestIsCounted, WritesAgain, StartWords, AllCallWords, traceOf, MainReturned, callOf, oneByOne, oneWorkerCalls, aloneStart, allAccepted, AllFree, Demand3}
 use Rattle.semantics.specs.Promises.{Fits}
 use Rattle.semantics.specs.Theory.Relation.{TreeLaws, Relates, rootsOf}
 use Rattle.semantics.specs.Theory.RelationFacts.{trees-perm}
@@ -179,6 +180,15 @@ rest-is-counted b calls e w all-words standing u x v q d at below =
     ∙ ap (λ (d : Core). lacksIn d (Valid (Write u x v))) (core-counted C)
     ∙ sym (own-rest M c C u x v)
     ∙ counted-rest M c (E .follows) u x v q d (there-is-worker M u (omega (arith, ap length at))) at below
+
+pub writes-again : (b : Start) (calls : List Call) → startResult b .result ≡ 0 → StartWords b → AllCallWords calls → WritesAgain b calls
+writes-again b calls e w all-words u x v v′ h =
+    let R = run-kept b calls e w all-words in
+    let p = runFrom b calls .past in
+    let F = started-fit (b .parts) (b .workers) (b .values) (b .pool) e .fit in
+    second-write (plainNow b calls) u x v v′
+    (subst Invariant (sym (machine-plain (recordsIn (p .exchanges)) (p .pools) (plainStart b) (R .long)))
+    (invariant-run (plainStart b) (valids (recordsIn (p .exchanges))) (invariant-start (b .workers) (b .values) (wholeNodes (b .pool)) (F .enough)))) h
 
 -- after steps and tapes alone, whatever they hand in
 pub plain-sound : (b : Start) (ks : List HostCall) → startResult b .result ≡ 0 → isSound (runFrom b (map call ks) .now .state) (runFrom b (map call ks) .now .pool) ≡ true
