@@ -4,7 +4,7 @@ use mathlib.Core.Bool.{Bool, false, cond, not, _||_}
 use mathlib.Core.List.{List, [], _∷_, _++_, map}
 use Prim.Native.Nat.{ℕ, zero, suc, _+_}
 use lib.ListN.{getD, take}
-use lib.Dec.{eqb, ltb, leb}
+use lib.Dec.{eqb, leb}
 use Rattle.sizes.specs.Sizes.{height}
 use Rattle.pool.specs.Pool.{rest}
 use Rattle.model.specs.declared.Step.the-variants.{Spawn, Return, Steal, Sync, Read, Write}
@@ -89,23 +89,23 @@ answersIn es = map (λ e. e .1) es
 -- ---- the pool at each record: a sound state from elsewhere has no history to count
 
 pub record PoolAt : Type 0 where
-  -- before it: "fewer nodes are free than that rest has", of a write's path (R-2)
-  pub lacks : Bool
+  -- before it: how many nodes "that rest has", of a write's path (R-2)
+  pub rest : ℕ
   -- after it: the nodes on the free chain
   pub free : ℕ
 
 -- of a worker's bottom frame, whatever it is
-abbrev pub lacksIn : Core → Decoded → Bool
-lacksIn c Invalid = false
-lacksIn c (Valid (Spawn w)) = false
-lacksIn c (Valid (Return w)) = false
-lacksIn c (Valid (Steal w v)) = false
-lacksIn c (Valid (Sync w)) = false
-lacksIn c (Valid (Read w x)) = false
-lacksIn c (Valid (Write w x v)) = ltb (chainFree (stateOf c) (c .pool)) (rest (height (c .head .numbers .splitters)) (c .pool) (actingIn c w .root) x)
+abbrev pub restIn : Core → Decoded → ℕ
+restIn c Invalid = 0
+restIn c (Valid (Spawn w)) = 0
+restIn c (Valid (Return w)) = 0
+restIn c (Valid (Steal w v)) = 0
+restIn c (Valid (Sync w)) = 0
+restIn c (Valid (Read w x)) = 0
+restIn c (Valid (Write w x v)) = rest (height (c .head .numbers .splitters)) (c .pool) (actingIn c w .root) x
 
 abbrev pub poolAt : Core → Decoded → PoolAt
-poolAt c d = record { lacks = lacksIn c d; free = chainFree (stateOf (recordOn c d .core)) (recordOn c d .core .pool) }
+poolAt c d = record { rest = restIn c d; free = chainFree (stateOf (recordOn c d .core)) (recordOn c d .core .pool) }
 
 -- of the records ds, from the core c on
 abbrev pub poolsAt : Core → List Decoded → List PoolAt

@@ -4,7 +4,7 @@ use mathlib.Core.Logic.{_↔_, _≢_}
 use mathlib.Core.Bool.{Bool, true, false, cond, _||_}
 use mathlib.Core.List.{List·Memᴰ as In}
 use mathlib.Core.List.{List, [], _∷_, map}
-use Prim.Native.Nat.{ℕ, suc, _+_, _*_, _/_, _<_}
+use Prim.Native.Nat.{ℕ, suc, _+_, _-_, _*_, _/_, _<_}
 use lib.ListN.{length, take, drop}
 use lib.Dec.{eqb, ltb}
 use Rattle.words.specs.Basics.{count}
@@ -24,7 +24,7 @@ use Rattle.image.specs.Image.{imageBytes, nodesIn}
 use Rattle.semantics.specs.Answers.{wordsIn}
 use Rattle.semantics.specs.Images.{savedImage, stateIn, nodesZero, loadOn}
 use Rattle.semantics.specs.SoundMachine.{machineOf}
-use Rattle.semantics.specs.Calls.{Start, startResult, HostCall, outside, tape, StateAndPool, afterStart, outsideResult, tapeResult, saveResult, afterCall, recordsIn, answersIn, PoolAt, lacksIn, coreIn, Past, Run, Call, call, save, load, begun, runOf, saysAccepted, traceFrom}
+use Rattle.semantics.specs.Calls.{Start, startResult, HostCall, outside, tape, StateAndPool, afterStart, outsideResult, tapeResult, saveResult, afterCall, recordsIn, answersIn, PoolAt, restIn, coreIn, Past, Run, Call, call, save, load, begun, runOf, saysAccepted, traceFrom}
 
 -- ---- the plain machine, fed records
 
@@ -59,15 +59,18 @@ abbrev pub withRoom : Machine → Bool → Machine
 withRoom M lacks = withNodes M (cond lacks 0 (inUse (M .splitters) (live M) + suc (height (M .splitters))))
 
 -- "That count is for runs from a start; a sound state handed in otherwise has the values its trees hold": there the free nodes are
--- those on the chain, and so an accepted write's answer; and a write lacks nodes, 16, just when the chain has fewer than the rest
--- of its path
-abbrev pub answerIn : PoolAt → ℕ × ℕ → ℕ × ℕ
-answerIn k a = cond (eqb (a .0) 106) (106, k .free) a
+-- those on the chain. By R-2 a write lacks nodes, 16, just when fewer are free than the rest of its path has; else it takes as many,
+-- and answers those left
+abbrev pub roomFor : Machine → PoolAt → Machine
+roomFor M k = withRoom M (ltb (plainFree M) (k .rest))
+
+abbrev pub isWritten : ℕ × ℕ → Bool
+isWritten a = eqb (a .0) 106
 
 abbrev pub fromSound : Specification
 fromSound = record {
-  answers = λ M d k. answerIn k (plainAnswer (withRoom M (k .lacks)) d);
-  after = λ M d k. withFree (plainAfter (withRoom M (k .lacks)) d) (k .free);
+  answers = λ M d k. cond (isWritten (plainAnswer (roomFor M k) d)) (106, plainFree M - k .rest) (plainAnswer (roomFor M k) d);
+  after = λ M d k. withFree (plainAfter (roomFor M k) d) (cond (isWritten (plainAnswer (roomFor M k) d)) (plainFree M - k .rest) (k .free));
 }
 
 -- the answers to the records ds, and the machine after them; ks are the pools at them
@@ -106,16 +109,22 @@ runFrom b calls = runOf (begun (afterStart b)) calls
 abbrev pub Demand2 : Start → List Call → Type 0
 Demand2 b calls = Answers fromStart (plainStart b) (wholeNodes (b .pool)) (runFrom b calls)
 
--- R-2: "Nodes in use after a write are as before, so the plain machine's count goes on being the measure": in a run from a start, a
--- write lacks nodes by the rest of its path just when it "would bring that count above the pool's nodes"
+-- R-2: "Nodes in use after a write are as before, so the plain machine's count goes on being the measure": in a run from a start, the rest
+-- of a write's path has as many nodes as the write adds to that count, so that it has more than are free just when the write "would
+-- bring that count above the pool's nodes"
 abbrev pub plainNow : Start → List Call → Machine
 plainNow b calls = let p : Past = runFrom b calls .past in machineBy fromStart (plainStart b) (recordsIn (p .exchanges)) (p .pools)
+
+pub record Counted (M : Machine) (free rest : ℕ) (M′ : Machine) : Type 0 where
+  pub same-count : inUse (M .splitters) (live M′) ≡ inUse (M .splitters) (live M) + rest
+  pub same-16 : ltb free rest ≡ ltb (M .nodes) (inUse (M .splitters) (live M′))
 
 abbrev pub RestIsCounted : Start → List Call → Type 0
 RestIsCounted b calls =
     let M : Machine = plainNow b calls in
+    let h : StateAndPool = runFrom b calls .now in
     (w x v : ℕ) (q : Frame) (d : List Frame) → deque M w ≡ q ∷ d → x < M .splitters →
-    lacksIn (coreIn (runFrom b calls .now)) (Valid (Write w x v)) ≡ ltb (M .nodes) (inUse (M .splitters) (live (afterWrite M w q d x v)))
+    Counted M (chainFree (h .state) (h .pool)) (restIn (coreIn h) (Valid (Write w x v))) (afterWrite M w q d x v)
 
 -- R-2: "Layout searches write the same block many times in one branch": after an accepted write of a worker its next one to the same
 -- splitter is accepted and takes no node

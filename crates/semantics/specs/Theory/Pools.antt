@@ -3,7 +3,7 @@
 use mathlib.Core.Path.{_≡_, refl}
 use mathlib.Core.List.{List·Memᴰ·head as here}
 use mathlib.Core.List.{List, _∷_}
-use Prim.Native.Nat.{ℕ, _*_, _≤_, _<_}
+use Prim.Native.Nat.{ℕ, _+_, _*_, _≤_, _<_}
 use native.Mathlib.Omega.{arith}
 use lib.ListN.{length, drop, length-map}
 use Rattle.words.specs.Basics.{none}
@@ -60,10 +60,10 @@ module _ (N n : ℕ) (most : N ≤ 16384) (some : 0 < n) where
   returned ws free k F Fs T = live-return N (height n) n small (height-covers n) k (F .0) (rootsOf Fs) (T .counted) (T .live)
 
   writeOn : (ws : List ℕ) (free k root : ℕ) (h : History) (Fs : List Frame) (x v : ℕ) → length Fs < places → x < n → rest (height n) ws root x ≤ k → (T : LiveTrees N n ws free k ((root, h) ∷ Fs))
-      → Written N (height n) n (T .level) (T .size) ws (rootsOf Fs) root x v (write (height n) ws free k root x v)
+      → Written N (height n) n (T .level) (T .size) ws (rootsOf Fs) root x v (write (height n) ws free k root x v) × (write (height n) ws free k root x v .2 + rest (height n) ws root x ≡ k)
   writeOn ws free k root h Fs x v few bx enough T =
       live-write N (height n) n small (height-covers n) (T .level) (T .size) ws free k (T .fs) (rootsOf Fs) root x v (T .live) bx (T .counted) enough
-      (omega (arith, length-map Fs (λ (K : Frame). K .0))) .0
+      (omega (arith, length-map Fs (λ (K : Frame). K .0)))
 
   pub live-laws : TreeLaws N n (LiveTrees N n)
   live-laws = record {
@@ -82,7 +82,7 @@ module _ (N n : ℕ) (most : N ≤ 16384) (some : 0 < n) where
       record { level = T .level; size = T .size; fs = R .fs'; counted = R .counted; live = R .live },
       λ K m. R .same (K .0) (root-of K Fs m) .reads,
     ));
-    write = λ ws free k root h Fs x v m few bx enough m≢ fresh T. (let W = writeOn ws free k root h Fs x v few bx enough T in (
+    write = λ ws free k root h Fs x v m few bx enough m≢ fresh T. (let W = writeOn ws free k root h Fs x v few bx enough T .0 in (
       record { level = W .level'; size = W .size'; fs = W .fs'; counted = W .counted; live = W .live },
       (λ K m. W .same (K .0) (root-of K Fs m) .reads),
       W .new-read,
@@ -109,4 +109,9 @@ module _ (N n : ℕ) (most : N ≤ 16384) (some : 0 < n) where
 
   pub write-beyond : (ws : List ℕ) (free k root : ℕ) (h : History) (Fs : List Frame) (x v : ℕ) → length Fs < places → x < n → rest (height n) ws root x ≤ k → LiveTrees N n ws free k ((root, h) ∷ Fs)
       → Beyond N ws (write (height n) ws free k root x v .0)
-  write-beyond ws free k root h Fs x v few bx enough T = (let W = writeOn ws free k root h Fs x v few bx enough T in (W .len, W .beyond))
+  write-beyond ws free k root h Fs x v few bx enough T = (let W = writeOn ws free k root h Fs x v few bx enough T .0 in (W .len, W .beyond))
+
+  -- a write takes as many nodes as the rest of its path has
+  pub write-takes : (ws : List ℕ) (free k root : ℕ) (h : History) (Fs : List Frame) (x v : ℕ) → length Fs < places → x < n → rest (height n) ws root x ≤ k → LiveTrees N n ws free k ((root, h) ∷ Fs)
+      → write (height n) ws free k root x v .2 + rest (height n) ws root x ≡ k
+  write-takes ws free k root h Fs x v few bx enough T = writeOn ws free k root h Fs x v few bx enough T .1

@@ -1,10 +1,10 @@
 -- Demand 2 for sound states and pools, however obtained: the calls follow the machine of the first state, its free nodes set to those
 -- on the chain after each record.
 use mathlib.Core.Path.{_≡_, refl, sym, ap, _∙_, subst}
-use mathlib.Core.Bool.{Bool, true}
+use mathlib.Core.Bool.{Bool, true, cond}
 use mathlib.Core.Logic.{inl, inr}
 use mathlib.Core.List.{List, [], _∷_, _++_}
-use Prim.Native.Nat.{ℕ, _*_, _≤_}
+use Prim.Native.Nat.{ℕ, _-_, _*_, _≤_}
 use native.Mathlib.Omega.{arith}
 use lib.ListN.{length, take, drop}
 use lib.Dec.{eqb}
@@ -14,17 +14,17 @@ use Rattle.model.specs.declared.Step.{Step}
 use Rattle.model.specs.declared.Step.the-variants.{Spawn, Return, Steal, Sync, Read, Write}
 use Rattle.model.specs.declared.Decoded.{Decoded}
 use Rattle.model.specs.declared.Decoded.the-variants.{Valid, Invalid}
-use Rattle.model.specs.Machine.{Machine}
+use Rattle.model.specs.Machine.{Machine, freeNodes}
 use Rattle.model.specs.Steps.{step, answer}
 use Rattle.semantics.specs.declared.Refusal.{Refusal}
 use Rattle.semantics.specs.Answers.{answerWords}
 use Rattle.semantics.specs.Core.{Core, StepResult, judged, spawnOn, returnOn, stealOn, syncOn, readOn, writeOn, stepOn, testsOf, doneBy}
 use Rattle.semantics.specs.Entries.{State, fits, numbersOf, stateOf, isSound, recordOn}
 use Rattle.semantics.specs.Images.{LoadResult, savedImage, stateIn, poolWith}
-use Rattle.semantics.specs.Calls.{HostCall, StateAndPool, poolAt, afterCall, coreIn, saveResult, Call, begun, runOf}
-use Rattle.semantics.specs.Demands.{withFree, answerIn, fromSound, plainOf, SoundRun, StateWords, AllCallWords, writtenImage, ReadsBack}
+use Rattle.semantics.specs.Calls.{HostCall, StateAndPool, restIn, poolAt, afterCall, coreIn, saveResult, Call, begun, runOf}
+use Rattle.semantics.specs.Demands.{withFree, isWritten, fromSound, plainOf, SoundRun, StateWords, AllCallWords, writtenImage, ReadsBack}
 use Rattle.semantics.specs.Theory.Refusals.{number-range}
-use Rattle.semantics.specs.Theory.SoundSteps.{Carried, is-sound, sound-carried, rebased, roomed, simulated, step-carried}
+use Rattle.semantics.specs.Theory.SoundSteps.{Carried, is-sound, sound-carried, rebased, roomed, simulated, step-carried, takes}
 use Rattle.semantics.specs.Theory.Elsewhere.{carried-elsewhere}
 use Rattle.semantics.specs.Theory.Fitting.{fits-true, true-fits, state-back}
 use Rattle.semantics.specs.Theory.Runs.{Laws, KeptBy, core-fits, call-follows}
@@ -53,6 +53,27 @@ step-own : (c : Core) (st : Step) → OwnNumber (stepOn c st)
 unfolding stepOn
 step-own c st = judged-own (testsOf c st) c (doneBy c st) (done-own c st)
 
+-- and only a write answers so
+abbrev IsWrite : Step → Type 0
+IsWrite st = (w : ℕ) × (x : ℕ) × (v : ℕ) × (st ≡ Write w x v)
+
+judged-write : (ts : List (Bool × Refusal)) (c : Core) (d : StepResult) → answerWords (judged ts c d .answer) .0 ≡ 106 → answerWords (d .answer) .0 ≡ 106
+judged-write [] c d h = h
+judged-write (t ∷ ts) c d h = elim (decided (t .0)) [ inl e ↦ absurd (omega (arith, rw e at h, number-range (t .1) .1)) | inr e ↦ judged-write ts c d (rw e at h) ]
+
+done-write : (c : Core) (st : Step) → answerWords (doneBy c st .answer) .0 ≡ 106 → IsWrite st
+unfolding spawnOn returnOn stealOn syncOn readOn writeOn
+done-write c (Spawn w) h = absurd (omega arith)
+done-write c (Return w) h = absurd (omega arith)
+done-write c (Steal w v) h = absurd (omega arith)
+done-write c (Sync w) h = absurd (omega arith)
+done-write c (Read w x) h = absurd (omega arith)
+done-write c (Write w x v) h = (w, x, v, refl)
+
+step-write : (c : Core) (st : Step) → answerWords (stepOn c st .answer) .0 ≡ 106 → IsWrite st
+unfolding stepOn
+step-write c st h = done-write c st (judged-write (testsOf c st) c (doneBy c st) h)
+
 -- ---- a step
 
 module _ (M : Machine) (c : Core) (st : Step) (K : Carried M c) where
@@ -63,9 +84,22 @@ module _ (M : Machine) (c : Core) (st : Step) (K : Carried M c) where
   own-left : stepOn c st .core .head .«free_count» ≡ poolAt c (Valid st) .free
   own-left = sym (is-sound (step-carried M c st K) .1)
 
-  step-alike : answerWords (stepOn c st .answer) ≡ answerIn (poolAt c (Valid st)) (answer M₁ st)
-  step-alike = elim (decided (eqb (answer M₁ st .0) 106)) [
-    | inl e ↦ rw e (step-own c st (simulated M c st K .answers .first ∙ eqb-true (answer M₁ st .0) 106 e) ∙ ap (λ (k : ℕ). (106, k)) own-left)
+  -- that of a write is the one before, less the nodes that it takes
+  own-written : isWritten (answer M₁ st) ≡ true → stepOn c st .core .head .«free_count» ≡ freeNodes M - restIn c (Valid st)
+  own-written e =
+      let a = eqb-true (answer M₁ st .0) 106 e in
+      let s = step-write c st (simulated M c st K .answers .first ∙ a) in
+      subst Takes (sym (s .3)) (takes M c (s .0) (s .1) (s .2) K) a
+    where
+      Takes : Step → Type 0
+      Takes u = answer (roomed M c u K) u .0 ≡ 106 → stepOn c u .core .head .«free_count» ≡ freeNodes M - restIn c (Valid u)
+
+  own-after : stepOn c st .core .head .«free_count» ≡ cond (isWritten (answer M₁ st)) (freeNodes M - restIn c (Valid st)) (poolAt c (Valid st) .free)
+  own-after = elim (decided (isWritten (answer M₁ st))) [ inl e ↦ rw e (own-written e) | inr e ↦ rw e own-left ]
+
+  step-alike : answerWords (stepOn c st .answer) ≡ cond (isWritten (answer M₁ st)) (106, freeNodes M - restIn c (Valid st)) (answer M₁ st)
+  step-alike = elim (decided (isWritten (answer M₁ st))) [
+    | inl e ↦ rw e (step-own c st (simulated M c st K .answers .first ∙ eqb-true (answer M₁ st .0) 106 e) ∙ ap (λ (k : ℕ). (106, k)) (own-written e))
     | inr e ↦ rw e (elim (simulated M c st K .answers .unless-written) [
       | inl q ↦ q
       | inr q ↦ absurd (eqb-false (answer M₁ st .0) 106 e (sym (simulated M c st K .answers .first) ∙ ap (λ (w : ℕ × ℕ). w .0) (q .5)))
@@ -76,7 +110,7 @@ laws : Laws fromSound Carried
 laws = record { carried = λ M c K. K; keeps = keeps; alike = alike; elsewhere = carried-elsewhere }
   where
     keeps : (M : Machine) (c : Core) (d : Decoded) → Carried M c → Carried (fromSound .after M d (poolAt c d)) (recordOn c d .core)
-    keeps M c (Valid st) K = subst (λ (k : ℕ). Carried (withFree (step (roomed M c st K) st) k) (stepOn c st .core)) (own-left M c st K) (step-carried M c st K)
+    keeps M c (Valid st) K = subst (λ (k : ℕ). Carried (withFree (step (roomed M c st K) st) k) (stepOn c st .core)) (own-after M c st K) (step-carried M c st K)
     keeps M c Invalid K = rebased M c (poolAt c Invalid .free) (K .related) (K .tree) (K .deques) (K .marks) (K .bounds) (sym (is-sound K .1))
 
     alike : (M : Machine) (c : Core) (d : Decoded) → Carried M c → answerWords (recordOn c d .answer) ≡ fromSound .answers M d (poolAt c d)

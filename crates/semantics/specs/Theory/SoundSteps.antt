@@ -1,9 +1,9 @@
 -- A step of a sound core: what it leaves relates to the next plain machine, is sound, and the words beyond the nodes stand.
 use mathlib.Core.Path.{_≡_, refl, sym, ap, ap₂, _∙_, subst}
-use mathlib.Core.Bool.{true}
+use mathlib.Core.Bool.{Bool, true}
 use mathlib.Core.Logic.{inl, inr}
 use mathlib.Core.List.{List, _∷_, _++_}
-use Prim.Native.Nat.{ℕ, zero, suc, _+_, _≤_, _<_}
+use Prim.Native.Nat.{ℕ, zero, suc, _+_, _-_, _≤_, _<_}
 use native.Mathlib.Omega.{arith}
 use lib.Dec.{ltb}
 use lib.ListN.{length, length-map}
@@ -20,7 +20,7 @@ use Rattle.model.specs.declared.Decoded.the-variants.{Valid}
 use Rattle.model.specs.declared.Step.{Step}
 use Rattle.model.specs.declared.Step.the-variants.{Spawn, Return, Steal, Sync, Read, Write}
 use Rattle.model.specs.Machine.{Frame, Machine, live, deque, inUse, freeNodes}
-use Rattle.model.specs.Steps.{Action, spawn, return, write, Turn, turnOf, written, afterWrite, refusal, afterTurn, step}
+use Rattle.model.specs.Steps.{Action, spawn, return, write, Turn, turnOf, written, afterWrite, refusal, afterTurn, step, answer}
 use Rattle.model.specs.Theory.Effects.{Passes, rest, live-at, live-with, Acts, acts}
 use Rattle.model.specs.Theory.Histories.{inUse-perm, inUse-positive}
 use Rattle.model.specs.Theory.PoolBound.{inUse-written}
@@ -30,18 +30,19 @@ use Rattle.model.specs.Theory.DequeShape.{DequeInvariant}
 use Rattle.model.specs.Theory.Deques.{deques-turn}
 use Rattle.model.specs.Theory.FreshMarks.{MarkInvariant, marks-turn}
 use Rattle.model.specs.Theory.Bounds.{Bounded, bounded-turn}
-use Rattle.semantics.specs.Core.{Core, actingIn, spawnOn, returnOn, stealOn, syncOn, readOn, writeOn, stepOn, doneBy}
+use Rattle.semantics.specs.Core.{Core, StepResult, actingIn, spawnOn, returnOn, stealOn, syncOn, readOn, writeOn, stepOn, doneBy}
 use Rattle.semantics.specs.Entries.{stateOf, isSound, chainFree}
 use Rattle.semantics.specs.SoundMachine.{machineOf}
-use Rattle.semantics.specs.Calls.{lacksIn}
+use Rattle.semantics.specs.Calls.{restIn}
 use Rattle.semantics.specs.Demands.{withNodes, withFree, withRoom}
 use Rattle.semantics.specs.Theory.Relation.{Trees, Relates, rootOf, rootsOf}
 use Rattle.semantics.specs.Theory.Places.{acting-frame, live-few, treeOf}
 use Rattle.semantics.specs.Theory.RelationFacts.{trees-perm}
-use Rattle.semantics.specs.Theory.Pools.{LiveTrees, live-laws, Beyond, spawn-beyond, return-beyond, write-beyond}
+use Rattle.semantics.specs.Theory.Pools.{LiveTrees, live-laws, Beyond, spawn-beyond, return-beyond, write-beyond, write-takes}
 use Rattle.semantics.specs.Theory.Refusals.{SameRoom, enough, refused-alike}
 use Rattle.semantics.specs.Theory.Simulation.{Simulates, simulates, numbers-kept}
 use Rattle.semantics.specs.Theory.ToSound.{to-sound}
+use Rattle.semantics.specs.Theory.Words.{refusal-low}
 use Rattle.semantics.specs.Theory.FromSoundRelates.{countedCore, from-sound}
 
 module _ (M : Machine) (c : Core) (r : Relates (LiveTrees (c .head .numbers .nodes) (M .splitters)) M c) (tree : FrameTree M) (shape : DequeInvariant M) where
@@ -79,6 +80,20 @@ module _ (M : Machine) (c : Core) (r : Relates (LiveTrees (c .head .numbers .nod
       (subst (λ (t : ℕ). Beyond (c .head .numbers .nodes) (c .pool) (writePath t (c .pool) (c .head .numbers .«free_node») (c .head .«free_count») (rootOf (c .frames) (r .at) (x .actor)) y v .0)) (sym (r .numbers .height-is))
       (write-beyond (c .head .numbers .nodes) (M .splitters) (r .numbers .nodes-le) (r .numbers .splitters-positive) (c .pool) (c .head .numbers .«free_node») (c .head .«free_count») (rootOf (c .frames) (r .at) (x .actor)) (x .actor .history)
       (rootsOf (c .frames) (r .at) (x .above ++ rest M w)) y v (few (write y v) w x) (x .allowed .0) (enough r w y v same h) (front-trees (write y v) w x)))
+
+  -- a write takes as many nodes as the rest of its path has
+  done-takes : (w y v : ℕ) → SameRoom M c (Write w y v) → Passes M (turnOf (Write w y v)) → writeOn c w y v .core .head .«free_count» + restIn c (Valid (Write w y v)) ≡ c .head .«free_count»
+  unfolding writeOn
+  done-takes w y v same h =
+      let x = acts M w (write y v) h in
+      let k = c .head .«free_count» in
+      let free = c .head .numbers .«free_node» in
+      let root = rootOf (c .frames) (r .at) (x .actor) in
+      let e = write-takes (c .head .numbers .nodes) (M .splitters) (r .numbers .nodes-le) (r .numbers .splitters-positive) (c .pool) free k root (x .actor .history)
+      (rootsOf (c .frames) (r .at) (x .above ++ rest M w)) y v (few (write y v) w x) (x .allowed .0) (enough r w y v same h) (front-trees (write y v) w x) in
+      subst (λ (z : ℕ). writePath (c .head .height) (c .pool) free k z y v .2 + rest-of (height (c .head .numbers .splitters)) (c .pool) z y ≡ k) (sym (root-is (write y v) w x))
+      (subst (λ (t : ℕ). writePath t (c .pool) free k root y v .2 + rest-of (height (c .head .numbers .splitters)) (c .pool) root y ≡ k) (sym (r .numbers .height-is))
+      (subst (λ (n : ℕ). writePath (height (M .splitters)) (c .pool) free k root y v .2 + rest-of (height n) (c .pool) root y ≡ k) (sym (r .numbers .splitters)) e))
 
   -- ---- refused or accepted
 
@@ -167,12 +182,15 @@ module _ (M : Machine) (c : Core) (K : Carried M c) where
       let before = inUse-perm n (live-at M w (q ∷ d) lt e) in
       (omega (arith, after, inUse-positive n (written q x v) (d ++ rest M w) (K .related .numbers .splitters-positive)), omega (arith, after, before, inUse-written n x v q (d ++ rest M w)))
 
-  -- the engine's own numbers of free nodes and of levels are those of the chain and of n
-  pub own-rest : (w x v : ℕ) → ltb (c .head .«free_count») (rest-of (c .head .height) (c .pool) (actingIn c w .root) x) ≡ lacksIn c (Valid (Write w x v))
-  own-rest w x v =
-      ap₂ (λ (k t : ℕ). ltb k (rest-of t (c .pool) (actingIn c w .root) x)) (sym (is-sound K .1)) (K .related .numbers .height-is ∙ ap height (sym (K .related .numbers .splitters)))
+  -- the engine's own number of levels is that of n
+  pub own-rest : (w x v : ℕ) → rest-of (c .head .height) (c .pool) (actingIn c w .root) x ≡ restIn c (Valid (Write w x v))
+  own-rest w x v = ap (λ (t : ℕ). rest-of t (c .pool) (actingIn c w .root) x) (K .related .numbers .height-is ∙ ap height (sym (K .related .numbers .splitters)))
 
-  same-room : (st : Step) → SameRoom (withRoom M (lacksIn c (Valid st))) c st
+  -- fewer nodes are free than a write takes
+  abbrev pub lacks : Step → Bool
+  lacks st = ltb (freeNodes M) (restIn c (Valid st))
+
+  same-room : (st : Step) → SameRoom (withRoom M (lacks st)) c st
   same-room (Spawn w) = tt
   same-room (Return w) = tt
   same-room (Steal w v) = tt
@@ -180,15 +198,15 @@ module _ (M : Machine) (c : Core) (K : Carried M c) where
   same-room (Read w x) = tt
   same-room (Write w x v) = λ q d lt e b.
       let g = write-adds w x v q d lt e in
-      own-rest w x v
-      ∙ elim (decided (lacksIn c (Valid (Write w x v)))) [
+      ap₂ ltb (K .same-free) (own-rest w x v)
+      ∙ elim (decided (lacks (Write w x v))) [
         | inl s ↦ rw s (sym (ltb-of (g .0)))
         | inr s ↦ rw s (sym (nltb-of (g .1)))
       ]
 
   pub step-beyond : (st : Step) → Beyond (c .head .numbers .nodes) (c .pool) (stepOn c st .core .pool)
   step-beyond st =
-      let N = withRoom M (lacksIn c (Valid st)) .nodes in
+      let N = withRoom M (lacks st) .nodes in
       judged-beyond (withNodes M N) c (relates-nodes M N (K .related)) (tree-nodes M N (K .tree)) (deques-nodes M N (K .deques)) st (same-room st)
 
 -- ---- a step
@@ -204,7 +222,7 @@ kept-turn M t h i =
 module _ (M : Machine) (c : Core) (st : Step) (K : Carried M c) where
   -- with room for a write as the pool has it
   abbrev pub roomed : Machine
-  roomed = withRoom M (lacksIn c (Valid st))
+  roomed = withRoom M (lacks M c K st)
 
   pub simulated : Simulates (LiveTrees (c .head .numbers .nodes) (M .splitters)) roomed c st
   simulated =
@@ -223,3 +241,28 @@ module _ (M : Machine) (c : Core) (st : Step) (K : Carried M c) where
       let r : Relates (LiveTrees (c′ .head .numbers .nodes) (M′ .splitters)) M′ c′ =
       subst (λ N. Relates (LiveTrees N (M′ .splitters)) M′ c′) (sym (numbers-kept c st .nodes)) (subst (λ n. Relates (LiveTrees (c .head .numbers .nodes) n) M′ c′) (sym (sizes-step roomed st .splitters)) (simulated .related)) in
       rebased M′ c′ (c′ .head .«free_count») r (i .0) (i .1) (i .2) (i .3) refl
+
+-- ---- what a write takes
+
+pub takes : (M : Machine) (c : Core) (w x v : ℕ) (K : Carried M c) → let st = Write w x v in
+    answer (roomed M c st K) st .0 ≡ 106 → stepOn c st .core .head .«free_count» ≡ freeNodes M - restIn c (Valid st)
+takes M c w x v K e = elim (accepted-or-refused M₁ (Write w x v)) [
+  | inl a ↦ subst (λ (d : StepResult). d .core .head .«free_count» ≡ freeNodes M - restIn c (Valid (Write w x v))) (sym (refused-alike r tree deques (Write w x v) room .0 (a .zero-refusal)))
+      (omega (arith, done-takes M₁ c r tree deques w x v room (a .passes), K .same-free))
+  | inr f ↦ absurd (omega (arith, e, ap (λ (z : ℕ × ℕ). z .0) (f .answered), refusal-low M₁ (Write w x v)))
+]
+  where
+    M₁ : Machine
+    M₁ = roomed M c (Write w x v) K
+
+    r : Relates (LiveTrees (c .head .numbers .nodes) (M .splitters)) M₁ c
+    r = relates-nodes M (M₁ .nodes) (K .related)
+
+    tree : FrameTree M₁
+    tree = tree-nodes M (M₁ .nodes) (K .tree)
+
+    deques : DequeInvariant M₁
+    deques = deques-nodes M (M₁ .nodes) (K .deques)
+
+    room : SameRoom M₁ c (Write w x v)
+    room = same-room M c K (Write w x v)

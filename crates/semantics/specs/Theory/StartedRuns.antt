@@ -4,7 +4,7 @@ use mathlib.Core.Bool.{true, false}
 use mathlib.Core.Logic.{_↔_}
 use mathlib.Core.List.{List·Memᴰ as In}
 use mathlib.Core.List.{List, [], _∷_, _++_, map, append-nil, append-assoc, cons≢nil}
-use Prim.Native.Nat.{ℕ, suc, _≤_, _<_}
+use Prim.Native.Nat.{ℕ, suc, _+_, _≤_, _<_}
 use native.Mathlib.Omega.{arith}
 use lib.ListN.{length}
 use lib.Dec.{leb, ltb}
@@ -38,11 +38,11 @@ use Rattle.model.specs.Theory.Demand3Proof.{demand3 as plain-demand3}
 use Rattle.semantics.specs.Answers.{answerWords}
 use Rattle.frames.specs.declared.Frame.{Frame as FrameWords}
 use Rattle.semantics.specs.Core.{Core, actingIn, stepOn}
-use Rattle.semantics.specs.Entries.{State, StartResult, fits, isSound, numbersOf, recordOn, wholeNodes}
-use Rattle.semantics.specs.Calls.{Start, startResult, HostCall, outside, StateAndPool, afterStart, afterCall, Exchange, exchangesOf, recordsIn, answersIn, lacksIn, poolsAt, coreIn, Run, Call, call, begun, runAfter, runOf}
-use Rattle.semantics.specs.Demands.{plainAfter, plainAnswer, fromStart, answersBy, machineBy, plainStart, runFrom, Demand2, plainNow, RestIsCounted, WritesAgain, StartWords, AllCallWords, traceOf, MainReturned, callOf, oneByOne, oneWorkerCalls, aloneStart, allAccepted, AllFree, Demand3}
+use Rattle.semantics.specs.Entries.{State, StartResult, fits, isSound, numbersOf, chainFree, recordOn, wholeNodes}
+use Rattle.semantics.specs.Calls.{Start, startResult, HostCall, outside, StateAndPool, afterStart, afterCall, Exchange, exchangesOf, recordsIn, answersIn, restIn, poolsAt, coreIn, Run, Call, call, begun, runAfter, runOf}
+use Rattle.semantics.specs.Demands.{plainAfter, plainAnswer, fromStart, answersBy, machineBy, plainStart, runFrom, Demand2, plainNow, Counted, RestIsCounted, WritesAgain, StartWords, AllCallWords, traceOf, MainReturned, callOf, oneByOne, oneWorkerCalls, aloneStart, allAccepted, AllFree, Demand3}
 use Rattle.semantics.specs.Promises.{Fits}
-use Rattle.semantics.specs.Theory.Relation.{TreeLaws, Relates, rootsOf}
+use Rattle.semantics.specs.Theory.Relation.{TreeLaws, Relates, rootOf, rootsOf}
 use Rattle.semantics.specs.Theory.RelationFacts.{trees-perm}
 use Rattle.semantics.specs.Theory.Places.{acting-frame}
 use Rattle.semantics.specs.Theory.Refusals.{SameRoom}
@@ -52,7 +52,7 @@ use Rattle.semantics.specs.Theory.FromSoundRelates.{map-append}
 use Rattle.semantics.specs.Theory.Simulation.{simulates, numbers-kept}
 use Rattle.semantics.specs.Theory.ToSound.{good-relates, all-free}
 use Rattle.semantics.specs.Theory.Fitting.{true-fits}
-use Rattle.semantics.specs.Theory.SoundSteps.{Carried, own-rest}
+use Rattle.semantics.specs.Theory.SoundSteps.{Carried, is-sound, own-rest}
 use Rattle.semantics.specs.Theory.Elsewhere.{withPool, good-trees, relates-elsewhere}
 use Rattle.semantics.specs.Theory.Starts.{Fit, fit-started, started-fit}
 use Rattle.semantics.specs.Theory.StartRelates.{firstCore, start-relates}
@@ -87,9 +87,9 @@ carried M c F = record {
   same-free = same-free M c F;
 }
 
--- 16: the rest of the path has as many nodes as the write adds to those in use
+-- the rest of the path has as many nodes as the write adds to those in use
 counted-rest : (M : Machine) (c : Core) → Follows M c → (w x v : ℕ) (q : Frame) (d : List Frame) → w < length (M .deques) → deque M w ≡ q ∷ d → x < M .splitters
-    → ltb (c .head .«free_count») (rest (c .head .height) (c .pool) (actingIn c w .root) x) ≡ ltb (M .nodes) (inUse (M .splitters) (live (afterWrite M w q d x v)))
+    → Counted M (c .head .«free_count») (rest (c .head .height) (c .pool) (actingIn c w .root) x) (afterWrite M w q d x v)
 counted-rest M c F w x v q d lt e b =
     let r = F .related in
     let n = M .splitters in
@@ -100,11 +100,16 @@ counted-rest M c F w x v q d lt e b =
     trees-perm (c .frames) (r .at) (good-laws (M .nodes) n few (r .numbers .splitters-positive)) before (r .trees) in
     let unmarked = fresh (GoodTrees (M .nodes) n) M c w x v q d lt e r (F .inv .marks) in
     let g = good-rest (M .nodes) n few (r .numbers .splitters-positive) (writeEvent q x) b (cons≢nil, unmarked) G in
+    let others-are = histories-are (c .frames) (r .at) others in
     let after : nodesInUse n ((writeEvent q x ∷ q .history) ∷ historiesOf (rootsOf (c .frames) (r .at) others)) ≡ inUse n (live (afterWrite M w q d x v)) =
-    ap (λ z. nodesInUse n ((writeEvent q x ∷ q .history) ∷ z)) (histories-are (c .frames) (r .at) others) ∙ sym (inUse-perm n (live-with M w (written q x v ∷ d) lt)) in
-    ap₂ (λ (t : ℕ) (f : FrameWords). ltb (c .head .«free_count») (rest t (c .pool) (f .root) x)) (r .numbers .height-is) (acting-frame r w q d lt e)
-    ∙ ltb-same (g .1)
-    ∙ ap (ltb (M .nodes)) after
+    ap (λ z. nodesInUse n ((writeEvent q x ∷ q .history) ∷ z)) others-are ∙ sym (inUse-perm n (live-with M w (written q x v ∷ d) lt)) in
+    let now : nodesInUse n (q .history ∷ historiesOf (rootsOf (c .frames) (r .at) others)) ≡ inUse n (live M) = ap (λ z. nodesInUse n (q .history ∷ z)) others-are ∙ sym (inUse-perm n before) in
+    let own : rest (c .head .height) (c .pool) (actingIn c w .root) x ≡ rest (height n) (c .pool) (rootOf (c .frames) (r .at) q) x =
+    ap₂ (λ (t : ℕ) (f : FrameWords). rest t (c .pool) (f .root) x) (r .numbers .height-is) (acting-frame r w q d lt e) in
+    record {
+      same-count = sym after ∙ g .0 ∙ ap₂ _+_ now (sym own);
+      same-16 = ap (ltb (c .head .«free_count»)) own ∙ ltb-same (g .1) ∙ ap (ltb (M .nodes)) after;
+    }
 
 counted-room : (M : Machine) (c : Core) → Follows M c → (st : Step) → SameRoom M c st
 counted-room M c F (Spawn w) = tt
@@ -112,7 +117,7 @@ counted-room M c F (Return w) = tt
 counted-room M c F (Steal w v) = tt
 counted-room M c F (Sync w) = tt
 counted-room M c F (Read w x) = tt
-counted-room M c F (Write w x v) = counted-rest M c F w x v
+counted-room M c F (Write w x v) = λ q d lt e b. counted-rest M c F w x v q d lt e b .same-16
 
 -- what a step keeps
 keeps-and-alike : (M : Machine) (c : Core) (st : Step) → Follows M c → Follows (step M st) (stepOn c st .core) × (answerWords (stepOn c st .answer) ≡ answer M st)
@@ -176,10 +181,12 @@ rest-is-counted b calls e w all-words standing u x v q d at below =
     let c = E .core in
     let M = plainNow b calls in
     let C = carried M c (E .follows) in
-    ap (λ (h : StateAndPool). lacksIn (coreIn h) (Valid (Write u x v))) (E .held)
-    ∙ ap (λ (d : Core). lacksIn d (Valid (Write u x v))) (core-counted C)
-    ∙ sym (own-rest M c C u x v)
-    ∙ counted-rest M c (E .follows) u x v q d (there-is-worker M u (omega (arith, ap length at))) at below
+    let G = counted-rest M c (E .follows) u x v q d (there-is-worker M u (omega (arith, ap length at))) at below in
+    let rest-is : rest (c .head .height) (c .pool) (actingIn c u .root) x ≡ restIn (coreIn (runFrom b calls .now)) (Valid (Write u x v)) =
+    own-rest M c C u x v ∙ sym (ap (λ (h : StateAndPool). restIn (coreIn h) (Valid (Write u x v))) (E .held) ∙ ap (λ (d : Core). restIn d (Valid (Write u x v))) (core-counted C)) in
+    let free-is : c .head .«free_count» ≡ chainFree (runFrom b calls .now .state) (runFrom b calls .now .pool) = sym (is-sound C .1) ∙ sym (ap (λ (h : StateAndPool). chainFree (h .state) (h .pool)) (E .held)) in
+    subst (λ (k : ℕ). Counted M k (restIn (coreIn (runFrom b calls .now)) (Valid (Write u x v))) (afterWrite M u q d x v)) free-is
+    (subst (λ (k : ℕ). Counted M (c .head .«free_count») k (afterWrite M u q d x v)) rest-is G)
 
 pub writes-again : (b : Start) (calls : List Call) → startResult b .result ≡ 0 → StartWords b → AllCallWords calls → WritesAgain b calls
 writes-again b calls e w all-words u x v v′ h =
