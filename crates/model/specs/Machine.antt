@@ -1,5 +1,5 @@
 -- The plain machine of document 01: frames, deques, suspensions, nodes. Definitions only; Steps says what a step does.
-use mathlib.Core.Bool.{Bool, true, false, cond, _||_}
+use mathlib.Core.Bool.{Bool, true, false, _||_, cond}
 use mathlib.Core.List.{List, [], _∷_, _++_, map}
 use Prim.Native.Nat.{ℕ, _-_}
 use lib.ListN.{length, getD, set, replicate}
@@ -20,6 +20,8 @@ pub record Frame : Type 0 where
   pub values : List ℕ
   pub history : History
   pub spawned : ℕ
+  -- R-3: "suspends the frame as returning"; only a suspended frame is marked so (Theory.Deques)
+  pub returning : Bool
 
 -- "Main, depth 0"; a child is "one deeper"
 abbrev pub depth : Frame → ℕ
@@ -51,8 +53,12 @@ live M = M .suspended ++ joined (M .deques)
 abbrev pub deque : Machine → ℕ → List Frame
 deque M w = getD (M .deques) w []
 
+-- the machine with these deques and suspended frames
+abbrev pub withFrames : Machine → List (List Frame) → List Frame → Machine
+withFrames M ds fs = record { splitters = M .splitters; nodes = M .nodes; deques = ds; suspended = fs }
+
 abbrev pub withDeque : Machine → ℕ → List Frame → Machine
-withDeque M w d = record { splitters = M .splitters; nodes = M .nodes; deques = set (M .deques) w d; suspended = M .suspended }
+withDeque M w d = withFrames M (set (M .deques) w d) (M .suspended)
 
 abbrev pub isEmpty {ℓ} : {A : Type ℓ} → List A → Bool
 isEmpty [] = true
@@ -79,14 +85,19 @@ abbrev pub hasChild : Name → List Frame → Bool
 hasChild p [] = false
 hasChild p (f ∷ fs) = isChild p (f .name) || hasChild p fs
 
--- the frames of that name, and the others
-abbrev pub named : Name → List Frame → List Frame
-named p [] = []
-named p (f ∷ fs) = cond (same (f .name) p) (f ∷ named p fs) (named p fs)
+-- one of the frames is p
+abbrev pub hasFrame : Name → List Frame → Bool
+hasFrame p [] = false
+hasFrame p (f ∷ fs) = same (f .name) p || hasFrame p fs
 
-abbrev pub notNamed : Name → List Frame → List Frame
-notNamed p [] = []
-notNamed p (f ∷ fs) = cond (same (f .name) p) (notNamed p fs) (f ∷ notNamed p fs)
+-- the frames that pass a test, and the others
+abbrev pub those : (Frame → Bool) → List Frame → List Frame
+those t [] = []
+those t (f ∷ fs) = cond (t f) (f ∷ those t fs) (those t fs)
+
+abbrev pub others : (Frame → Bool) → List Frame → List Frame
+others t [] = []
+others t (f ∷ fs) = cond (t f) (others t fs) (f ∷ others t fs)
 
 -- "Nodes in use are the distinct triples, over all live frames, .." (History)
 abbrev pub inUse : ℕ → List Frame → ℕ
@@ -100,7 +111,7 @@ freeNodes M = M .nodes - inUse (M .splitters) (live M)
 
 -- "Main's is the initial list."; "Main's begins with the start", which stands below every history
 abbrev pub main : List ℕ → Frame
-main vs = record { name = []; values = vs; history = []; spawned = 0 }
+main vs = record { name = []; values = vs; history = []; spawned = 0; returning = false }
 
 -- "at a start the workers, the initial values and the number of whole nodes in the pool"; "At the start Main, depth 0, is
 -- alone on worker 0's deque."

@@ -1,13 +1,14 @@
 -- What a step does on the plain machine: its refusal, the machine after it, its answer. Definitions only.
 use mathlib.Core.Bool.{Bool, true, false, cond, not, _||_, _&&_}
-use mathlib.Core.List.{List, [], _∷_, tail}
+use mathlib.Core.List.{List, [], _∷_}
 use Prim.Native.Nat.{ℕ, zero, suc}
 use lib.ListN.{length, getD, set}
 use lib.Dec.{ltb}
 use Rattle.model.specs.declared.Step.{Step}
 use Rattle.model.specs.declared.Step.the-variants.{Spawn, Return, Steal, Sync, Read, Write}
 use Rattle.model.specs.History.{Event}
-use Rattle.model.specs.Machine.{Name, Frame, Machine, depth, maxFrames, live, deque, withDeque, isEmpty, top, belowTop, hasChild, named, notNamed, inUse, freeNodes}
+use Rattle.words.specs.Basics.{same}
+use Rattle.model.specs.Machine.{Name, Frame, Machine, depth, maxFrames, live, deque, withFrames, withDeque, isEmpty, top, belowTop, hasChild, hasFrame, those, others, inUse, freeNodes}
 
 -- what a worker's bottom frame does: a step without its worker, steals left out
 pub data Action : Type 0 where
@@ -43,7 +44,7 @@ writeEvent q x = record { splitter = x; mark = length (q .history) ∷ q .name }
 
 -- "Write alters one place of the bottom frame's list."
 abbrev pub written : Frame → ℕ → ℕ → Frame
-written q x v = record { name = q .name; values = set (q .values) x v; history = writeEvent q x ∷ q .history; spawned = q .spawned }
+written q x v = record { name = q .name; values = set (q .values) x v; history = writeEvent q x ∷ q .history; spawned = q .spawned; returning = q .returning }
 
 -- of q, the bottom of w's deque, above which is d
 abbrev pub afterWrite : Machine → ℕ → Frame → List Frame → ℕ → ℕ → Machine
@@ -64,13 +65,13 @@ notBelow x n = not (ltb x n)
 
 -- of the deque with bottom q:
 -- 13. "The step is a spawn and 64 frames live."
--- 14. "The step is a return and the frame has a live child."
+-- 14 "no longer occurs" (R-3).
 -- 15. "The step is a read or a write and the splitter is not below n."
 -- 16. "when the write would bring that count above the pool's nodes" (R-2), the count being that of the nodes in use
 abbrev pub actionTests : Machine → ℕ → List Frame → Action → List (Bool × ℕ)
 actionTests M w [] a = []
 actionTests M w (q ∷ d) spawn = (notBelow (length (live M)) maxFrames, 13) ∷ []
-actionTests M w (q ∷ d) return = (hasChild (q .name) (live M), 14) ∷ []
+actionTests M w (q ∷ d) return = []
 actionTests M w (q ∷ d) sync = []
 actionTests M w (q ∷ d) (read x) = (notBelow x (M .splitters), 15) ∷ []
 actionTests M w (q ∷ d) (write x v) = (notBelow x (M .splitters), 15) ∷ (ltb (M .nodes) (inUse (M .splitters) (live (afterWrite M w q d x v))), 16) ∷ []
@@ -97,35 +98,56 @@ accepted (suc n) = false
 -- "a new frame, child of the worker's bottom frame and one deeper"; "Spawn copies the parent's list as it is then", and
 -- "A frame's history is its parent's history up to its spawn, then its own writes"
 abbrev pub child : Frame → Frame
-child q = record { name = suc (q .spawned) ∷ q .name; values = q .values; history = q .history; spawned = 0 }
+child q = record { name = suc (q .spawned) ∷ q .name; values = q .values; history = q .history; spawned = 0; returning = false }
 
 -- its parent, one spawn on
 abbrev pub afterSpawn : Frame → Frame
-afterSpawn q = record { name = q .name; values = q .values; history = q .history; spawned = suc (q .spawned) }
+afterSpawn q = record { name = q .name; values = q .values; history = q .history; spawned = suc (q .spawned); returning = q .returning }
 
--- a frame of that name has left its deque, which is d now. "If the deque is empty, the parent is suspended and has no live
--- child left, the parent resumes on this worker"
-abbrev pub parentResumes : Machine → Name → List Frame → Bool
-parentResumes M [] d = false
-parentResumes M (k ∷ p) [] = not (isEmpty (named p (M .suspended))) && not (hasChild p (live M))
-parentResumes M (k ∷ p) (g ∷ d) = false
-
--- the suspended frame p goes to the deque of w as it is: "Sync, steal and resumption alter none" of the lists
-abbrev pub resume : Machine → ℕ → Name → Machine
-resume M w p = record { splitters = M .splitters; nodes = M .nodes; deques = set (M .deques) w (named p (M .suspended)); suspended = notNamed p (M .suspended) }
+-- "suspends the frame as returning"
+abbrev pub asReturning : Frame → Frame
+asReturning q = record { name = q .name; values = q .values; history = q .history; spawned = q .spawned; returning = true }
 
 -- "it is suspended, its worker goes idle": q, the bottom of w's deque, leaves it
 abbrev pub suspend : Machine → ℕ → Frame → List Frame → Machine
-suspend M w q d = record { splitters = M .splitters; nodes = M .nodes; deques = set (M .deques) w d; suspended = q ∷ M .suspended }
+suspend M w q d = withFrames M (set (M .deques) w d) (q ∷ M .suspended)
+
+-- the suspended frame p waits in its return, or at its sync
+abbrev pub waitsInReturn : Name → Frame → Bool
+waitsInReturn p f = same (f .name) p && f .returning
+
+abbrev pub waitsAtSync : Name → Frame → Bool
+waitsAtSync p f = same (f .name) p && not (f .returning)
+
+-- the frame p, which waits in its return, ends
+abbrev pub leave : Machine → Name → Machine
+leave M p = withFrames M (M .deques) (others (waitsInReturn p) (M .suspended))
+
+-- if p waits at its sync it goes to the deque of w as it is: "Sync, steal and resumption alter none" of the lists
+abbrev pub resume : Machine → ℕ → Name → Machine
+resume M w p = withFrames M (set (M .deques) w (those (waitsAtSync p) (M .suspended))) (others (waitsAtSync p) (M .suspended))
+
+-- a frame of that name has ended on w, whose deque is empty now. If its parent p has no live child left and is suspended as
+-- returning, "it ends too on that child's worker, and so on upward" (R-3); if it waits at its sync it "resumes on this worker"
+abbrev pub upward : Machine → ℕ → Name → Machine
+upward M w [] = M
+upward M w (k ∷ p) =
+    let ends = upward (leave M p) w p in
+    cond (hasChild p (live M)) M (cond (isEmpty (those (waitsInReturn p) (M .suspended))) (resume M w p) ends)
+
+-- the bottom q of w's deque, above which is d, ends: "Return drops the child's list"
+abbrev pub afterEnd : Machine → ℕ → Frame → List Frame → Machine
+afterEnd M w q [] = upward (withDeque M w []) w (q .name)
+afterEnd M w q (g ∷ d) = withDeque M w (g ∷ d)
 
 -- the deque of w has the bottom q and above it d:
 -- spawn: the child "goes to the bottom of the same deque"
--- return: "the bottom frame ends", and its parent may resume; "Return drops the child's list"
+-- return: "the bottom frame ends"; "A return with a live child now suspends the frame as returning" (R-3)
 -- sync: "with no live child the bottom frame passes"; "Else it is suspended"
 abbrev pub afterAction : Machine → ℕ → List Frame → Action → Machine
 afterAction M w [] a = M
 afterAction M w (q ∷ d) spawn = withDeque M w (child q ∷ afterSpawn q ∷ d)
-afterAction M w (q ∷ d) return = cond (parentResumes (withDeque M w d) (q .name) d) (resume (withDeque M w d) w (tail (q .name))) (withDeque M w d)
+afterAction M w (q ∷ d) return = cond (hasChild (q .name) (live M)) (suspend M w (asReturning q) d) (afterEnd M w q d)
 afterAction M w (q ∷ d) sync = cond (hasChild (q .name) (live M)) (suspend M w q d) M
 afterAction M w (q ∷ d) (read x) = M
 afterAction M w (q ∷ d) (write x v) = afterWrite M w q d x v
@@ -148,19 +170,17 @@ step M s = let M′ = afterTurn M (turnOf s) in cond (accepted (refusal M s)) M�
 abbrev pub valueAt : Frame → ℕ → ℕ
 valueAt q x = getD (q .values) x 0
 
--- a frame of that name has left its deque, which is d now. "If its parent is then the bottom, the outcome is 0." The parent
--- "resumes on this worker, past its sync: outcome 2. If the deque is empty otherwise, the worker is idle: outcome 1. The end
--- of Main is outcome 3." (Theory.Deques shows that a bottom which is left is the parent)
-abbrev pub returnOutcome : Machine → Name → List Frame → ℕ
-returnOutcome M [] d = 3
-returnOutcome M (k ∷ p) (g ∷ d) = 0
-returnOutcome M (k ∷ p) [] = cond (parentResumes M (k ∷ p) []) 2 1
+-- a frame has ended on w, below d in its deque, and M is the machine after that: "The end of Main is outcome 3." "If its parent
+-- is then the bottom, the outcome is 0" (Theory.Deques shows that a bottom which is left is the parent). "If the deque is empty
+-- otherwise, the worker is idle: outcome 1." Else a frame "resumes on this worker, past its sync: outcome 2"
+abbrev pub endOutcome : Machine → ℕ → List Frame → ℕ
+endOutcome M w d = firstTrue 2 ((not (hasFrame [] (live M)), 3) ∷ (not (isEmpty d), 0) ∷ (isEmpty (deque M w), 1) ∷ [])
 
 -- "spawn the child's depth", "return and sync the outcome, read the value, write the free nodes left"
 abbrev pub actionAnswer : Machine → ℕ → List Frame → Action → ℕ × ℕ
 actionAnswer M w [] a = (0, 0)
 actionAnswer M w (q ∷ d) spawn = (101, depth (child q))
-actionAnswer M w (q ∷ d) return = (102, returnOutcome (withDeque M w d) (q .name) d)
+actionAnswer M w (q ∷ d) return = (102, cond (hasChild (q .name) (live M)) 4 (endOutcome (afterEnd M w q d) w d))
 actionAnswer M w (q ∷ d) sync = (104, cond (hasChild (q .name) (live M)) 1 0)
 actionAnswer M w (q ∷ d) (read x) = (105, valueAt q x)
 actionAnswer M w (q ∷ d) (write x v) = (106, freeNodes (afterWrite M w q d x v))

@@ -19,7 +19,7 @@ pub mod LiteralList
 pub mod Ancestors
 -- what an accepted turn does to the live frames
 pub mod Effects
--- accepted and refused steps; what is kept along a run; a run is a LiveRun
+-- accepted and refused steps; what is kept along a run
 pub mod RunSteps
 -- one worker does the child-first list
 pub mod OneWorker
@@ -27,6 +27,8 @@ pub mod OneWorker
 pub mod FrameTree
 -- Main has returned just when no frame lives
 pub mod MainEnds
+-- a run is a LiveRun
+pub mod RunLive
 -- the theorem
 pub mod Demand3Proof
 -- ---- invariants of the machine, for those who relate another state to it
@@ -44,4 +46,6 @@ pub mod Bounds
 pub mod Invariant
 -- R-2: a second write takes no node
 pub mod SecondWrite
+-- R-3: a return's outcome, end by end
+pub mod Outcomes
 pub mod Unused

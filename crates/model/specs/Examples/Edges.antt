@@ -17,14 +17,14 @@ edges =
     ∷ record { workers = 1; values = replicate 5 0; nodes = 11; steps = Write 0 0 5 ∷ []; expected = (106, 0) ∷ [] }
     ∷ record { workers = 1; values = replicate 5 0; nodes = 14; steps = Write 0 0 5 ∷ []; expected = (106, 3) ∷ [] }
     ∷ record { workers = 1; values = replicate 5 0; nodes = 15; steps = Write 0 0 5 ∷ []; expected = (106, 4) ∷ [] }
-    -- "Stealing from a deque of one: 12"; the victim that does not exist; "Return by Main while its child runs elsewhere: 14",
-    -- which counts a child on another deque
+    -- "Stealing from a deque of one: 12"; the victim that does not exist; "Return by Main while its child runs elsewhere" is
+    -- 102 4 (R-3), which counts a child on another deque
     ∷ record {
       workers = 2;
       values = replicate 5 0;
       nodes = 15;
       steps = Steal 1 0 ∷ Steal 1 7 ∷ Spawn 0 ∷ Steal 1 0 ∷ Return 1 ∷ [];
-      expected = (12, 0) ∷ (12, 0) ∷ (101, 1) ∷ (103, 0) ∷ (14, 0) ∷ [];
+      expected = (12, 0) ∷ (12, 0) ∷ (101, 1) ∷ (103, 0) ∷ (102, 4) ∷ [];
     }
     -- a worker that does not exist, an idle one, a thief that is not idle, a splitter that is not there; then Main returns
     ∷ record {
@@ -59,6 +59,28 @@ edges =
       nodes = 4;
       steps = Spawn 0 ∷ Spawn 0 ∷ Write 0 0 8 ∷ Steal 1 0 ∷ Read 1 0 ∷ Read 0 0 ∷ Return 0 ∷ [];
       expected = (101, 1) ∷ (101, 2) ∷ (106, 2) ∷ (103, 0) ∷ (105, 7) ∷ (105, 8) ∷ (102, 0) ∷ [];
+    }
+    -- R-3: "the answer shows where that stopped": at a child that lives, at the end of Main, at a parent that waits at its sync
+    ∷ record {
+      workers = 3;
+      values = 7 ∷ [];
+      nodes = 4;
+      steps = Spawn 0 ∷ Spawn 0 ∷ Steal 1 0 ∷ Steal 2 0 ∷ Return 1 ∷ Steal 1 0 ∷ Spawn 0 ∷ Steal 1 0 ∷ Return 1 ∷ Return 0 ∷ [];
+      expected = (101, 1) ∷ (101, 2) ∷ (103, 0) ∷ (103, 1) ∷ (102, 4) ∷ (12, 0) ∷ (101, 3) ∷ (103, 2) ∷ (102, 4) ∷ (102, 1) ∷ [];
+    }
+    ∷ record {
+      workers = 3;
+      values = 7 ∷ [];
+      nodes = 4;
+      steps = Spawn 0 ∷ Spawn 0 ∷ Steal 1 0 ∷ Steal 2 0 ∷ Return 1 ∷ Return 2 ∷ Return 0 ∷ Read 0 0 ∷ [];
+      expected = (101, 1) ∷ (101, 2) ∷ (103, 0) ∷ (103, 1) ∷ (102, 4) ∷ (102, 4) ∷ (102, 3) ∷ (9, 0) ∷ [];
+    }
+    ∷ record {
+      workers = 3;
+      values = 7 ∷ [];
+      nodes = 4;
+      steps = Spawn 0 ∷ Spawn 0 ∷ Steal 1 0 ∷ Steal 2 0 ∷ Sync 1 ∷ Return 2 ∷ Return 0 ∷ Return 0 ∷ [];
+      expected = (101, 1) ∷ (101, 2) ∷ (103, 0) ∷ (103, 1) ∷ (104, 1) ∷ (102, 4) ∷ (102, 2) ∷ (102, 3) ∷ [];
     }
     -- "skipping the new path when the written value is equal": a write of the same value takes the nodes that are shared, and
     -- is refused for want of them

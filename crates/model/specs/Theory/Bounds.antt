@@ -33,13 +33,14 @@ sized-written n q x v h k = record {
 sized-successor : (n nodes : ℕ) (q : Frame) (R : List Frame) (a : Action) → Allowed n nodes q R a → Sized n q → (f : Frame) → In f (successors q a) → Sized n f
 sized-successor n nodes q R spawn ok k f (here e) = rw e (record { values = k .values; writes = k .writes })
 sized-successor n nodes q R spawn ok k f (there (here e)) = rw e (record { values = k .values; writes = k .writes })
+sized-successor n nodes q R return ok k f (here e) = rw e (record { values = k .values; writes = k .writes })
 sized-successor n nodes q R sync ok k f (here e) = rw e k
 sized-successor n nodes q R (read x) ok k f (here e) = rw e k
 sized-successor n nodes q R (write x v) ok k f (here e) = rw e (sized-written n q x v (ok .0) k)
 
 few-acted : (n nodes : ℕ) (q : Frame) (a : Action) (R : List Frame) → Allowed n nodes q R a → length (q ∷ R) ≤ maxFrames → length (successors q a ++ R) ≤ maxFrames
 few-acted n nodes q spawn R ok h = ok
-few-acted n nodes q return R ok h = omega arith
+few-acted n nodes q return R ok h = h
 few-acted n nodes q sync R ok h = h
 few-acted n nodes q (read x) R ok h = h
 few-acted n nodes q (write x v) R ok h = h
@@ -51,7 +52,7 @@ bounded-acted n nodes q a R ok b = (
 )
 
 pub bounded-turn : (M : Machine) (t : Turn) → Passes M t → Bounded (M .splitters) (live M) → Bounded (M .splitters) (live (afterTurn M t))
-bounded-turn M = live-kept (Bounded (M .splitters)) M (λ L L′. bounded-perm (M .splitters)) (λ q a R p. bounded-acted (M .splitters) (M .nodes) q a R)
+bounded-turn M = live-kept (Bounded (M .splitters)) M (λ L L′. bounded-perm (M .splitters)) (λ q a R p. bounded-acted (M .splitters) (M .nodes) q a R) (λ q R e b. (omega (arith, b .0), λ f m. b .1 f (there m)))
 
 pub bounded-start : (w : ℕ) (vs : List ℕ) (nodes : ℕ) → Bounded (length vs) (live (start w vs nodes))
 bounded-start w vs nodes = subst (Bounded (length vs)) (sym (live-start w vs nodes)) (

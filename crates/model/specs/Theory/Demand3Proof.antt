@@ -18,7 +18,9 @@ use Rattle.model.specs.Theory.LiveRun.{LiveRun, Disjoint}
 use Rattle.model.specs.Theory.StepsKept.{unowned, steps-kept}
 use Rattle.model.specs.Theory.LiteralList.{list-is}
 use Rattle.model.specs.Theory.Effects.{live-start}
-use Rattle.model.specs.Theory.RunSteps.{sizes-run, live-run}
+use Rattle.model.specs.Theory.RunSteps.{sizes-run}
+use Rattle.model.specs.Theory.RunLive.{live-run}
+use Rattle.model.specs.Theory.Deques.{deques-start}
 use Rattle.model.specs.Theory.OneWorker.{solo, Performs, performs-accepted, performs-run, performs-trace, child-first-runs}
 use Rattle.model.specs.Theory.FrameTree.{tree-start}
 use Rattle.model.specs.Theory.MainEnds.{returned-ends, ends-returned}
@@ -35,7 +37,7 @@ module _ (w : ℕ) (vs : List ℕ) (nodes : ℕ) (ss : List Step) (returned : Re
   over = returned-ends (start w vs nodes) ss (tree-start w vs nodes) returned
 
   run-of : LiveRun (length vs) nodes (main vs ∷ []) (traceOf w vs nodes ss)
-  run-of = subst (λ L. LiveRun (length vs) nodes L (traceOf w vs nodes ss)) (live-start w vs nodes) (live-run (length vs) nodes (start w vs nodes) ss refl refl over)
+  run-of = subst (λ L. LiveRun (length vs) nodes L (traceOf w vs nodes ss)) (live-start w vs nodes) (live-run (length vs) nodes (start w vs nodes) ss refl refl (tree-start w vs nodes) (deques-start w vs nodes) over)
 
   disjoint : Disjoint (main vs ∷ [])
   disjoint = ((λ g m r o o′. not-in-nil m), tt)
@@ -45,10 +47,10 @@ module _ (w : ℕ) (vs : List ℕ) (nodes : ℕ) (ss : List Step) (returned : Re
   list = childFirstList (suc (length (traceOf w vs nodes ss))) (traceOf w vs nodes ss) []
 
   main-list : list ≡ childFirst (traceOf w vs nodes ss) [] 1
-  main-list = list-is (length vs) nodes run-of disjoint (main vs) (here refl) (length (traceOf w vs nodes ss)) (le-refl (length (traceOf w vs nodes ss)))
+  main-list = list-is (length vs) nodes run-of disjoint (main vs) (here refl) refl (length (traceOf w vs nodes ss)) (le-refl (length (traceOf w vs nodes ss)))
 
   performs : Performs list (start 1 vs nodes) (solo (length vs) nodes [])
-  performs = subst (λ z. Performs z (start 1 vs nodes) (solo (length vs) nodes [])) (sym main-list) (child-first-runs (length vs) nodes run-of disjoint (main vs) [] (here refl) (refl, tt))
+  performs = subst (λ z. Performs z (start 1 vs nodes) (solo (length vs) nodes [])) (sym main-list) (child-first-runs (length vs) nodes run-of disjoint (main vs) [] (here refl) refl (refl, tt))
 
   -- the one-worker run's trace is the child-first list itself
   pub same-trace : traceOf 1 vs nodes (oneWorkerOf w vs nodes ss) ≡ list
@@ -58,8 +60,8 @@ module _ (w : ℕ) (vs : List ℕ) (nodes : ℕ) (ss : List Step) (returned : Re
   same-of-name p =
       ap (entriesOf p) main-list ∙
       elim (owns-or-not [] 0 p) [
-        | inl o ↦ steps-kept (length vs) nodes run-of disjoint (main vs) (here refl) p o
-        | inr o ↦ of-foreign p (traceOf w vs nodes ss) [] 0 o ∙ sym (unowned run-of p (λ f m o′. o (rw (In-one m) at o′)))
+        | inl o ↦ steps-kept (length vs) nodes run-of disjoint (main vs) (here refl) refl p o
+        | inr o ↦ of-foreign p (traceOf w vs nodes ss) [] 0 o ∙ sym (unowned run-of p (λ f m l o′. o (rw (In-one m) at o′)))
       ]
 
   same-actions : (p : Name) → stepsOf p (traceOf 1 vs nodes (oneWorkerOf w vs nodes ss)) ≡ stepsOf p (traceOf w vs nodes ss)

@@ -1,19 +1,19 @@
 -- The shape of a deque: each frame is a child of the one above it, and a frame that is no top has only the child below it.
 use mathlib.Core.Path.{_≡_, refl, sym, ap, _∙_, subst}
 use mathlib.Core.Logic.{_≢_, _⊎_, inl, inr}
-use mathlib.Core.Bool.{true}
+use mathlib.Core.Bool.{Bool, true, false}
 use mathlib.Core.List.{List·Memᴰ as In, List·Memᴰ·head as here, List·Memᴰ·tail as there, List·Memᴰ·not-nil as not-in-nil, List·Memᴰ·cases-cons as In-cons, Memᴰ·append-left as In-left, Memᴰ·append-right as In-right}
 use mathlib.Core.List.{List, [], _∷_, _++_, tail-eq-of-cons-eq}
 use Prim.Native.Nat.{ℕ, zero, suc, _<_}
 use native.Mathlib.Decide.{ℕ-discrete}
 use lib.ListN.{length, getD, set}
 use lib.Seq.{getD-set-same, getD-set-other}
-use Rattle.words.specs.Basics.{joined, same}
+use Rattle.words.specs.Basics.{joined}
 use Rattle.words.specs.Tests.{decided}
-use Rattle.words.specs.Distinct.{same-eq, same-of, same-ne}
-use Rattle.model.specs.Machine.{Name, Frame, Machine, live, deque, top, belowTop, hasChild, named, notNamed}
-use Rattle.model.specs.Steps.{Action, spawn, sync, read, write, afterSpawn}
+use Rattle.model.specs.Machine.{Name, Frame, Machine, live, deque, top, belowTop, hasChild, those, others}
+use Rattle.model.specs.Steps.{Action, spawn, return, sync, read, write, afterSpawn}
 use Rattle.model.specs.Theory.LiveRun.{successors, Disjoint}
+use Rattle.model.specs.Theory.Effects.{in-those}
 
 -- "Each frame in a deque is a child of the one above it."
 abbrev pub Linked : List Frame → Type 0
@@ -37,6 +37,8 @@ DequeShape L d = Linked d × OnlyChild L nothing d
 
 pub record DequeInvariant (M : Machine) : Type 0 where
   pub shape : (v : ℕ) → DequeShape (live M) (deque M v)
+  -- only suspended frames wait as returning
+  pub active : (v : ℕ) (f : Frame) → In f (deque M v) → f .returning ≡ false
   -- "suspended with a live child"
   pub waits : (f : Frame) → In f (M .suspended) → hasChild (f .name) (live M) ≡ true
 
@@ -121,37 +123,37 @@ disjoint-apart [] b c g f mg mf e = not-in-nil mg
 disjoint-apart (x ∷ a) b c g f mg mf e =
     elim (In-cons mg) [ inl d ↦ c .0 f (In-right a mf) (x .name) (inl refl) (inl (ap (λ z. z .name) (sym d) ∙ e)) | inr i ↦ disjoint-apart a b (c .1) g f i mf e ]
 
-in-named : (p : Name) (l : List Frame) (f : Frame) → In f (named p l) → In f l × (f .name ≡ p)
-in-named p [] f m = absurd (not-in-nil m)
-in-named p (g ∷ l) f m =
-    elim (decided (same (g .name) p)) [
-      | inl s ↦ elim (In-cons (rw s at m)) [ inl e ↦ (here e, ap (λ z. z .name) e ∙ same-eq (g .name) p s) | inr i ↦ (let r = in-named p l f i in (there (r .0), r .1)) ]
-      | inr s ↦ (let r = in-named p l f (rw s at m) in (there (r .0), r .1))
+-- a name has one frame
+pub one-named : (L : List Frame) → Disjoint L → (f g : Frame) → In f L → In g L → f .name ≡ g .name → f ≡ g
+one-named [] c f g mf mg e = absurd (not-in-nil mf)
+one-named (x ∷ L) c f g mf mg e = elim (In-cons mf) [
+  | inl df ↦ elim (In-cons mg) [ inl dg ↦ df ∙ sym dg | inr ig ↦ absurd (c .0 g ig (x .name) (inl refl) (inl (ap (λ z. z .name) (sym df) ∙ e))) ]
+  | inr if′ ↦ elim (In-cons mg) [ inl dg ↦ absurd (c .0 f if′ (x .name) (inl refl) (inl (ap (λ z. z .name) (sym dg) ∙ sym e))) | inr ig ↦ one-named L (c .1) f g if′ ig e ]
+]
+
+pub in-others : (t : Frame → Bool) (l : List Frame) (f : Frame) → In f (others t l) → In f l × (t f ≡ false)
+in-others t [] f m = absurd (not-in-nil m)
+in-others t (g ∷ l) f m =
+    elim (decided (t g)) [
+      | inl s ↦ (let r = in-others t l f (rw s at m) in (there (r .0), r .1))
+      | inr s ↦ elim (In-cons (rw s at m)) [ inl e ↦ (here e, ap t e ∙ s) | inr i ↦ (let r = in-others t l f i in (there (r .0), r .1)) ]
     ]
 
-pub in-notNamed : (p : Name) (l : List Frame) (f : Frame) → In f (notNamed p l) → In f l × (f .name ≢ p)
-in-notNamed p [] f m = absurd (not-in-nil m)
-in-notNamed p (g ∷ l) f m =
-    elim (decided (same (g .name) p)) [
-      | inl s ↦ (let r = in-notNamed p l f (rw s at m) in (there (r .0), r .1))
-      | inr s ↦ elim (In-cons (rw s at m)) [ inl e ↦ (here e, (λ z. same-ne s (ap (λ x. x .name) (sym e) ∙ z))) | inr i ↦ (let r = in-notNamed p l f i in (there (r .0), r .1)) ]
-    ]
-
-pub to-named : (p : Name) (l : List Frame) (f : Frame) → In f l → f .name ≡ p → In f (named p l)
-to-named p [] f m e = absurd (not-in-nil m)
-to-named p (g ∷ l) f m e =
+pub to-those : (t : Frame → Bool) (l : List Frame) (f : Frame) → In f l → t f ≡ true → In f (those t l)
+to-those t [] f m e = absurd (not-in-nil m)
+to-those t (g ∷ l) f m e =
     elim (In-cons m) [
-      | inl d ↦ rw (same-of (ap (λ z. z .name) (sym d) ∙ e)) (here d)
-      | inr i ↦ elim (decided (same (g .name) p)) [ inl s ↦ rw s (there (to-named p l f i e)) | inr s ↦ rw s (to-named p l f i e) ]
+      | inl d ↦ rw (ap t (sym d) ∙ e) (here d)
+      | inr i ↦ elim (decided (t g)) [ inl s ↦ rw s (there (to-those t l f i e)) | inr s ↦ rw s (to-those t l f i e) ]
     ]
 
 -- at most one frame has a name
-pub shape-named : (L : List Frame) (p : Name) (l : List Frame) → Disjoint l → DequeShape L (named p l)
-shape-named L p [] c = (tt, tt)
-shape-named L p (f ∷ l) c =
-    elim (decided (same (f .name) p)) [
-      | inl s ↦ rw s (single (named p l) (λ g m. let r = in-named p l g m in c .0 g (r .0) p (inl (sym (same-eq (f .name) p s))) (inl (sym (r .1)))))
-      | inr s ↦ rw s (shape-named L p l (c .1))
+pub shape-those : (L : List Frame) (t : Frame → Bool) (p : Name) (l : List Frame) → ((f : Frame) → t f ≡ true → f .name ≡ p) → Disjoint l → DequeShape L (those t l)
+shape-those L t p [] n c = (tt, tt)
+shape-those L t p (f ∷ l) n c =
+    elim (decided (t f)) [
+      | inl s ↦ rw s (single (those t l) (λ g m. let r = in-those t l g m in c .0 g (r .0) p (inl (sym (n f s))) (inl (sym (n g (r .1))))))
+      | inr s ↦ rw s (shape-those L t p l n (c .1))
     ]
   where
     single : (m : List Frame) → ((g : Frame) → In g m → ⊥) → DequeShape L (f ∷ m)
@@ -163,6 +165,7 @@ shape-named L p (f ∷ l) c =
 pub successors-names : (q : Frame) (a : Action) (c : Frame) → In c (successors q a) → (c .name ≡ q .name) ⊎ ((a ≡ spawn) × (c .name ≡ suc (q .spawned) ∷ q .name))
 successors-names q spawn c (here e) = inr (refl, ap (λ z. z .name) e)
 successors-names q spawn c (there (here e)) = inl (ap (λ z. z .name) e)
+successors-names q return c (here e) = inl (ap (λ z. z .name) e)
 successors-names q sync c (here e) = inl (ap (λ z. z .name) e)
 successors-names q (read x) c (here e) = inl (ap (λ z. z .name) e)
 successors-names q (write x v) c (here e) = inl (ap (λ z. z .name) e)

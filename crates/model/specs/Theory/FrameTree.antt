@@ -8,9 +8,9 @@ use Prim.Native.Nat.{ℕ}
 use Rattle.words.specs.Tests.{true≢false}
 use Rattle.words.specs.Lists.{In-perm}
 use Rattle.model.specs.declared.Step.{Step}
-use Rattle.model.specs.Machine.{Name, Frame, Machine, live, hasChild, start}
+use Rattle.model.specs.Machine.{Name, Frame, Machine, live, start, hasChild}
 use Rattle.model.specs.Steps.{Action, spawn, return, sync, read, write, Turn, afterSpawn, afterTurn, step}
-use Rattle.model.specs.Theory.LiveRun.{successors, Successor, successor, Allowed, Disjoint, disjoint-perm, disjoint-acted}
+use Rattle.model.specs.Theory.LiveRun.{successors, successor, Ends, Disjoint, disjoint-perm, disjoint-acted}
 use Rattle.model.specs.Theory.Children.{In-hasChild}
 use Rattle.model.specs.Theory.Effects.{Passes, live-start}
 use Rattle.model.specs.Theory.RunSteps.{live-kept, step-kept}
@@ -24,37 +24,42 @@ rooted-perm p r f m k q e = let x = r f (In-perm (Permᴰ·symm p) m) k q e in (
 
 -- ---- a step of q
 
-module _ (q : Frame) (a : Action) (R : List Frame) (rooted : Rooted (q ∷ R)) (childless : a ≡ return → hasChild (q .name) (q ∷ R) ≡ false) where
-  -- a frame that has a child is there after the step, under its name
-  stays : (k : ℕ) (f g : Frame) → In f (q ∷ R) → In g (q ∷ R) → f .name ≡ k ∷ g .name → (h : Frame) × In h (successors q a ++ R) × (h .name ≡ g .name)
-  stays k f g mf mg e = elim (In-cons mg) [ inl d ↦ onto d | inr i ↦ (g, In-right (successors q a) i, refl) ]
-    where
-      onto : g ≡ q → (h : Frame) × In h (successors q a ++ R) × (h .name ≡ g .name)
-      onto d =
-          let gq : g .name ≡ q .name = ap (λ z. z .name) d in
-          let h : Successor q a = successor q a (λ r. true≢false (sym (In-hasChild k (q .name) mf (e ∙ ap (λ z. k ∷ z) gq)) ∙ childless r)) in
-          (h .frame, In-left R (h .new), h .named ∙ sym gq)
+module _ (q : Frame) (a : Action) (R : List Frame) (rooted : Rooted (q ∷ R)) where
+  -- a frame is there after the step, under its name
+  stays : (g : Frame) → In g (q ∷ R) → (h : Frame) × In h (successors q a ++ R) × (h .name ≡ g .name)
+  stays g m = let h = successor q a in elim (In-cons m) [ inl d ↦ (h .frame, In-left R (h .new), h .named ∙ ap (λ z. z .name) (sym d)) | inr i ↦ (g, In-right (successors q a) i, refl) ]
 
   parent-stays : (f : Frame) → In f (q ∷ R) → (k : ℕ) (p : Name) → f .name ≡ k ∷ p → (h : Frame) × In h (successors q a ++ R) × (h .name ≡ p)
   parent-stays f m k p e =
       let x = rooted f m k p e in
-      let y = stays k f (x .0) m (x .1) (e ∙ ap (λ z. k ∷ z) (sym (x .2))) in
+      let y = stays (x .0) (x .1) in
       (y .0, y .1, y .2 ∙ x .2)
 
 new-parent : (q : Frame) (a : Action) (R : List Frame) (f : Frame) → In f (successors q a) → (k : ℕ) (p : Name) → f .name ≡ k ∷ p
     → ((h : Frame) × In h (successors q a ++ R) × (h .name ≡ p)) ⊎ (q .name ≡ k ∷ p)
 new-parent q spawn R f (here d) k p e = inl (afterSpawn q, there (here refl), tail-eq-of-cons-eq (ap (λ z. z .name) (sym d) ∙ e))
 new-parent q spawn R f (there (here d)) k p e = inr (ap (λ z. z .name) (sym d) ∙ e)
+new-parent q return R f (here d) k p e = inr (ap (λ z. z .name) (sym d) ∙ e)
 new-parent q sync R f (here d) k p e = inr (ap (λ z. z .name) (sym d) ∙ e)
 new-parent q (read x) R f (here d) k p e = inr (ap (λ z. z .name) (sym d) ∙ e)
 new-parent q (write x v) R f (here d) k p e = inr (ap (λ z. z .name) (sym d) ∙ e)
 
-rooted-acted : (q : Frame) (a : Action) (R : List Frame) → Rooted (q ∷ R) → (a ≡ return → hasChild (q .name) (q ∷ R) ≡ false) → Rooted (successors q a ++ R)
-rooted-acted q a R r c f m k p e =
+rooted-acted : (q : Frame) (a : Action) (R : List Frame) → Rooted (q ∷ R) → Rooted (successors q a ++ R)
+rooted-acted q a R r f m k p e =
     elim (In-cases (successors q a) m) [
-      | inl i ↦ elim (new-parent q a R f i k p e) [ inl x ↦ x | inr eq ↦ parent-stays q a R r c q (here refl) k p eq ]
-      | inr i ↦ parent-stays q a R r c f (there i) k p e
+      | inl i ↦ elim (new-parent q a R f i k p e) [ inl x ↦ x | inr eq ↦ parent-stays q a R r q (here refl) k p eq ]
+      | inr i ↦ parent-stays q a R r f (there i) k p e
     ]
+
+-- a frame without a live child is no parent
+pub rooted-without : (q : Frame) (R : List Frame) → hasChild (q .name) (q ∷ R) ≡ false → Rooted (q ∷ R) → Rooted R
+rooted-without q R e r f m k p n =
+    let x = r f (there m) k p n in
+    elim (In-cons (x .1)) [ inl d ↦ absurd (true≢false (sym (In-hasChild k (q .name) (there {x = q} m) (n ∙ ap (λ z. k ∷ z) (sym (x .2) ∙ ap (λ z. z .name) d))) ∙ e)) | inr i ↦ (x .0, i, x .2) ]
+
+-- nor is a frame that ends
+pub rooted-dropped : (q : Frame) (R : List Frame) → Ends q R → Rooted (q ∷ R) → Rooted R
+rooted-dropped q R e r = rooted-without q R (e .1) r
 
 -- ---- the machine keeps it
 
@@ -65,12 +70,9 @@ pub record FrameTree (M : Machine) : Type 0 where
 
 pub tree-turn : (M : Machine) (t : Turn) → Passes M t → FrameTree M → FrameTree (afterTurn M t)
 tree-turn M t h i = record {
-  disjoint = live-kept Disjoint M (λ L L′. disjoint-perm) (λ q a R p ok c. disjoint-acted q a R c) t h (i .disjoint);
-  rooted = live-kept Rooted M (λ L L′. rooted-perm) (λ q a R p ok r. rooted-acted q a R r (childless M q R a ok)) t h (i .rooted);
+  disjoint = live-kept Disjoint M (λ L L′. disjoint-perm) (λ q a R p ok c. disjoint-acted q a R c) (λ q R e c. c .1) t h (i .disjoint);
+  rooted = live-kept Rooted M (λ L L′. rooted-perm) (λ q a R p ok r. rooted-acted q a R r) rooted-dropped t h (i .rooted);
 }
-  where
-    childless : (M : Machine) (q : Frame) (R : List Frame) (a : Action) → Allowed (M .splitters) (M .nodes) q R a → a ≡ return → hasChild (q .name) (q ∷ R) ≡ false
-    childless M q R a ok e = subst (λ z. Allowed (M .splitters) (M .nodes) q R z) e ok
 
 pub tree-step : (M : Machine) (s : Step) → FrameTree M → FrameTree (step M s)
 tree-step M = step-kept FrameTree M (tree-turn M)

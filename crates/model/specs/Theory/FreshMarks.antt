@@ -11,7 +11,7 @@ use Rattle.words.specs.Tests.{decided}
 use Rattle.words.specs.Lists.{In-perm}
 use Rattle.model.specs.History.{Event, History, lastWrite}
 use Rattle.model.specs.Machine.{Name, Frame, Machine, live, start}
-use Rattle.model.specs.Steps.{Action, spawn, sync, read, write, Turn, writeEvent, written, afterTurn}
+use Rattle.model.specs.Steps.{Action, spawn, return, sync, read, write, Turn, writeEvent, written, afterTurn}
 use Rattle.model.specs.Theory.Names.{below, below-longer, below-weaker, child-below}
 use Rattle.model.specs.Theory.LiveRun.{successors, Disjoint, disjoint-perm, disjoint-acted}
 use Rattle.model.specs.Theory.Effects.{Passes, live-start}
@@ -39,6 +39,7 @@ past-successor q spawn v k g (here e) = rw e (record {
   others = λ i r d b. k .others i r d (child-below (q .name) (q .spawned) r (inr b));
 })
 past-successor q spawn v k g (there (here e)) = rw e (record { own = k .own; others = λ i r d b. k .others i r d (below-weaker (q .name) (q .spawned) r b) })
+past-successor q return v k g (here e) = rw e (record { own = k .own; others = k .others })
 past-successor q sync v k g (here e) = rw e k
 past-successor q (read x) v k g (here e) = rw e k
 past-successor q (write x y) v k g (here e) = rw e (record { own = λ i d. omega (arith, k .own i d); others = k .others })
@@ -61,6 +62,7 @@ past-new-apart q R x c g m = record {
 old-or-new : (q : Frame) (a : Action) (v : Event) (f : Frame) → In f (successors q a) → In v (f .history) → In v (q .history) ⊎ ((x : ℕ) × (y : ℕ) × (a ≡ write x y) × (v ≡ writeEvent q x))
 old-or-new q spawn v f (here e) m = inl (subst (λ z. In v (z .history)) e m)
 old-or-new q spawn v f (there (here e)) m = inl (subst (λ z. In v (z .history)) e m)
+old-or-new q return v f (here e) m = inl (subst (λ z. In v (z .history)) e m)
 old-or-new q sync v f (here e) m = inl (subst (λ z. In v (z .history)) e m)
 old-or-new q (read x) v f (here e) m = inl (subst (λ z. In v (z .history)) e m)
 old-or-new q (write x y) v f (here e) m = elim (In-cons (subst (λ z. In v (z .history)) e m)) [ inl d ↦ inr (x, y, refl, d) | inr i ↦ inl i ]
@@ -85,7 +87,8 @@ marks-acted q a R c k f m v mv g n = elim (In-cases (successors q a) m) [
 pub marks-turn : (M : Machine) (t : Turn) → Passes M t → FrameTree M → MarkInvariant (live M) → MarkInvariant (live (afterTurn M t))
 marks-turn M t h i k =
     live-kept (λ L. Disjoint L × MarkInvariant L) M (λ L L′ p k. (disjoint-perm p (k .0), marks-perm p (k .1)))
-    (λ q a R p ok k. (disjoint-acted q a R (k .0), marks-acted q a R (k .0) (k .1))) t h (i .disjoint, k) .1
+    (λ q a R p ok k. (disjoint-acted q a R (k .0), marks-acted q a R (k .0) (k .1)))
+    (λ q R e k. (k .0 .1, λ f m v mv g n. k .1 f (there m) v mv g (there n))) t h (i .disjoint, k) .1
 
 pub marks-start : (w : ℕ) (vs : List ℕ) (nodes : ℕ) → MarkInvariant (live (start w vs nodes))
 marks-start w vs nodes = subst MarkInvariant (sym (live-start w vs nodes)) (λ f m v mv g n. absurd (not-in-nil (subst (λ z. In v (z .history)) (In-one m) mv)))

@@ -17,7 +17,7 @@ use Rattle.model.specs.Run.{Entry, entry, entriesOf, follow, withChildre
 use Rattle.model.specs.Theory.Names.{below, owns, below-longer, child-below}
 use Rattle.model.specs.Theory.ChildFirst.{childFirst, of-mine, of-skip, childFirst-skip, childFirst-mine, childFirst-none}
 use Rattle.model.specs.Theory.LiveRun.{successors, LiveRun, Disjoint, backward}
-use Rattle.model.specs.Theory.StepsKept.{unowned}
+use Rattle.model.specs.Theory.StepsKept.{unmet, still}
 
 follow-eq : (a : Action) (e : Entry) {x x′ y y′ z z′ : List Entry} → x ≡ x′ → y ≡ y′ → z ≡ z′ → follow a e x y z ≡ follow a e x′ y′ z′
 follow-eq a e p q r = cc
@@ -46,32 +46,32 @@ withChildren-skip fuel e es p s xs h =
 
 -- the document's list of what is left, for each live frame, is the one by recursion
 abbrev ListIs : List Entry → List Frame → Type 0
-ListIs es L = (f : Frame) → In f L → (fuel : ℕ) → length es ≤ fuel → withChildren (λ k. childFirstList fuel es (k ∷ f .name)) (suc (f .spawned)) (entriesOf (f .name) es) ≡ childFirst es (f .name) (suc (f .spawned))
+ListIs es L = (f : Frame) → In f L → f .returning ≡ false → (fuel : ℕ) → length es ≤ fuel → withChildren (λ k. childFirstList fuel es (k ∷ f .name)) (suc (f .spawned)) (entriesOf (f .name) es) ≡ childFirst es (f .name) (suc (f .spawned))
 
 not-below : (p : Name) (s : ℕ) (r : Name) → below p s r → same p r ≡ false
 not-below p s r b = same-differ (λ (d : p ≡ r). omega (arith, below-longer p s r b, ap length d))
 
-list-is-mine : (q : Frame) (a : Action) (es : List Entry) (fuel : ℕ) → ListIs es (successors q a) → (a ≡ return → entriesOf (q .name) es ≡ []) → length es ≤ fuel
+list-is-mine : (q : Frame) (a : Action) (es : List Entry) (fuel : ℕ) → q .returning ≡ false → ListIs es (successors q a) → (a ≡ return → entriesOf (q .name) es ≡ []) → length es ≤ fuel
     → withChildren (λ k. childFirstList (suc fuel) (entry q a ∷ es) (k ∷ q .name)) (suc (q .spawned)) (entry q a ∷ entriesOf (q .name) es)
     ≡ follow a (entry q a) (childFirst es (suc (q .spawned) ∷ q .name) 1) (childFirst es (q .name) (suc (suc (q .spawned)))) (childFirst es (q .name) (suc (q .spawned)))
-list-is-mine q spawn es fuel ih out l =
+list-is-mine q spawn es fuel on ih out l =
     ap₂ (λ x y. entry q spawn ∷ (x ++ y))
     (list-eq (suc fuel) (entry q spawn ∷ es) es (suc (q .spawned) ∷ q .name) (λ r o. of-skip r (entry q spawn) es (not-below (q .name) (q .spawned) r (child-below (q .name) (q .spawned) r o)))
-    ∙ ih (child q) (here refl) fuel l)
-    (withChildren-skip (suc fuel) (entry q spawn) es (q .name) (suc (q .spawned)) (entriesOf (q .name) es) (not-below (q .name) (suc (q .spawned))) ∙ ih (afterSpawn q) (there (here refl)) (suc fuel) (omega arith))
-list-is-mine q return es fuel ih out l =
+    ∙ ih (child q) (here refl) refl fuel l)
+    (withChildren-skip (suc fuel) (entry q spawn) es (q .name) (suc (q .spawned)) (entriesOf (q .name) es) (not-below (q .name) (suc (q .spawned))) ∙ ih (afterSpawn q) (there (here refl)) on (suc fuel) (omega arith))
+list-is-mine q return es fuel on ih out l =
     ap (λ z. entry q return ∷ z) (ap (withChildren (λ k. childFirstList (suc fuel) (entry q return ∷ es) (k ∷ q .name)) (suc (q .spawned))) (out refl) ∙ sym (childFirst-none es (q .name) (suc (q .spawned)) (out refl)))
-list-is-mine q sync es fuel ih out l =
-    ap (λ z. entry q sync ∷ z) (withChildren-skip (suc fuel) (entry q sync) es (q .name) (q .spawned) (entriesOf (q .name) es) (not-below (q .name) (q .spawned)) ∙ ih q (here refl) (suc fuel) (omega arith))
-list-is-mine q (read x) es fuel ih out l =
-    ap (λ z. entry q (read x) ∷ z) (withChildren-skip (suc fuel) (entry q (read x)) es (q .name) (q .spawned) (entriesOf (q .name) es) (not-below (q .name) (q .spawned)) ∙ ih q (here refl) (suc fuel) (omega arith))
-list-is-mine q (write x v) es fuel ih out l =
-    ap (λ z. entry q (write x v) ∷ z) (withChildren-skip (suc fuel) (entry q (write x v)) es (q .name) (q .spawned) (entriesOf (q .name) es) (not-below (q .name) (q .spawned)) ∙ ih (written q x v) (here refl) (suc fuel) (omega arith))
+list-is-mine q sync es fuel on ih out l =
+    ap (λ z. entry q sync ∷ z) (withChildren-skip (suc fuel) (entry q sync) es (q .name) (q .spawned) (entriesOf (q .name) es) (not-below (q .name) (q .spawned)) ∙ ih q (here refl) on (suc fuel) (omega arith))
+list-is-mine q (read x) es fuel on ih out l =
+    ap (λ z. entry q (read x) ∷ z) (withChildren-skip (suc fuel) (entry q (read x)) es (q .name) (q .spawned) (entriesOf (q .name) es) (not-below (q .name) (q .spawned)) ∙ ih q (here refl) on (suc fuel) (omega arith))
+list-is-mine q (write x v) es fuel on ih out l =
+    ap (λ z. entry q (write x v) ∷ z) (withChildren-skip (suc fuel) (entry q (write x v)) es (q .name) (q .spawned) (entriesOf (q .name) es) (not-below (q .name) (q .spawned)) ∙ ih (written q x v) (here refl) on (suc fuel) (omega arith))
 
-list-is-acted : {n nodes : ℕ} {L L′ : List Frame} {es : List Entry} (q : Frame) (a : Action) (R : List Frame) → List·Permᴰ L (q ∷ R) → List·Permᴰ (successors q a ++ R) L′
+list-is-acted : {n nodes : ℕ} {L L′ : List Frame} {es : List Entry} (q : Frame) (a : Action) (R : List Frame) → List·Permᴰ L (q ∷ R) → q .returning ≡ false → List·Permᴰ (successors q a ++ R) L′
     → LiveRun n nodes L′ es → Disjoint (q ∷ R) → ListIs es L′ → ListIs (entry q a ∷ es) L
-list-is-acted q a R p p′ g c ih f m zero l = absurd (omega arith)
-list-is-acted {es = es} q a R p p′ g c ih f m (suc fuel) l = elim (In-cons (In-perm p m)) [ inl e ↦ mine e | inr i ↦ other i ]
+list-is-acted q a R p on p′ g c ih f m live zero l = absurd (omega arith)
+list-is-acted {es = es} q a R p on p′ g c ih f m live (suc fuel) l = elim (In-cons (In-perm p m)) [ inl e ↦ mine e | inr i ↦ other i ]
   where
     Goal : Frame → Type 0
     Goal z = withChildren (λ k. childFirstList (suc fuel) (entry q a ∷ es) (k ∷ z .name)) (suc (z .spawned)) (entriesOf (z .name) (entry q a ∷ es)) ≡ childFirst (entry q a ∷ es) (z .name) (suc (z .spawned))
@@ -79,16 +79,16 @@ list-is-acted {es = es} q a R p p′ g c ih f m (suc fuel) l = elim (In-cons (In
     mine : f ≡ q → Goal f
     mine e = subst Goal (sym e)
         (rw (of-mine (q .name) (entry q a) es (same-refl (q .name)), childFirst-mine (entry q a) es (q .name) (suc (q .spawned)) (same-refl (q .name)))
-        (list-is-mine q a es fuel (λ t i k h. ih t (In-perm p′ (In-left R i)) k h) (λ e. unowned g (q .name) (λ f′ m′ o′. c .0 f′ (rw e at (In-perm (Permᴰ·symm p′) m′)) (q .name) (inl refl) o′)) (omega arith)))
+        (list-is-mine q a es fuel on (λ t i. ih t (In-perm p′ (In-left R i))) (unmet q a R p′ g c (q .name) (inl refl)) (omega arith)))
 
     other : In f R → Goal f
     other i =
         ap (withChildren (λ k. childFirstList (suc fuel) (entry q a ∷ es) (k ∷ f .name)) (suc (f .spawned))) (of-skip (f .name) (entry q a) es (same-differ (λ d. c .0 f i (q .name) (inl refl) (inl d))))
         ∙ withChildren-skip (suc fuel) (entry q a) es (f .name) (f .spawned) (entriesOf (f .name) es) (λ r b. same-differ (λ d. c .0 f i r (inl (sym d)) (inr b)))
-        ∙ ih f (In-perm p′ (In-right (successors q a) i)) (suc fuel) (omega arith)
+        ∙ ih f (In-perm p′ (In-right (successors q a) i)) live (suc fuel) (omega arith)
         ∙ sym (childFirst-skip (entry q a) es (f .name) (suc (f .spawned)) (same-differ (λ d. c .0 f i (q .name) (inl refl) (inl d))))
 
 pub list-is : (n nodes : ℕ) {L : List Frame} {es : List Entry} → LiveRun n nodes L es → Disjoint L → ListIs es L
 list-is n nodes =
-    backward n nodes ListIs (λ f m fuel l. absurd (not-in-nil m)) (λ L L′ es p k f m fuel l. k f (In-perm p m) fuel l)
-    (λ L L′ es q a R p ok p′ g c ih. list-is-acted q a R p p′ g c ih)
+    backward n nodes ListIs (λ f m. absurd (not-in-nil m)) (λ L L′ es p k f m. k f (In-perm p m)) (λ L es q R p e k f m l. k f (still p e m l) l)
+    (λ L L′ es q a R p on ok p′ g c ih. list-is-acted q a R p on p′ g c ih)

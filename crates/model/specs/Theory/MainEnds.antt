@@ -1,57 +1,69 @@
 -- Main has returned, that is, a return was answered with outcome 3, just when no frame is live.
 use mathlib.Core.Path.{_≡_, refl, sym, ap, _∙_, subst}
-use mathlib.Core.Logic.{inl, inr}
-use mathlib.Core.Bool.{false}
-use mathlib.Core.List.{List·Memᴰ as In, List·Memᴰ·head as here, List·Memᴰ·tail as there, List·Memᴰ·not-nil as not-in-nil, List·Memᴰ·cases-cons as In-cons}
-use mathlib.Core.List.{List, [], _∷_, _++_, Permᴰ·symm}
+use mathlib.Core.Logic.{_≢_, inl, inr}
+use mathlib.Core.Bool.{Bool, true, false, not}
+use mathlib.Core.List.{List·Memᴰ as In, List·Memᴰ·head as here, List·Memᴰ·tail as there, List·Memᴰ·not-nil as not-in-nil, List·Memᴰ·cases-cons as In-cons, Memᴰ·append-left as In-left}
+use mathlib.Core.List.{List, [], _∷_, _++_, cons≢nil, Permᴰ·symm}
 use Prim.Native.Nat.{ℕ, _<_}
 use native.Mathlib.Omega.{arith}
 use lib.ListN.{length}
-use Rattle.words.specs.Tests.{true≢false, decided}
+use Rattle.words.specs.Tests.{true≢false, decided, not-true}
+use Rattle.words.specs.Basics.{same}
+use Rattle.words.specs.Distinct.{same-of, same-eq}
 use Rattle.words.specs.Lists.{In-perm}
 use Rattle.model.specs.declared.Step.{Step}
-use Rattle.model.specs.Machine.{Name, Frame, Machine, live, deque, withDeque, isEmpty, hasChild}
-use Rattle.model.specs.Steps.{Action, spawn, return, sync, read, write, Turn, acting, stealing, turnOf, child, written, parentResumes, afterAction, afterTurn, step, returnOutcome, actionAnswer, turnAnswer, answer}
+use Rattle.model.specs.Machine.{Name, Frame, Machine, live, deque, isEmpty, hasChild, hasFrame}
+use Rattle.model.specs.Steps.{Action, spawn, return, sync, read, write, Turn, acting, stealing, turnOf, firstTrue, asReturning, suspend, afterEnd, afterAction, afterTurn, step, endOutcome, actionAnswer, turnAnswer, answer}
 use Rattle.model.specs.Run.{run, Returned}
-use Rattle.model.specs.Theory.LiveRun.{successors, Disjoint, disjoint-perm}
-use Rattle.model.specs.Theory.Children.{In-hasChild}
-use Rattle.model.specs.Theory.Effects.{Passes, rest, isEmpty-nil, Acts, acts, steals}
+use Rattle.model.specs.Theory.LiveRun.{successor}
+use Rattle.model.specs.Theory.Effects.{Passes, rest, isEmpty-nil, other-action, action-live, acts, steals}
 use Rattle.model.specs.Theory.RunSteps.{accepted-or-refused}
-use Rattle.model.specs.Theory.FrameTree.{Rooted, rooted-perm, FrameTree, tree-step}
+use Rattle.model.specs.Theory.FrameTree.{Rooted, FrameTree, tree-turn, tree-step, main-lives}
 
 -- ---- Main ends last
-
-none-left : (q : Frame) (R : List Frame) → Rooted (q ∷ R) → Disjoint (q ∷ R) → hasChild (q .name) (q ∷ R) ≡ false → q .name ≡ [] → (r : Name) (f : Frame) → In f R → f .name ≡ r → ⊥
-none-left q R rooted c h e [] f m n = c .0 f m [] (inl (sym e)) (inl (sym n))
-none-left q R rooted c h e (k ∷ p) f m n =
-    let x = rooted f (there m) k p n in
-    elim (In-cons (x .1)) [
-      | inl d ↦ true≢false (sym (In-hasChild k (q .name) (there {x = q} m) (n ∙ ap (λ z. k ∷ z) (sym (x .2) ∙ ap (λ z. z .name) d))) ∙ h)
-      | inr i ↦ none-left q R rooted c h e p (x .0) i (x .2)
-    ]
 
 empty-of : (L : List Frame) → ((f : Frame) → In f L → ⊥) → L ≡ []
 empty-of [] h = refl
 empty-of (f ∷ L) h = absurd (h f (here refl))
 
+pub In-hasFrame : (p : Name) (L : List Frame) (f : Frame) → In f L → f .name ≡ p → hasFrame p L ≡ true
+In-hasFrame p [] f m n = absurd (not-in-nil m)
+In-hasFrame p (g ∷ L) f m n =
+    elim (In-cons m) [ inl e ↦ rw (same-of (ap (λ z. z .name) (sym e) ∙ n)) | inr i ↦ elim (decided (same (g .name) p)) [ inl s ↦ rw s | inr s ↦ rw s (In-hasFrame p L f i n) ] ]
+
+pub hasFrame-In : (p : Name) (L : List Frame) → hasFrame p L ≡ true → (f : Frame) × In f L × (f .name ≡ p)
+hasFrame-In p [] h = absurd (true≢false (sym h))
+hasFrame-In p (f ∷ L) h =
+    elim (decided (same (f .name) p)) [ inl t ↦ (f, here refl, same-eq (f .name) p t) | inr t ↦ (let r = hasFrame-In p L (rw t at h) in (r .0, there (r .1), r .2)) ]
+
+-- where Main does not live, no frame does
+none-left : (L : List Frame) → Rooted L → not (hasFrame [] L) ≡ true → L ≡ []
+none-left L r h = empty-of L (λ f m. let x = main-lives L r (f .name) f m refl in true≢false (sym (In-hasFrame [] L (x .0) (x .1) (x .2)) ∙ not-true _ h))
+
 -- ---- outcome 3
 
-main-ends : (M : Machine) (w : ℕ) (x : Acts M w return) → FrameTree M → x .actor .name ≡ [] → live (afterAction M w (deque M w) return) ≡ []
-main-ends M w x s e =
-    empty-of (live (afterAction M w (deque M w) return)) (λ f m. none-left (x .actor) (x .above ++ rest M w) (rooted-perm (x .before) (s .rooted)) (disjoint-perm (x .before) (s .disjoint))
-    (x .allowed) e (f .name) f (In-perm (Permᴰ·symm (x .after)) m) refl)
-
-outcome-three : (M : Machine) (r : Name) (d : List Frame) → returnOutcome M r d ≡ 3 → r ≡ []
-outcome-three M [] d h = refl
-outcome-three M (k ∷ p) (g ∷ d) h = absurd (omega arith)
-outcome-three M (k ∷ p) [] h = elim (decided (parentResumes M (k ∷ p) [])) [ inl t ↦ absurd (differ 2 (omega arith) (rw t at h)) | inr t ↦ absurd (differ 1 (omega arith) (rw t at h)) ]
+outcome-three : (M : Machine) (w : ℕ) (d : List Frame) → endOutcome M w d ≡ 3 → not (hasFrame [] (live M)) ≡ true
+outcome-three M w d h =
+    elim (decided (not (hasFrame [] (live M)))) [
+      | inl t ↦ t
+      | inr t ↦ absurd (other (not (isEmpty d)) (isEmpty (deque M w)) (rw t at h))
+    ]
   where
-    differ : (i : ℕ) → i < 3 → i ≡ 3 → ⊥
-    differ i b e = omega arith
+    other : (a b : Bool) → _≡_ {A = ℕ} (firstTrue 2 ((a, 0) ∷ (b, 1) ∷ [])) 3 → ⊥
+    other true b e = omega arith
+    other false true e = omega arith
+    other false false e = omega arith
 
-action-three : (M : Machine) (w : ℕ) (a : Action) (q : Frame) (d : List Frame) → actionAnswer M w (q ∷ d) a ≡ (102, 3) → (a ≡ return) × (q .name ≡ [])
+action-three : (M : Machine) (w : ℕ) (a : Action) (q : Frame) (d : List Frame) → actionAnswer M w (q ∷ d) a ≡ (102, 3) → not (hasFrame [] (live (afterAction M w (q ∷ d) a))) ≡ true
 action-three M w spawn q d h = absurd (omega (arith, ap (λ z. z .0) h))
-action-three M w return q d h = (refl, outcome-three (withDeque M w d) (q .name) d (ap (λ z. z .1) h))
+action-three M w return q d h =
+    elim (decided (hasChild (q .name) (live M))) [
+      | inl c ↦ absurd (four (ap (λ z. z .1) (rw c at h)))
+      | inr c ↦ rw c (outcome-three (afterEnd M w q d) w d (ap (λ z. z .1) (rw c at h)))
+    ]
+  where
+    four : _≡_ {A = ℕ} 4 3 → ⊥
+    four e = omega arith
 action-three M w sync q d h = absurd (omega (arith, ap (λ z. z .0) h))
 action-three M w (read x) q d h = absurd (omega (arith, ap (λ z. z .0) h))
 action-three M w (write x v) q d h = absurd (omega (arith, ap (λ z. z .0) h))
@@ -60,11 +72,8 @@ turn-three : (M : Machine) (t : Turn) → Passes M t → FrameTree M → turnAns
 turn-three M (stealing w v) h s e = absurd (omega (arith, ap (λ z. z .0) e))
 turn-three M (acting w a) h s e =
     let x = acts M w a h in
-    let y = action-three M w a (x .actor) (x .above) (subst (λ z. actionAnswer M w z a ≡ (102, 3)) (x .at) e) in
-    over (y .0) x (y .1)
-  where
-    over : a ≡ return → (x : Acts M w a) → x .actor .name ≡ [] → live (afterAction M w (deque M w) a) ≡ []
-    over t = subst (λ b. (x : Acts M w b) → x .actor .name ≡ [] → live (afterAction M w (deque M w) b) ≡ []) (sym t) (λ x n. main-ends M w x s n)
+    none-left (live (afterAction M w (deque M w) a)) ((tree-turn M (acting w a) h s) .rooted)
+    (subst (λ z. not (hasFrame [] (live (afterAction M w z a))) ≡ true) (sym (x .at)) (action-three M w a (x .actor) (x .above) (subst (λ z. actionAnswer M w z a ≡ (102, 3)) (x .at) e)))
 
 answer-three : (M : Machine) (s : Step) → FrameTree M → answer M s ≡ (102, 3) → live (step M s) ≡ []
 answer-three M s i e =
@@ -92,22 +101,26 @@ returned-ends M (s ∷ ss) i m = elim (In-cons m) [ inl e ↦ over-run (step M s
 
 -- ---- the other way round: the last live frame to end is Main
 
-none-new : (M : Machine) (w : ℕ) (a : Action) (x : Acts M w a) → live (afterAction M w (deque M w) a) ≡ [] → (f : Frame) → In f (successors (x .actor) a ++ (x .above ++ rest M w)) → ⊥
-none-new M w a x e f m = not-in-nil (subst (λ z. In f z) e (In-perm (x .after) m))
+none-new : (M : Machine) (w : ℕ) (a : Action) (q : Frame) (d : List Frame) → a ≢ return → w < length (M .deques) → deque M w ≡ q ∷ d → live (afterAction M w (q ∷ d) a) ≡ [] → ⊥
+none-new M w a q d ne lt at e =
+    not-in-nil (subst (λ z. In (successor q a .frame) z) e (In-perm (Permᴰ·symm (action-live M w q d a ne lt at)) (In-left (d ++ rest M w) (successor q a .new))))
 
-last-is-main : (q : Frame) (R : List Frame) → Rooted (q ∷ R) → ((f : Frame) → In f R → ⊥) → (r : Name) → q .name ≡ r → r ≡ []
-last-is-main q R rooted none′ [] e = refl
-last-is-main q R rooted none′ (k ∷ p) e =
-    let x = rooted q (here refl) k p e in
-    elim (In-cons (x .1)) [ inl d ↦ absurd (omega (arith, ap length e, ap length (sym (x .2) ∙ ap (λ z. z .name) d))) | inr i ↦ absurd (none′ (x .0) i) ]
+ends-action : (M : Machine) (w : ℕ) (a : Action) (q : Frame) (d : List Frame) → w < length (M .deques) → deque M w ≡ q ∷ d → live (afterAction M w (q ∷ d) a) ≡ [] → actionAnswer M w (q ∷ d) a ≡ (102, 3)
+ends-action M w spawn q d lt at e = absurd (none-new M w spawn q d (λ z. other-action z refl) lt at e)
+ends-action M w return q d lt at e =
+    elim (decided (hasChild (q .name) (live M))) [
+      | inl c ↦ absurd (cons≢nil (ap live (sym (waits c)) ∙ e))
+      | inr c ↦ rw c (rw (ap live (sym (over c)) ∙ e))
+    ]
+  where
+    waits : hasChild (q .name) (live M) ≡ true → afterAction M w (q ∷ d) return ≡ suspend M w (asReturning q) d
+    waits c = rw c
 
-ends-action : (M : Machine) (w : ℕ) (a : Action) (x : Acts M w a) → Rooted (live M) → live (afterAction M w (deque M w) a) ≡ [] → actionAnswer M w (x .actor ∷ x .above) a ≡ (102, 3)
-ends-action M w spawn x r e = absurd (none-new M w spawn x e (child (x .actor)) (here refl))
-ends-action M w return x r e =
-    rw (last-is-main (x .actor) (x .above ++ rest M w) (rooted-perm (x .before) r) (λ f m. none-new M w return x e f m) (x .actor .name) refl)
-ends-action M w sync x r e = absurd (none-new M w sync x e (x .actor) (here refl))
-ends-action M w (read i) x r e = absurd (none-new M w (read i) x e (x .actor) (here refl))
-ends-action M w (write i v) x r e = absurd (none-new M w (write i v) x e (written (x .actor) i v) (here refl))
+    over : hasChild (q .name) (live M) ≡ false → afterAction M w (q ∷ d) return ≡ afterEnd M w q d
+    over c = rw c
+ends-action M w sync q d lt at e = absurd (none-new M w sync q d (λ z. other-action z refl) lt at e)
+ends-action M w (read i) q d lt at e = absurd (none-new M w (read i) q d (λ z. other-action z refl) lt at e)
+ends-action M w (write i v) q d lt at e = absurd (none-new M w (write i v) q d (λ z. other-action z refl) lt at e)
 
 ends-turn : (M : Machine) (t : Turn) → Passes M t → FrameTree M → live (afterTurn M t) ≡ [] → turnAnswer M t ≡ (102, 3)
 ends-turn M (stealing w v) h s e =
@@ -115,7 +128,7 @@ ends-turn M (stealing w v) h s e =
     absurd (true≢false (subst (λ z. isEmpty z ≡ false) (empty-of (live M) (λ f m. not-in-nil (subst (λ z. In f z) e (In-perm (x .same-frames) m)))) (x .alive)))
 ends-turn M (acting w a) h s e =
     let x = acts M w a h in
-    subst (λ z. actionAnswer M w z a ≡ (102, 3)) (sym (x .at)) (ends-action M w a x (s .rooted) e)
+    subst (λ z. actionAnswer M w z a ≡ (102, 3)) (sym (x .at)) (ends-action M w a (x .actor) (x .above) (x .worker) (x .at) (subst (λ z. live (afterAction M w z a) ≡ []) (x .at) e))
 
 ends-step : (M : Machine) (s : Step) → FrameTree M → isEmpty (live M) ≡ false → live (step M s) ≡ [] → answer M s ≡ (102, 3)
 ends-step M s i some e =

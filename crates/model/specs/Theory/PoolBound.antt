@@ -16,7 +16,7 @@ use Rattle.words.specs.Distinct.{distinct-cons-le, distinct-cons-upper}
 use Rattle.sizes.specs.Sizes.{height, width, treeNodes}
 use Rattle.model.specs.History.{nodesInUse}
 use Rattle.model.specs.Machine.{Frame, Machine, live, inUse, freeNodes, main, start}
-use Rattle.model.specs.Steps.{Action, spawn, return, sync, read, write, Turn, child, afterSpawn, written, afterTurn}
+use Rattle.model.specs.Steps.{Action, spawn, return, sync, read, write, Turn, child, afterSpawn, asReturning, written, afterTurn}
 use Rattle.model.specs.Theory.Histories.{lastOf, lastMarks, Within, inUse-within, inUse-perm}
 use Rattle.model.specs.Theory.LiveRun.{successors, Allowed}
 use Rattle.model.specs.Theory.Effects.{Passes, live-start}
@@ -66,9 +66,13 @@ spawn-within q R f (here e) = (q, here refl, ap (λ z. z .history) e)
 spawn-within q R f (there (here e)) = (q, here refl, ap (λ z. z .history) e)
 spawn-within q R f (there (there m)) = (f, there m, refl)
 
+return-within : (q : Frame) (R : List Frame) → Within (asReturning q ∷ R) (q ∷ R)
+return-within q R f (here e) = (q, here refl, ap (λ z. z .history) e)
+return-within q R f (there m) = (f, there m, refl)
+
 pool-acted : (n nodes : ℕ) (q : Frame) (a : Action) (R : List Frame) → Allowed n nodes q R a → inUse n (q ∷ R) ≤ nodes → inUse n (successors q a ++ R) ≤ nodes
 pool-acted n nodes q spawn R ok h = le-trans (inUse-within n (child q ∷ afterSpawn q ∷ R) (q ∷ R) (spawn-within q R)) h
-pool-acted n nodes q return R ok h = le-trans (inUse-within n R (q ∷ R) (λ f m. (f, there m, refl))) h
+pool-acted n nodes q return R ok h = le-trans (inUse-within n (asReturning q ∷ R) (q ∷ R) (return-within q R)) h
 pool-acted n nodes q sync R ok h = h
 pool-acted n nodes q (read x) R ok h = h
 pool-acted n nodes q (write x v) R ok h = ok .1
@@ -76,7 +80,8 @@ pool-acted n nodes q (write x v) R ok h = ok .1
 pub pool-turn : (M : Machine) (t : Turn) → Passes M t → WithinPool M → WithinPool (afterTurn M t)
 pool-turn M t h i =
     rw ((sizes-turn M t) .splitters, (sizes-turn M t) .nodes)
-    (live-kept (λ L. inUse (M .splitters) L ≤ M .nodes) M (λ A B p b. omega (arith, b, inUse-perm (M .splitters) p)) (λ q a R p. pool-acted (M .splitters) (M .nodes) q a R) t h i)
+    (live-kept (λ L. inUse (M .splitters) L ≤ M .nodes) M (λ A B p b. omega (arith, b, inUse-perm (M .splitters) p)) (λ q a R p. pool-acted (M .splitters) (M .nodes) q a R)
+    (λ q R e b. le-trans (inUse-within (M .splitters) R (q ∷ R) (λ f m. (f, there m, refl))) b) t h i)
 
 -- ---- the start
 

@@ -1,16 +1,16 @@
--- What is kept along the steps of a run; and a run is a LiveRun.
-use mathlib.Core.Path.{_≡_, refl, sym, ap, _∙_, subst}
+-- What is kept along the steps of a run.
+use mathlib.Core.Path.{_≡_, refl, ap, _∙_}
 use mathlib.Core.Logic.{_⊎_, inl, inr}
-use mathlib.Core.List.{List, [], _∷_, _++_, tail, List·Permᴰ}
+use mathlib.Core.List.{List, [], _∷_, _++_, List·Permᴰ}
 use Prim.Native.Nat.{ℕ, zero, suc, _-_, _<_}
 use native.Mathlib.Omega.{arith}
 use lib.ListN.{length, set, length-set, length-replicate}
 use Rattle.words.specs.Tests.{decided}
 use Rattle.model.specs.declared.Step.{Step}
-use Rattle.model.specs.Machine.{Frame, Machine, live, deque, withDeque, top, belowTop, hasChild, named, start}
-use Rattle.model.specs.Steps.{Action, spawn, return, sync, read, write, Turn, acting, stealing, turnOf, refusal, child, afterSpawn, written, parentResumes, afterAction, afterSteal, afterTurn, step, turnAnswer, answer}
-use Rattle.model.specs.Run.{run, Entry, bottomEntry, turnEntry, trace}
-use Rattle.model.specs.Theory.LiveRun.{successors, Allowed, LiveRun, ended, moved, acted}
+use Rattle.model.specs.Machine.{Name, Frame, Machine, live, deque, withFrames, withDeque, isEmpty, top, belowTop, hasChild, those, start}
+use Rattle.model.specs.Steps.{Action, spawn, return, sync, read, write, Turn, acting, stealing, turnOf, refusal, child, afterSpawn, written, waitsInReturn, waitsAtSync, leave, upward, afterEnd, afterAction, afterSteal, afterTurn, step, turnAnswer, answer}
+use Rattle.model.specs.Run.{run, turnEntry, trace}
+use Rattle.model.specs.Theory.LiveRun.{successors, Allowed, Ends, settles-kept}
 use Rattle.model.specs.Theory.Effects.{Passes, rest, acts, steals}
 
 -- ---- an accepted step, and a refused one
@@ -46,14 +46,15 @@ accepted-or-refused M s = go (refusal M s) refl
 
 -- ---- what every accepted turn keeps
 
--- of the live frames: what does not depend on their order, and is kept where a frame's successors take its place
+-- of the live frames: what does not depend on their order, is kept where a frame's successors take its place, and where a frame ends
 pub live-kept : (P : List Frame → Type 0) (M : Machine) → ((L L′ : List Frame) → List·Permᴰ L L′ → P L → P L′)
     → ((q : Frame) (a : Action) (R : List Frame) → List·Permᴰ (live M) (q ∷ R) → Allowed (M .splitters) (M .nodes) q R a → P (q ∷ R) → P (successors q a ++ R))
+    → ((q : Frame) (R : List Frame) → Ends q R → P (q ∷ R) → P R)
     → (t : Turn) → Passes M t → P (live M) → P (live (afterTurn M t))
-live-kept P M perm act (acting w a) h i =
+live-kept P M perm act drop (acting w a) h i =
     let x = acts M w a h in
-    perm _ _ (x .after) (act (x .actor) a (x .above ++ rest M w) (x .before) (x .allowed) (perm _ _ (x .before) i))
-live-kept P M perm act (stealing w v) h i = perm _ _ ((steals M w v h) .same-frames) i
+    settles-kept P perm drop (x .after) (act (x .actor) a (x .above ++ rest M w) (x .before) (x .allowed) (perm _ _ (x .before) i))
+live-kept P M perm act drop (stealing w v) h i = perm _ _ ((steals M w v h) .same-frames) i
 
 -- so a step keeps it
 pub step-kept : (P : Machine → Type 0) (M : Machine) → ((t : Turn) → Passes M t → P M → P (afterTurn M t)) → (s : Step) → P M → P (step M s)
@@ -77,18 +78,29 @@ sizes-same M = record { splitters = refl; nodes = refl; workers = refl }
 sizes-trans : (M N O : Machine) → SameSizes M N → SameSizes N O → SameSizes M O
 sizes-trans M N O a b = record { splitters = b .splitters ∙ a .splitters; nodes = b .nodes ∙ a .nodes; workers = b .workers ∙ a .workers }
 
-sizes-with : (M : Machine) (w : ℕ) (d : List Frame) → SameSizes M (withDeque M w d)
+sizes-with : (M : Machine) (w : ℕ) (d : List Frame) {fs : List Frame} → SameSizes M (withFrames M (set (M .deques) w d) fs)
 sizes-with M w d = record { splitters = refl; nodes = refl; workers = length-set (M .deques) w d }
+
+sizes-upward : (M : Machine) (w : ℕ) (r : Name) → SameSizes M (upward M w r)
+sizes-upward M w [] = sizes-same M
+sizes-upward M w (k ∷ p) =
+    elim (decided (hasChild p (live M))) [
+      | inl c ↦ rw c (sizes-same M)
+      | inr c ↦ rw c (elim (decided (isEmpty (those (waitsInReturn p) (M .suspended)))) [
+        | inl s ↦ rw s (sizes-with M w (those (waitsAtSync p) (M .suspended)))
+        | inr s ↦ rw s (let r = sizes-upward (leave M p) w p in record { splitters = r .splitters; nodes = r .nodes; workers = r .workers })
+      ])
+    ]
+
+sizes-end : (M : Machine) (w : ℕ) (q : Frame) (d : List Frame) → SameSizes M (afterEnd M w q d)
+sizes-end M w q [] = sizes-trans M (withDeque M w []) (upward (withDeque M w []) w (q .name)) (sizes-with M w []) (sizes-upward (withDeque M w []) w (q .name))
+sizes-end M w q (g ∷ d) = sizes-with M w (g ∷ d)
 
 sizes-action : (M : Machine) (w : ℕ) (d : List Frame) (a : Action) → SameSizes M (afterAction M w d a)
 sizes-action M w [] a = sizes-same M
 sizes-action M w (q ∷ d) spawn = sizes-with M w (child q ∷ afterSpawn q ∷ d)
-sizes-action M w (q ∷ d) return =
-    elim (decided (parentResumes (withDeque M w d) (q .name) d)) [
-      | inl s ↦ rw s (record { splitters = refl; nodes = refl; workers = length-set (set (M .deques) w d) w (named (tail (q .name)) (M .suspended)) ∙ length-set (M .deques) w d })
-      | inr s ↦ rw s (sizes-with M w d)
-    ]
-sizes-action M w (q ∷ d) sync = elim (decided (hasChild (q .name) (live M))) [ inl s ↦ rw s (record { splitters = refl; nodes = refl; workers = length-set (M .deques) w d }) | inr s ↦ rw s (sizes-same M) ]
+sizes-action M w (q ∷ d) return = elim (decided (hasChild (q .name) (live M))) [ inl c ↦ rw c (sizes-with M w d) | inr c ↦ rw c (sizes-end M w q d) ]
+sizes-action M w (q ∷ d) sync = elim (decided (hasChild (q .name) (live M))) [ inl c ↦ rw c (sizes-with M w d) | inr c ↦ rw c (sizes-same M) ]
 sizes-action M w (q ∷ d) (read x) = sizes-same M
 sizes-action M w (q ∷ d) (write x v) = sizes-with M w (written q x v ∷ d)
 
@@ -106,23 +118,3 @@ sizes-run M ss = run-kept (SameSizes M) (λ N s i. sizes-trans M N (step N s) i 
 
 pub sizes-start : (w : ℕ) (vs : List ℕ) (nodes : ℕ) → 0 < w → length ((start w vs nodes) .deques) ≡ w
 sizes-start w vs nodes h = ap suc (length-replicate (w - 1) []) ∙ (let e : suc (w - 1) ≡ w = omega arith in e)
-
--- ---- a run is a LiveRun
-
-live-turn : (n nodes : ℕ) (M : Machine) (t : Turn) (es : List Entry) → M .splitters ≡ n → M .nodes ≡ nodes → Passes M t → LiveRun n nodes (live (afterTurn M t)) es → LiveRun n nodes (live M) (turnEntry M t ++ es)
-live-turn n nodes M (acting w a) es en em h g =
-    let x = acts M w a h in
-    subst (λ z. LiveRun n nodes (live M) (bottomEntry z a ++ es)) (sym (x .at))
-    (acted (x .actor) a (x .above ++ rest M w) (x .before)
-    (subst (λ z. Allowed z nodes (x .actor) (x .above ++ rest M w) a) en (subst (λ z. Allowed (M .splitters) z (x .actor) (x .above ++ rest M w) a) em (x .allowed))) (x .after) g)
-live-turn n nodes M (stealing w v) es en em h g = moved ((steals M w v h) .same-frames) g
-
-pub live-run : (n nodes : ℕ) (M : Machine) (ss : List Step) → M .splitters ≡ n → M .nodes ≡ nodes → live (run M ss) ≡ [] → LiveRun n nodes (live M) (trace M ss)
-live-run n nodes M [] en em h = subst (λ L. LiveRun n nodes L []) (sym h) ended
-live-run n nodes M (s ∷ ss) en em h =
-    elim (accepted-or-refused M s) [
-      | inl a ↦ rw (a .traced ss)
-          (live-turn n nodes M (turnOf s) (trace (afterTurn M (turnOf s)) ss) en em (a .passes)
-          (live-run n nodes (afterTurn M (turnOf s)) ss ((sizes-turn M (turnOf s)) .splitters ∙ en) ((sizes-turn M (turnOf s)) .nodes ∙ em) (subst (λ z. live (run z ss) ≡ []) (a .after) h)))
-      | inr r ↦ rw (r .traced ss) (live-run n nodes M ss en em (subst (λ z. live (run z ss) ≡ []) (r .after) h))
-    ]
