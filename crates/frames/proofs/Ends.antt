@@ -1,26 +1,46 @@
 -- A law for each way out of a function, over plain variables.
-use mathlib.Core.Path.{_≡_, sym, ap, _∙_}
-use mathlib.Core.Bool.{true}
+use mathlib.Core.Path.{_≡_, refl, sym, ap, _∙_, subst}
+use mathlib.Core.Bool.{Bool, true, false}
 use mathlib.Core.Logic.{_≢_, _⊎_, inl, inr}
 use mathlib.Core.List.{List, _++_}
-use Prim.Native.Nat.{ℕ, _+_, _-_, _*_, _<_}
+use Prim.Native.Nat.{ℕ, zero, suc, _+_, _-_, _*_, _<_}
 use native.Mathlib.Omega.{arith}
 use lib.Dec.{eqb}
-use lib.ListN.{length, replicate, set, take, drop}
+use lib.ListN.{length, replicate, getD, set, take, drop}
+use lib.Seq.{getD-drop, drop-set-add, take-set-le}
 use borrow.Author.Tests.{eq-eqb, ne-eqb}
 use Rattle.words.specs.Basics.{none, plus}
 use Rattle.frames.specs.declared.Frame.{Frame}
-use Rattle.frames.specs.declared.Returned.{Returned}
-use Rattle.frames.specs.declared.Returned.the-variants.{Continued, Idle, Resumed, Finished}
+use Rattle.frames.specs.declared.Returned.the-variants.{Idle, Resumed}
 use Rattle.frames.specs.declared.Synced.the-variants.{Passed, Suspended}
 use Rattle.frames.specs.Widths.{places, frameWords, dequeStride}
-use Rattle.frames.specs.Frames.{frameAt, setFrame, withOutstanding, withSuspended, withoutChild, childOf, freePlace, mainFrame, initPlaces, initFrames}
-use Rattle.frames.specs.Deques.{size, setSize, setPlace, bottom, push, pop, shiftUp, dropTop}
-use Rattle.frames.specs.Steps.{return, returned, sync, synced, spawn}
-use Rattle.frames.specs.Promises.{table, IsReturn, IsParentAfter, IsSync}
-use Rattle.frames.specs.Ranges.{ParentCounts}
+use Rattle.frames.specs.Frames.{frameAt, setFrame, withOutstanding, withSuspended, withReturning, asReturning, childOf, freePlace, mainFrame, initPlaces, initFrames}
+use Rattle.frames.specs.Deques.{size, setSize, place, setPlace, bottom, push, pop, shiftUp, dropTop}
+use Rattle.frames.specs.Steps.{endFrame, waitsNoMore, goOn, wentOn, sync, synced, spawn}
+use Rattle.frames.specs.Ranges.{ParentOf, EndsIn}
+use Rattle.frames.specs.Promises.{table, Waits, GoesOn, IsSync}
 use Rattle.frames.specs.Theory.Sizes.{rest-is, rest-ends, sets-past}
 use Rattle.frames.specs.Theory.Records.{frame-set-same, frame-set-other, frame-set-again}
+
+-- ---- one worker's places move up
+
+-- the words before the worker's stay
+shift-before : (c : ℕ) (ds : List ℕ) (w k : ℕ) → take (dequeStride * w) (shiftUp c ds w k) ≡ take (dequeStride * w) ds
+unfolding shiftUp setPlace
+shift-before zero ds w k = refl
+shift-before (suc c) ds w k =
+    shift-before c (setPlace ds w k (place ds w (plus k 1))) w (plus k 1) ∙ take-set-le (dequeStride * w) ds (dequeStride * w + (1 + k)) (place ds w (plus k 1)) (omega arith)
+
+-- the words from there on move up as worker 0's
+shift-past : (c : ℕ) (ds : List ℕ) (w k : ℕ) → drop (dequeStride * w) (shiftUp c ds w k) ≡ shiftUp c (drop (dequeStride * w) ds) 0 k
+unfolding shiftUp place setPlace
+shift-past zero ds w k = refl
+shift-past (suc c) ds w k =
+    let i : dequeStride * 0 + (1 + k) ≡ 1 + k = omega arith in
+    let j : dequeStride * 0 + (1 + plus k 1) ≡ 1 + plus k 1 = omega arith in
+    let v : getD (drop (dequeStride * w) ds) (dequeStride * 0 + (1 + plus k 1)) 0 ≡ place ds w (plus k 1) = rw j (getD-drop (dequeStride * w) ds (1 + plus k 1) 0) in
+    shift-past c (setPlace ds w k (place ds w (plus k 1))) w (plus k 1)
+    ∙ ap (λ (es : List ℕ). shiftUp c es 0 (plus k 1)) (rw (v, i) (drop-set-add (dequeStride * w) ds (1 + k) (place ds w (plus k 1))))
 
 -- ---- a deque: n is its length before
 
@@ -41,84 +61,65 @@ module _ (ds : List ℕ) (w n : ℕ) (en : n ≡ size ds w) where
       let i : dequeStride * w + n ≡ dequeStride * w + (1 + (n - 1)) = omega arith in
       rw (rest-ends (dequeStride * w) ds part, e, rest-is (dequeStride * w) ds) (sets-past (dequeStride * w) ds n 0 0 (n - 1) ∙ rw (z, i, en))
 
-  pub dropped : (ds₁ ds₂ ds₃ : List ℕ) → ds₁ ≡ shiftUp (n - 1) ds w 0 → ds₂ ≡ setPlace ds₁ w (n - 1) 0 → ds₃ ≡ setSize ds₂ w (n - 1) → ds₃ ≡ dropTop ds w
-  unfolding dropTop
-  dropped ds₁ ds₂ ds₃ e₁ e₂ e₃ = rw (e₃, e₂, e₁, en)
+  pub dropped : (part : List ℕ) → 0 < n → part ≡ set (set (shiftUp (n - 1) (take (length ds - dequeStride * w) (drop (dequeStride * w) ds)) 0 0) n 0) 0 (n - 1)
+      → take (dequeStride * w) ds ++ (part ++ drop (length ds - dequeStride * w) (drop (dequeStride * w) ds)) ≡ dropTop ds w
+  unfolding dropTop setPlace setSize
+  dropped part h e =
+      let z : dequeStride * w + 0 ≡ dequeStride * w = omega arith in
+      let i : dequeStride * w + n ≡ dequeStride * w + (1 + (n - 1)) = omega arith in
+      rw (rest-ends (dequeStride * w) ds part, e, rest-is (dequeStride * w) ds, ← shift-past (n - 1) ds w 0, ← shift-before (n - 1) ds w 0)
+      (sets-past (dequeStride * w) (shiftUp (n - 1) ds w 0) n 0 0 (n - 1) ∙ rw (z, i, en))
 
 -- ---- the steps
 
--- one of the two, and not the second
-pub one-of : {A B : Type 0} → A ⊎ B → (B → ⊥) → A
-one-of (inl a) n = a
-one-of (inr b) n = absurd (n b)
+-- a frame that can end and has a parent, at place q: it is at another place, and has a live child
+pub parent-in : {fs : List ℕ} {p q : ℕ} → EndsIn fs p q → q ≢ none → (q < places) × (q ≢ p) × (0 < frameAt fs q .outstanding)
+parent-in {fs} {p} {q} r n = go (r .parent)
+  where
+    go : ParentOf p (frameAt fs p) → (q < places) × (q ≢ p) × (0 < frameAt fs q .outstanding)
+    go (inl a) = (subst (λ z. z < places) (sym (r .up)) (a .1), (λ z. a .2 (sym (r .up) ∙ z)), subst (λ z. 0 < frameAt fs z .outstanding) (sym (r .up)) (r .counts (a .1)))
+    go (inr b) = absurd (n (r .up ∙ b .1))
 
--- the parent's record is as it was when the frame's own place p is free
-pub parent-counts : (fs : List ℕ) (p : ℕ) (f g : Frame) → ParentCounts fs f → (f .parent < places) × (f .parent ≢ p) → 0 < frameAt (setFrame fs p g) (f .parent) .outstanding
-parent-counts fs p f g h o = rw (frame-set-other fs p (f .parent) g (o .1)) (h (o .0))
+-- ---- an end: fs₁ is the table with the frame's own place p free
+module _ (fs fs₁ : List ℕ) (free p q : ℕ) (g : Frame) (eg : g ≡ freePlace free) (e₁ : fs₁ ≡ setFrame fs p g) (eq : q ≡ frameAt fs p .parent) where
+  pub ended-main : q ≡ none → fs₁ ≡ endFrame fs free p
+  unfolding endFrame
+  ended-main n = rw (e₁, eg, ← eq, eq-eqb q none n)
+
+  -- the parent's record is as it was
+  pub parent-same : q ≢ p → frameAt fs₁ q ≡ frameAt fs q
+  parent-same d = rw e₁ (frame-set-other fs p q g d)
+
+  pub ended-child : (fs₂ : List ℕ) (n c : ℕ) → q ≢ none → q ≢ p → c ≡ frameAt fs₁ q .outstanding → n ≡ c - 1 → fs₂ ≡ setFrame fs₁ q (withOutstanding (frameAt fs₁ q) n)
+      → fs₂ ≡ endFrame fs free p
+  unfolding endFrame
+  ended-child fs₂ n c m d ec en e₂ = rw (e₂, en, ec, parent-same d, e₁, eg, ← eq, ne-eqb q none m)
 
 module _ (ds fs : List ℕ) (w : ℕ) where
-  -- ---- the parent, at place q: it has c live children, of which n are left, and s frames are on the worker's deque
-  module _ (q n c s : ℕ) (fs₁ : List ℕ) (ec : c ≡ frameAt fs q .outstanding) (en : n ≡ c - 1)
-      (e₁ : fs₁ ≡ setFrame fs q (withOutstanding (frameAt fs q) n)) (es : s ≡ size ds w) where
-    stored : fs₁ ≡ setFrame fs q (withoutChild (frameAt fs q))
-    stored = rw (e₁, en, ec)
+  -- ---- after the last end: b says whether the frame at place q waits no more, u whether it is returning
+  module _ (q : ℕ) (b : Bool) (eb : b ≡ waitsNoMore (frameAt fs q)) where
+    pub stays-idle : b ≡ false → GoesOn ds fs w q ds fs Idle
+    unfolding goOn wentOn
+    stays-idle n = record { after = λ free. rw (← eb, n); outcome = λ free. rw (← eb, n) }
 
-    empty : s ≡ 0 → eqb (size ds w) 0 ≡ true
-    empty z = eq-eqb (size ds w) 0 (sym es ∙ z)
+    module _ (u : ℕ) (eu : u ≡ frameAt fs q .returning) (t : b ≡ true) where
+      pub ends-later : u ≡ 1 → GoesOn ds fs w q ds fs Idle
+      unfolding goOn wentOn
+      ends-later m = let e = eq-eqb (frameAt fs q .returning) 1 (sym eu ∙ m) in record { after = λ free. rw (← eb, t, e); outcome = λ free. rw (← eb, t, e) }
 
-    pub continued : s ≢ 0 → IsParentAfter ds fs w q ds fs₁ Continued
-    continued z =
-        let t = ne-eqb (size ds w) 0 (λ e. z (es ∙ e)) in
-        record { after = λ free. rw (stored, t); outcome = rw t }
+      pub resumed : (ds′ fs′ : List ℕ) → u ≢ 1 → fs′ ≡ setFrame fs q (withSuspended (frameAt fs q) 0) → ds′ ≡ push ds w q → GoesOn ds fs w q ds′ fs′ Resumed
+      unfolding goOn wentOn
+      resumed ds′ fs′ m e₁ e₂ =
+          let e = ne-eqb (frameAt fs q .returning) 1 (λ z. m (eu ∙ z)) in
+          record { after = λ free. rw (e₁, e₂, ← eb, t, e); outcome = λ free. rw (← eb, t, e) }
 
-    -- u says whether the parent is suspended, after the store
-    module _ (l : length fs ≡ frameWords) (b : q < places) (u : ℕ) (eu : u ≡ frameAt fs₁ q .suspended) (z : s ≡ 0) where
-      frame-is : frameAt fs₁ q ≡ withoutChild (frameAt fs q)
-      frame-is = rw stored (frame-set-same fs q (withoutChild (frameAt fs q)) l b)
-
-      waits-is : u ≡ frameAt fs q .suspended
-      waits-is = eu ∙ ap (λ (g : Frame). g .suspended) frame-is
-
-      waiting : u ≡ 1 → eqb (frameAt fs q .suspended) 1 ≡ true
-      waiting m = eq-eqb (frameAt fs q .suspended) 1 (sym waits-is ∙ m)
-
-      pub not-waiting : u ≢ 1 → IsParentAfter ds fs w q ds fs₁ Idle
-      not-waiting m =
-          let t = ne-eqb (frameAt fs q .suspended) 1 (λ e. m (waits-is ∙ e)) in
-          record { after = λ free. rw (stored, empty z, t); outcome = rw (empty z, t) }
-
-      pub more-children : u ≡ 1 → n ≢ 0 → IsParentAfter ds fs w q ds fs₁ Idle
-      more-children m o =
-          let t = ne-eqb (frameAt fs q .outstanding - 1) 0 (λ e. o (en ∙ ap (λ k. k - 1) ec ∙ e)) in
-          record { after = λ free. rw (stored, empty z, waiting m, t); outcome = rw (empty z, waiting m, t) }
-
-      pub resumed : (ds′ fs′ : List ℕ) → u ≡ 1 → n ≡ 0
-          → fs′ ≡ setFrame fs₁ q (withSuspended (frameAt fs₁ q) 0) → ds′ ≡ push ds w q → IsParentAfter ds fs w q ds′ fs′ Resumed
-      resumed ds′ fs′ m o e₂ e₃ =
-          let g = withoutChild (frameAt fs q) in
-          let t = eq-eqb (frameAt fs q .outstanding - 1) 0 (sym (en ∙ ap (λ k. k - 1) ec) ∙ o) in
-          let e : fs′ ≡ setFrame fs q (withSuspended g 0) = e₂ ∙ rw (frame-is, stored) (frame-set-again fs q g (withSuspended g 0)) in
-          record { after = λ free. rw (e₃, e, empty z, waiting m, t); outcome = rw (empty z, waiting m, t) }
-
-  -- ---- a return: worker w's frame, of which f is the record, at place p
-  module _ (free p : ℕ) (f : Frame) (ep : p ≡ bottom ds w) (ef : f ≡ frameAt fs p) where
-    parent-is : frameAt fs (bottom ds w) .parent ≡ f .parent
-    parent-is = sym (ap (λ (g : Frame). g .parent) (ef ∙ ap (frameAt fs) ep))
-
-    module _ (g : Frame) (ds₁ fs₁ : List ℕ) (eg : g ≡ freePlace free) (e₁ : ds₁ ≡ pop ds w) (e₂ : fs₁ ≡ setFrame fs p g) where
-      pub finished : f .parent ≡ none → IsReturn (table ds fs free) w (table ds₁ fs₁ p) Finished
-      unfolding return returned
-      finished n =
-          let t = eq-eqb (frameAt fs (bottom ds w) .parent) none (parent-is ∙ n) in
-          record { after = rw (e₁, e₂, eg, ep, t); outcome = rw t }
-
-      pub returned-to : (ds′ fs′ : List ℕ) (o : Returned) → f .parent ≢ none → f .parent ≢ p
-          → IsParentAfter ds₁ fs₁ w (f .parent) ds′ fs′ o → IsReturn (table ds fs free) w (table ds′ fs′ p) o
-      unfolding return returned
-      returned-to ds′ fs′ o n d a =
-          let t = ne-eqb (frameAt fs (bottom ds w) .parent) none (λ e. n (sym parent-is ∙ e)) in
-          let h : frameAt fs₁ (f .parent) ≡ frameAt fs (f .parent) = rw e₂ (frame-set-other fs p (f .parent) g d) in
-          record { after = a .after p ∙ rw (h, e₁, e₂, eg, ← parent-is, ep, t); outcome = a .outcome ∙ rw (h, e₁, ← parent-is, t) }
+  -- ---- a return that waits
+  pub waits-returning : (p : ℕ) (fs₁ fs₂ ds₁ : List ℕ) → length fs ≡ frameWords → p < places → p ≡ bottom ds w → fs₁ ≡ setFrame fs p (withSuspended (frameAt fs p) 1)
+      → fs₂ ≡ setFrame fs₁ p (withReturning (frameAt fs₁ p) 1) → ds₁ ≡ pop ds w → Waits ds fs w ds₁ fs₂
+  waits-returning p fs₁ fs₂ ds₁ l b ep e₁ e₂ e₃ free =
+      let f = withSuspended (frameAt fs p) 1 in
+      let k : fs₂ ≡ setFrame fs p (asReturning (frameAt fs p)) = e₂ ∙ rw (e₁, frame-set-same fs p f l b) (frame-set-again fs p f (withReturning f 1)) in
+      rw (e₃, k, ep)
 
   -- ---- a sync
   module _ (p : ℕ) (f : Frame) (ep : p ≡ bottom ds w) (ef : f ≡ frameAt fs p) where

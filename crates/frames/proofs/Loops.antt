@@ -2,42 +2,52 @@
 use mathlib.Core.Path.{_≡_, sym, ap, _∙_}
 use mathlib.Core.Bool.{cond}
 use mathlib.Core.List.{List}
-use Prim.Native.Nat.{ℕ, suc, _+_, _-_, _*_, _≤_, _<_}
+use Prim.Native.Nat.{ℕ, zero, suc, _+_, _-_, _*_, _≤_, _<_}
 use native.Mathlib.Omega.{arith}
 use lib.Dec.{eqb}
 use lib.ListN.{getD, set}
+use lib.Seq.{set-set, set-comm}
 use Rattle.words.specs.Basics.{none, plus}
 use Rattle.frames.specs.Widths.{dequePlaces, dequeStride}
 use Rattle.frames.specs.Frames.{setFrame, freePlace, initPlaces}
 use Rattle.frames.specs.Deques.{place, setPlace, shiftUp}
-use Rattle.frames.specs.Theory.Cells.{shift-suc}
+use Rattle.frames.specs.Theory.Cells.{place-setPlace-other, shift-suc}
 
--- the word of worker w's top place
-abbrev pub topWord : ℕ → ℕ
-topWord w = dequeStride * w + 1
+-- ---- the top frame sinks to the bottom
 
--- the word at `at` takes the next one's frame; the words from there to `end` are left to do
-pub shift-turn : (ds : List ℕ) (w at end : ℕ) → topWord w ≤ at → at < end → end < topWord w + dequePlaces
-    → shiftUp (end - (at + 1)) (set ds at (getD ds (at + 1) 0)) w (at + 1 - topWord w) ≡ shiftUp (end - at) ds w (at - topWord w)
+-- the first of the places that move up, or the last frame's, is stored to: what it held does not matter
+shift-first : (c : ℕ) (ds : List ℕ) (w k v : ℕ) → k < dequePlaces → setPlace (shiftUp c (setPlace ds w k v) w k) w (k + c) 0 ≡ setPlace (shiftUp c ds w k) w (k + c) 0
+unfolding shiftUp setPlace
+shift-first zero ds w k v h = let e : k + 0 ≡ k = omega arith in rw e (set-set ds (dequeStride * w + (1 + k)) v 0)
+shift-first (suc c) ds w k v h =
+    let again : setPlace (setPlace ds w k v) w k (place (setPlace ds w k v) w (suc k)) ≡ setPlace ds w k (place ds w (suc k)) =
+    rw (place-setPlace-other ds w k v (suc k) (omega arith)) (set-set ds (dequeStride * w + (1 + k)) v (place ds w (suc k))) in
+    ap (λ (es : List ℕ). setPlace es w (k + suc c) 0) (shift-suc c (setPlace ds w k v) w k h ∙ ap (λ (es : List ℕ). shiftUp c es w (suc k)) again ∙ sym (shift-suc c ds w k h))
+
+-- one deque's words, of which n are frames: the frame at word k, the top one, and the one below it change places
+pub sink-turn : (d : List ℕ) (n k : ℕ) → 1 ≤ k → k < n → n ≤ dequePlaces
+    → set (shiftUp (n - (k + 1)) (set (set d (k + 1) (getD d k 0)) k (getD d (k + 1) 0)) 0 (k + 1 - 1)) n 0 ≡ set (shiftUp (n - k) d 0 (k - 1)) n 0
 unfolding place setPlace
-shift-turn ds w at end a b c =
-    let k : ℕ = at - topWord w in
-    let n : end - at ≡ suc (end - (at + 1)) = omega arith in
-    let i : dequeStride * w + (1 + k) ≡ at = omega arith in
-    let j : dequeStride * w + (1 + suc k) ≡ at + 1 = omega arith in
-    let s : at + 1 - topWord w ≡ suc k = omega arith in
-    rw (s, n) (sym (shift-suc (end - (at + 1)) ds w k (omega arith) ∙ rw (i, j)))
+sink-turn d n k a b l =
+    let c : ℕ = n - (k + 1) in
+    let p : k + 1 - 1 ≡ k = omega arith in
+    let q : n - k ≡ suc c = omega arith in
+    let s : suc (k - 1) ≡ k = omega arith in
+    let i : dequeStride * 0 + (1 + k) ≡ k + 1 = omega arith in
+    let j : dequeStride * 0 + (1 + (k - 1)) ≡ k = omega arith in
+    let m : dequeStride * 0 + (1 + (k + c)) ≡ n = omega arith in
+    let e : List ℕ = set d k (getD d (k + 1) 0) in
+    let swapped = set-comm d (k + 1) k (getD d k 0) (getD d (k + 1) 0) (omega arith) in
+    let first = shift-first c e 0 k (getD d k 0) (omega arith) in
+    let turn = shift-suc c d 0 (k - 1) (omega arith) in
+    rw (p, q, swapped) ((rw (m, i) at first) ∙ ap (λ (es : List ℕ). set es n 0) (sym (rw (s, i, j) at turn)))
 
--- all of it is left
-pub shift-whole : (ds : List ℕ) (w count : ℕ) → shiftUp (topWord w + count - topWord w) ds w (topWord w - topWord w) ≡ shiftUp count ds w 0
-shift-whole ds w count =
-    let n : topWord w + count - topWord w ≡ count = omega arith in
-    let k : topWord w - topWord w ≡ 0 = omega arith in
-    rw (n, k)
-
-pub shift-done : (ds : List ℕ) (w at end : ℕ) → end ≤ at → shiftUp (end - at) ds w (at - topWord w) ≡ ds
+-- none is left
+pub sink-done : (d : List ℕ) (n k : ℕ) → n ≤ k → shiftUp (n - k) d 0 (k - 1) ≡ d
 unfolding shiftUp
-shift-done ds w at end h = let e : end - at ≡ 0 = omega arith in rw e
+sink-done d n k h = let e : n - k ≡ 0 = omega arith in rw e
+
+-- ---- the start
 
 pub places-step : (fs : List ℕ) (p left : ℕ) → 0 < left → initPlaces (left - 1) (setFrame fs p (freePlace (cond (eqb (left - 1) 0) none (plus p 1)))) (plus p 1) ≡ initPlaces left fs p
 unfolding initPlaces

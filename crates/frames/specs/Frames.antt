@@ -1,4 +1,4 @@
--- The frame table in a list of words: a record of six words at each place, and the list of free places. Definitions only.
+-- The frame table in a list of words: a record of seven words at each place, and the list of free places. Definitions only.
 use mathlib.Core.Bool.{cond}
 use mathlib.Core.List.{List}
 use Prim.Native.Nat.{ℕ, zero, suc, _+_, _-_, _*_}
@@ -8,7 +8,8 @@ use Rattle.words.specs.Basics.{none, plus}
 use Rattle.frames.specs.declared.Frame.{Frame}
 use Rattle.frames.specs.Widths.{places, recordWords}
 
--- document 02: "64 frame records of live, parent (next free place if not live), depth, outstanding, suspended and root"
+-- document 02: "64 frame records of live, parent (next free place if not live), depth, outstanding, suspended and root"; R-3: "Frame records gain a
+-- word for it, last: 1 on a frame waiting so", that is, returning
 unfoldable pub frameAt : List ℕ → ℕ → Frame
 frameAt fs p =
     record {
@@ -18,26 +19,35 @@ frameAt fs p =
       outstanding = getD fs (recordWords * p + 3) 0;
       suspended = getD fs (recordWords * p + 4) 0;
       root = getD fs (recordWords * p + 5) 0;
+      returning = getD fs (recordWords * p + 6) 0;
     }
 
 unfoldable pub setFrame : List ℕ → ℕ → Frame → List ℕ
 setFrame fs p f =
-    set (set (set (set (set (set fs (recordWords * p) (f .live)) (recordWords * p + 1) (f .parent)) (recordWords * p + 2) (f .depth)) (recordWords * p + 3) (f .outstanding)) (recordWords * p + 4) (f .suspended)) (recordWords * p + 5) (f .root)
+    set (set (set (set (set (set (set fs (recordWords * p) (f .live)) (recordWords * p + 1) (f .parent)) (recordWords * p + 2) (f .depth)) (recordWords * p + 3) (f .outstanding)) (recordWords * p + 4) (f .suspended)) (recordWords * p + 5) (f .root)) (recordWords * p + 6) (f .returning)
 
 -- ---- single records
 
--- a record with one word changed: its number of live children, suspended or not, its tree
+-- a record with one word changed: its number of live children, suspended or not, its tree, returning or not
 abbrev pub withOutstanding : Frame → ℕ → Frame
 withOutstanding f n =
-    record { live = f .live; parent = f .parent; depth = f .depth; outstanding = n; suspended = f .suspended; root = f .root }
+    record { live = f .live; parent = f .parent; depth = f .depth; outstanding = n; suspended = f .suspended; root = f .root; returning = f .returning }
 
 abbrev pub withSuspended : Frame → ℕ → Frame
 withSuspended f s =
-    record { live = f .live; parent = f .parent; depth = f .depth; outstanding = f .outstanding; suspended = s; root = f .root }
+    record { live = f .live; parent = f .parent; depth = f .depth; outstanding = f .outstanding; suspended = s; root = f .root; returning = f .returning }
 
 abbrev pub withRoot : Frame → ℕ → Frame
 withRoot f r =
-    record { live = f .live; parent = f .parent; depth = f .depth; outstanding = f .outstanding; suspended = f .suspended; root = r }
+    record { live = f .live; parent = f .parent; depth = f .depth; outstanding = f .outstanding; suspended = f .suspended; root = r; returning = f .returning }
+
+abbrev pub withReturning : Frame → ℕ → Frame
+withReturning f b =
+    record { live = f .live; parent = f .parent; depth = f .depth; outstanding = f .outstanding; suspended = f .suspended; root = f .root; returning = b }
+
+-- R-3: "suspends the frame as returning"
+abbrev pub asReturning : Frame → Frame
+asReturning f = withReturning (withSuspended f 1) 1
 
 -- one live child more
 abbrev pub withChild : Frame → Frame
@@ -49,15 +59,15 @@ withoutChild f = withOutstanding f (f .outstanding - 1)
 
 -- a spawned child of the frame f at place p: "child of the worker's bottom frame and one deeper"
 abbrev pub childOf : Frame → ℕ → Frame
-childOf f p = record { live = 1; parent = p; depth = plus (f .depth) 1; outstanding = 0; suspended = 0; root = f .root }
+childOf f p = record { live = 1; parent = p; depth = plus (f .depth) 1; outstanding = 0; suspended = 0; root = f .root; returning = 0 }
 
 -- a free place: "all but the link to the next being zero"
 abbrev pub freePlace : ℕ → Frame
-freePlace next = record { live = 0; parent = next; depth = 0; outstanding = 0; suspended = 0; root = 0 }
+freePlace next = record { live = 0; parent = next; depth = 0; outstanding = 0; suspended = 0; root = 0; returning = 0 }
 
 -- Main, with the tree of this root
 abbrev pub mainFrame : ℕ → Frame
-mainFrame r = record { live = 1; parent = none; depth = 0; outstanding = 0; suspended = 0; root = r }
+mainFrame r = record { live = 1; parent = none; depth = 0; outstanding = 0; suspended = 0; root = r; returning = 0 }
 
 -- ---- the start
 

@@ -4,22 +4,20 @@ use mathlib.Core.List.{List}
 use Prim.Native.Nat.{ℕ}
 use Rattle.frames.specs.declared.Returned.{Returned}
 use Rattle.frames.specs.declared.Synced.{Synced}
-use Rattle.frames.specs.Frames.{frameAt, withoutChild}
-use Rattle.frames.specs.Deques.{size}
-use Rattle.frames.specs.Steps.{Table, return, returned, returnedTo, parentAfter, sync, synced}
+use Rattle.frames.specs.Frames.{asReturning}
+use Rattle.frames.specs.Steps.{Table, acting, suspend, goOn, wentOn, sync, synced}
 
 abbrev pub table : List ℕ → List ℕ → ℕ → Table
 table ds fs free = record { deques = ds; frames = fs; «free_place» = free }
 
--- the table t, and t′ with the outcome o after the return of worker w's frame
-pub record IsReturn (t : Table) (w : ℕ) (t′ : Table) (o : Returned) : Type 0 where
-  pub after : t′ ≡ return t w
-  pub outcome : o ≡ returned t w
+-- worker w's bottom frame waits in its return, whatever the first free place
+abbrev pub Waits : List ℕ → List ℕ → ℕ → List ℕ → List ℕ → Type 0
+Waits ds fs w ds′ fs′ = (free : ℕ) → table ds′ fs′ free ≡ suspend (table ds fs free) w (asReturning (acting (table ds fs free) w))
 
--- the same from the deques and frames alone, whatever the first free place: the parent's part of a return, and a sync
-pub record IsParentAfter (ds fs : List ℕ) (w q : ℕ) (ds′ fs′ : List ℕ) (o : Returned) : Type 0 where
-  pub after : (free : ℕ) → table ds′ fs′ free ≡ parentAfter (table ds fs free) w q (withoutChild (frameAt fs q))
-  pub outcome : o ≡ returnedTo (size ds w) (withoutChild (frameAt fs q))
+-- after the last end of a return, with the outcome o
+pub record GoesOn (ds fs : List ℕ) (w q : ℕ) (ds′ fs′ : List ℕ) (o : Returned) : Type 0 where
+  pub after : (free : ℕ) → table ds′ fs′ free ≡ goOn (table ds fs free) w q
+  pub outcome : (free : ℕ) → o ≡ wentOn (table ds fs free) q
 
 pub record IsSync (ds fs : List ℕ) (w : ℕ) (ds′ fs′ : List ℕ) (o : Synced) : Type 0 where
   pub after : (free : ℕ) → table ds′ fs′ free ≡ sync (table ds fs free) w

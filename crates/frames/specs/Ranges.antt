@@ -22,10 +22,18 @@ pub record Acts (ds fs : List ℕ) (w n p : ℕ) (f : Frame) : Type 0 where
   pub within : p < places
   pub is : f ≡ frameAt fs p
 
--- the frame f at place p has a parent, at another place, or none
+-- the frame f at place p is Main, of depth 0, and has no parent, or its parent is at another place
 abbrev pub ParentOf : ℕ → Frame → Type 0
-ParentOf p f = ((f .parent < places) × (f .parent ≢ p)) ⊎ (f .parent ≡ none)
+ParentOf p f = ((0 < f .depth) × (f .parent < places) × (f .parent ≢ p)) ⊎ ((f .depth ≡ 0) × (f .parent ≡ none))
 
 -- its parent, if it has one, has a live child
 abbrev pub ParentCounts : List ℕ → Frame → Type 0
 ParentCounts fs f = f .parent < places → 0 < frameAt fs (f .parent) .outstanding
+
+-- the frame at place p, whose parent is at place q, can end
+pub record EndsIn (fs : List ℕ) (p q : ℕ) : Type 0 where
+  pub long-frames : length fs ≡ frameWords
+  pub within : p < places
+  pub up : q ≡ frameAt fs p .parent
+  pub parent : ParentOf p (frameAt fs p)
+  pub counts : ParentCounts fs (frameAt fs p)

@@ -1,17 +1,17 @@
 -- What a spawn, a return, a steal and a sync do to the deques and the frame table. Definitions only. That the step is not
 -- refused is the caller's; what happens to the trees is the pool's.
-use mathlib.Core.Bool.{Bool, cond, _&&_}
+use mathlib.Core.Bool.{Bool, cond, not, _&&_}
 use mathlib.Core.List.{List}
 use Prim.Native.Nat.{ℕ}
 use lib.Dec.{eqb}
 use Rattle.words.specs.Basics.{none}
 use Rattle.frames.specs.declared.Frame.{Frame}
 use Rattle.frames.specs.declared.Returned.{Returned}
-use Rattle.frames.specs.declared.Returned.the-variants.{Continued, Idle, Resumed, Finished}
+use Rattle.frames.specs.declared.Returned.the-variants.{Continued, Idle, Resumed, Finished, Waiting}
 use Rattle.frames.specs.declared.Synced.{Synced}
 use Rattle.frames.specs.declared.Synced.the-variants.{Passed, Suspended}
 use Rattle.frames.specs.Frames.{frameAt, setFrame, childOf, withChild, withoutChild, withSuspended, freePlace}
-use Rattle.frames.specs.Deques.{size, bottom, top, push, pop, dropTop}
+use Rattle.frames.specs.Deques.{bottom, top, push, pop, dropTop}
 
 -- the deques, the frame table and the first free place
 pub record Table : Type 0 where
@@ -37,40 +37,41 @@ spawn t w =
 
 -- ---- return: "the bottom frame ends"
 
--- "If the deque is empty, the parent is suspended and has no live child left, the parent resumes": of the parent's record,
--- already without this child, and the deque's length without this frame
-abbrev pub resumes : ℕ → Frame → Bool
-resumes left parent = eqb left 0 && (eqb (parent .suspended) 1 && eqb (parent .outstanding) 0)
+-- worker w's bottom frame leaves its deque and waits, with the record f: "it is suspended, its worker goes idle"
+abbrev pub suspend : Table → ℕ → Frame → Table
+suspend t w f =
+    record { deques = pop (t .deques) w; frames = setFrame (t .frames) (bottom (t .deques) w) f; «free_place» = t .«free_place» }
 
--- the outcome of a frame that has a parent
-abbrev pub returnedTo : ℕ → Frame → Returned
-returnedTo left parent = cond (eqb left 0) (cond (resumes left parent) Resumed Idle) Continued
+-- the frame at place p ends: its place is free again, "the last freed is the first taken", and its parent, if it has one, has a live
+-- child less
+unfoldable pub endFrame : List ℕ → ℕ → ℕ → List ℕ
+endFrame fs free p =
+    let q : ℕ = frameAt fs p .parent in
+    cond (eqb q none) (setFrame fs p (freePlace free)) (setFrame (setFrame fs p (freePlace free)) q (withoutChild (frameAt fs q)))
 
--- the place is free again: "the last freed is the first taken"
-abbrev pub ended : Table → ℕ → Table
-ended t w =
-    let p : ℕ = bottom (t .deques) w in
-    record { deques = pop (t .deques) w; frames = setFrame (t .frames) p (freePlace (t .«free_place»)); «free_place» = p }
+-- of the parent's record, already without the child that has ended: it "is suspended and has no live child left"
+abbrev pub waitsNoMore : Frame → Bool
+waitsNoMore f = eqb (f .suspended) 1 && eqb (f .outstanding) 0
 
--- the parent at place q, whose record is f, has a live child less; perhaps it resumes
-abbrev pub parentAfter : Table → ℕ → ℕ → Frame → Table
-parentAfter t w q f =
-    cond (resumes (size (t .deques) w) f)
-    (record { deques = push (t .deques) w q; frames = setFrame (t .frames) q (withSuspended f 0); «free_place» = t .«free_place» })
-    (record { deques = t .deques; frames = setFrame (t .frames) q f; «free_place» = t .«free_place» })
+-- R-3: "When its last child ends, it ends too"
+abbrev pub endsToo : Frame → Bool
+endsToo f = waitsNoMore f && eqb (f .returning) 1
 
--- the parent's place and record, as the return finds them
-abbrev pub parentPlace : Table → ℕ → ℕ
-parentPlace t w = acting t w .parent
+-- "the parent resumes on this worker, past its sync"
+abbrev pub resumes : Frame → Bool
+resumes f = waitsNoMore f && not (eqb (f .returning) 1)
 
-abbrev pub parentFrame : Table → ℕ → Frame
-parentFrame t w = withoutChild (frameAt (t .frames) (parentPlace t w))
+-- the frame at place q resumes on worker w
+abbrev pub resume : Table → ℕ → ℕ → Table
+resume t w q =
+    record { deques = push (t .deques) w q; frames = setFrame (t .frames) q (withSuspended (frameAt (t .frames) q) 0); «free_place» = t .«free_place» }
 
-unfoldable pub return : Table → ℕ → Table
-return t w = cond (eqb (parentPlace t w) none) (ended t w) (parentAfter (ended t w) w (parentPlace t w) (parentFrame t w))
+-- worker w's deque is empty, and no more frames end: the parent of the last one, at place q, resumes, or the worker is idle
+unfoldable pub goOn : Table → ℕ → ℕ → Table
+goOn t w q = cond (resumes (frameAt (t .frames) q)) (resume t w q) t
 
-unfoldable pub returned : Table → ℕ → Returned
-returned t w = cond (eqb (parentPlace t w) none) Finished (returnedTo (size (pop (t .deques) w) w) (parentFrame t w))
+unfoldable pub wentOn : Table → ℕ → Returned
+wentOn t q = cond (resumes (frameAt (t .frames) q)) Resumed Idle
 
 -- ---- steal: "an idle worker takes the top frame of a victim"
 
@@ -84,21 +85,19 @@ stolen t v = frameAt (t .frames) (top (t .deques) v)
 -- ---- sync: "with no live child the bottom frame passes, outcome 0. Else it is suspended, its worker goes idle, outcome 1"
 
 unfoldable pub sync : Table → ℕ → Table
-sync t w =
-    let p : ℕ = bottom (t .deques) w in
-    cond (eqb (acting t w .outstanding) 0) t
-    (record { deques = pop (t .deques) w; frames = setFrame (t .frames) p (withSuspended (acting t w) 1); «free_place» = t .«free_place» })
+sync t w = cond (eqb (acting t w .outstanding) 0) t (suspend t w (withSuspended (acting t w) 1))
 
 unfoldable pub synced : Table → ℕ → Synced
 synced t w = cond (eqb (acting t w .outstanding) 0) Passed Suspended
 
--- ---- document 01's numbers
+-- ---- document 01's numbers, and R-3's outcome 4
 
 abbrev pub returnedNumber : Returned → ℕ
 returnedNumber Continued = 0
 returnedNumber Idle = 1
 returnedNumber Resumed = 2
 returnedNumber Finished = 3
+returnedNumber Waiting = 4
 
 abbrev pub syncedNumber : Synced → ℕ
 syncedNumber Passed = 0

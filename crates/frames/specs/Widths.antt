@@ -9,9 +9,9 @@ maxWorkers = 8
 abbrev pub places : ℕ
 places = 64
 
--- document 02: frame records "of live, parent .., depth, outstanding, suspended and root"
+-- document 02: frame records "of live, parent .., depth, outstanding, suspended and root", and by R-3 "a word for it, last"
 abbrev pub recordWords : ℕ
-recordWords = 6
+recordWords = 7
 
 abbrev pub frameWords : ℕ
 frameWords = places * recordWords

@@ -4,7 +4,7 @@ ghost use Prim.Native.Nat.{_+_, _-_, _≤_, _<_};
 ghost use lib.ListN.{length, set, replicate};
 ghost use Rattle.words.specs.Basics.{plus};
 ghost use Rattle.frames.specs.Widths.{maxWorkers, dequePlaces, dequeStride, dequeWords};
-ghost use Rattle.frames.specs.Deques.{size, setSize, place, setPlace, bottom, top, push, pop, shiftUp, dropTop, initDeques};
+ghost use Rattle.frames.specs.Deques.{size, place, bottom, top, push, pop, shiftUp, dropTop, initDeques};
 use super::DEQUE_STRIDE;
 
 // How many frames worker w has.
@@ -15,26 +15,12 @@ pub fn size_at(deques: &[u32], w: u32) -> u32
     deques[DEQUE_STRIDE * (w as usize)]
 }
 
-fn put_size(deques: &mut [u32], w: u32, n: u32)
-    requires { ⌜ (length (now deques) ≡ dequeWords) × (w < maxWorkers) ⌝ }
-    ensures { λ _. ⌜ now (deques .exit) ≡ setSize (now (deques .entry)) w n ⌝ }
-{
-    deques[DEQUE_STRIDE * (w as usize)] = n;
-}
-
 // The frame that is k places below worker w's top.
 pub fn place_at(deques: &[u32], w: u32, k: u32) -> u32
     requires { ⌜ (length (now deques) ≡ dequeWords) × (w < maxWorkers) × (k < dequePlaces) ⌝ }
     ensures { λ r. ⌜ r ≡ place (now (deques .entry)) w k ⌝ }
 {
     deques[DEQUE_STRIDE * (w as usize) + (1 + (k as usize))]
-}
-
-fn put_place(deques: &mut [u32], w: u32, k: u32, p: u32)
-    requires { ⌜ (length (now deques) ≡ dequeWords) × (w < maxWorkers) × (k < dequePlaces) ⌝ }
-    ensures { λ _. ⌜ now (deques .exit) ≡ setPlace (now (deques .entry)) w k p ⌝ }
-{
-    deques[DEQUE_STRIDE * (w as usize) + (1 + (k as usize))] = p;
 }
 
 // The frame that a thief takes.
@@ -91,17 +77,20 @@ pub fn pop_off(deques: &mut [u32], w: u32, n: u32)
     pop_in(&mut deques[at..], n);
 }
 
-// The first count places take the frame of the next place.
-fn move_up(deques: &mut [u32], w: u32, count: u32)
-    requires { ⌜ (length (now deques) ≡ dequeWords) × (w < maxWorkers) × (count < dequePlaces) ⌝ }
-    ensures { λ _. ⌜ now (deques .exit) ≡ shiftUp count (now (deques .entry)) w 0 ⌝ }
+// One deque's words, of which n are frames: the top frame sinks to the bottom, one place at a time, and is taken off there.
+// The places that move up are told as worker 0's, whose words come first.
+fn take_in(deque: &mut [u32], n: u32)
+    requires { ⌜ (dequeStride ≤ length (now deque)) × (0 < n) × (n ≤ dequePlaces) ⌝ }
+    ensures { λ _. ⌜ now (deque .exit) ≡ set (set (shiftUp (n - 1) (now (deque .entry)) 0 0) n 0) 0 (n - 1) ⌝ }
 {
-    let mut at = DEQUE_STRIDE * (w as usize) + 1;
-    let end = at + (count as usize);
-    while at < end {
-        deques[at] = deques[at + 1];
-        at += 1;
+    let mut k: usize = 1;
+    while k < (n as usize) {
+        let below = deque[k + 1];
+        deque[k + 1] = deque[k];
+        deque[k] = below;
+        k += 1;
     }
+    pop_in(deque, n);
 }
 
 // The top frame taken off: the rest moves up.
@@ -109,10 +98,9 @@ pub fn top_off(deques: &mut [u32], w: u32)
     requires { ⌜ (length (now deques) ≡ dequeWords) × (w < maxWorkers) × (0 < size (now deques) w) × (size (now deques) w ≤ dequePlaces) ⌝ }
     ensures { λ _. ⌜ now (deques .exit) ≡ dropTop (now (deques .entry)) w ⌝ }
 {
-    let n = size_at(deques, w) - 1;
-    move_up(deques, w, n);
-    put_place(deques, w, n, 0);
-    put_size(deques, w, n);
+    let n = size_at(deques, w);
+    let at = DEQUE_STRIDE * (w as usize);
+    take_in(&mut deques[at..], n);
 }
 
 // The start, whatever the words held: Main, in place 0, is alone on worker 0's deque.

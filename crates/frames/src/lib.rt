@@ -7,6 +7,7 @@ mod steps;
 pub use deques::acting_place;
 pub use deques::init_deques;
 pub use deques::place_at;
+pub use deques::pop_off;
 pub use deques::size_at;
 pub use deques::top_at;
 pub use records::frame_at;
@@ -14,10 +15,13 @@ pub use records::frame_or_zero;
 pub use records::init_frames;
 pub use records::root_at;
 pub use records::set_root;
-pub use steps::return_frame;
+pub use steps::end_frame;
+pub use steps::ends_too;
+pub use steps::go_on;
 pub use steps::spawn_frame;
 pub use steps::steal_frame;
 pub use steps::sync_frame;
+pub use steps::wait_frame;
 
 // document 01: "None is 4,294,967,295"
 pub const NONE: u32 = 4294967295;
@@ -27,7 +31,10 @@ pub const MAX_WORKERS: u32 = 8;
 
 pub const PLACES: u32 = 64;
 
-pub const RECORD_WORDS: usize = 6;
+pub const RECORD_WORDS: usize = 7;
+
+// A record's words but one.
+pub const OTHER_WORDS: u32 = RECORD_WORDS as u32 - 1;
 
 pub const FRAME_WORDS: usize = PLACES as usize * RECORD_WORDS;
 
@@ -37,8 +44,8 @@ pub const DEQUE_STRIDE: usize = 1 + DEQUE_PLACES as usize;
 
 pub const DEQUE_WORDS: usize = MAX_WORKERS as usize * DEQUE_STRIDE;
 
-// A frame record. live and suspended are 0 or 1; parent is the parent's place, none for Main, and for a free place the
-// next free place or none.
+// A frame record. live, suspended and returning are 0 or 1, and a frame that waits in its return is both suspended and returning;
+// parent is the parent's place, none for Main, and for a free place the next free place or none.
 pub struct Frame {
     pub live: u32,
     pub parent: u32,
@@ -46,9 +53,10 @@ pub struct Frame {
     pub outstanding: u32,
     pub suspended: u32,
     pub root: u32,
+    pub returning: u32,
 }
 
-// How a return went on (document 01's outcomes 0, 1, 2, 3).
+// How a return went on (document 01's outcomes 0 to 3, and R-3's 4).
 pub enum Returned {
     // the parent is the bottom now
     Continued,
@@ -58,12 +66,8 @@ pub enum Returned {
     Resumed,
     // Main has ended
     Finished,
-}
-
-// What a return leaves: the first free place, which is the ended frame's, and how it went on.
-pub struct Ended {
-    pub free_place: u32,
-    pub outcome: Returned,
+    // a child lives: the frame waits for it
+    Waiting,
 }
 
 // How a sync went on (outcomes 0 and 1).

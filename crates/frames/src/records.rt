@@ -1,16 +1,16 @@
 // Frame records: single records by value, the record at a place and its words, and the table at the start.
 ghost use mathlib.Core.Path.{_≡_};
 ghost use mathlib.Core.Bool.{cond};
-ghost use Prim.Native.Nat.{_+_, _≤_, _<_};
+ghost use Prim.Native.Nat.{_+_, _*_, _≤_, _<_};
 ghost use lib.Dec.{eqb};
 ghost use lib.ListN.{length, replicate};
 ghost use Rattle.words.specs.Basics.{none};
-ghost use Rattle.frames.specs.Widths.{places, frameWords};
-ghost use Rattle.frames.specs.Frames.{frameAt, setFrame, withOutstanding, withSuspended, withRoot, childOf, freePlace, mainFrame, initPlaces, initFrames};
+ghost use Rattle.frames.specs.Widths.{places, recordWords, frameWords};
+ghost use Rattle.frames.specs.Frames.{frameAt, setFrame, withOutstanding, withSuspended, withRoot, withReturning, childOf, freePlace, mainFrame, initPlaces, initFrames};
 use super::Frame;
 use super::NONE;
+use super::OTHER_WORDS;
 use super::PLACES;
-use super::RECORD_WORDS;
 
 // ---- single records
 
@@ -25,6 +25,7 @@ pub fn child_of(f: Frame, p: u32) -> Frame
         outstanding: 0,
         suspended: 0,
         root: f.root,
+        returning: 0,
     }
 }
 
@@ -39,6 +40,7 @@ pub fn free_place(next: u32) -> Frame
         outstanding: 0,
         suspended: 0,
         root: 0,
+        returning: 0,
     }
 }
 
@@ -53,17 +55,26 @@ fn main_frame(root: u32) -> Frame
         outstanding: 0,
         suspended: 0,
         root,
+        returning: 0,
     }
 }
 
 // ---- the table
+
+// Where the record at place p begins. (A sum that may wrap, for the compiler: it stays 32 bits wide.)
+fn start_of(p: u32) -> usize
+    requires { ⌜ p < places ⌝ }
+    ensures { λ r. ⌜ r ≡ recordWords * p ⌝ }
+{
+    words::add(OTHER_WORDS * p, p) as usize
+}
 
 // The record at place p.
 pub fn frame_at(frames: &[u32], p: u32) -> Frame
     requires { ⌜ (length (now frames) ≡ frameWords) × (p < places) ⌝ }
     ensures { λ r. ⌜ r ≡ frameAt (now (frames .entry)) p ⌝ }
 {
-    let at = RECORD_WORDS * (p as usize);
+    let at = start_of(p);
     Frame {
         live: frames[at],
         parent: frames[at + 1],
@@ -71,6 +82,7 @@ pub fn frame_at(frames: &[u32], p: u32) -> Frame
         outstanding: frames[at + 3],
         suspended: frames[at + 4],
         root: frames[at + 5],
+        returning: frames[at + 6],
     }
 }
 
@@ -91,13 +103,14 @@ pub fn put_frame(frames: &mut [u32], p: u32, f: Frame)
     requires { ⌜ (length (now frames) ≡ frameWords) × (p < places) ⌝ }
     ensures { λ _. ⌜ now (frames .exit) ≡ setFrame (now (frames .entry)) p f ⌝ }
 {
-    let at = RECORD_WORDS * (p as usize);
+    let at = start_of(p);
     frames[at] = f.live;
     frames[at + 1] = f.parent;
     frames[at + 2] = f.depth;
     frames[at + 3] = f.outstanding;
     frames[at + 4] = f.suspended;
     frames[at + 5] = f.root;
+    frames[at + 6] = f.returning;
 }
 
 // The root of the frame at place p.
@@ -105,7 +118,15 @@ pub fn root_at(frames: &[u32], p: u32) -> u32
     requires { ⌜ (length (now frames) ≡ frameWords) × (p < places) ⌝ }
     ensures { λ r. ⌜ r ≡ frameAt (now (frames .entry)) p .root ⌝ }
 {
-    frames[RECORD_WORDS * (p as usize) + 5]
+    frames[start_of(p) + 5]
+}
+
+// How many live children has the frame at place p?
+pub fn outstanding_at(frames: &[u32], p: u32) -> u32
+    requires { ⌜ (length (now frames) ≡ frameWords) × (p < places) ⌝ }
+    ensures { λ r. ⌜ r ≡ frameAt (now (frames .entry)) p .outstanding ⌝ }
+{
+    frames[start_of(p) + 3]
 }
 
 // Is the frame at place p suspended?
@@ -113,7 +134,15 @@ pub fn suspended_at(frames: &[u32], p: u32) -> u32
     requires { ⌜ (length (now frames) ≡ frameWords) × (p < places) ⌝ }
     ensures { λ r. ⌜ r ≡ frameAt (now (frames .entry)) p .suspended ⌝ }
 {
-    frames[RECORD_WORDS * (p as usize) + 4]
+    frames[start_of(p) + 4]
+}
+
+// Is the frame at place p returning?
+pub fn returning_at(frames: &[u32], p: u32) -> u32
+    requires { ⌜ (length (now frames) ≡ frameWords) × (p < places) ⌝ }
+    ensures { λ r. ⌜ r ≡ frameAt (now (frames .entry)) p .returning ⌝ }
+{
+    frames[start_of(p) + 6]
 }
 
 // Gives the frame at place p another number of live children.
@@ -121,7 +150,7 @@ pub fn set_outstanding(frames: &mut [u32], p: u32, n: u32)
     requires { ⌜ (length (now frames) ≡ frameWords) × (p < places) ⌝ }
     ensures { λ _. ⌜ now (frames .exit) ≡ setFrame (now (frames .entry)) p (withOutstanding (frameAt (now (frames .entry)) p) n) ⌝ }
 {
-    frames[RECORD_WORDS * (p as usize) + 3] = n;
+    frames[start_of(p) + 3] = n;
 }
 
 // The frame at place p is suspended (1) or not (0).
@@ -129,7 +158,7 @@ pub fn set_suspended(frames: &mut [u32], p: u32, s: u32)
     requires { ⌜ (length (now frames) ≡ frameWords) × (p < places) ⌝ }
     ensures { λ _. ⌜ now (frames .exit) ≡ setFrame (now (frames .entry)) p (withSuspended (frameAt (now (frames .entry)) p) s) ⌝ }
 {
-    frames[RECORD_WORDS * (p as usize) + 4] = s;
+    frames[start_of(p) + 4] = s;
 }
 
 // Gives the frame at place p another tree.
@@ -137,7 +166,15 @@ pub fn set_root(frames: &mut [u32], p: u32, root: u32)
     requires { ⌜ (length (now frames) ≡ frameWords) × (p < places) ⌝ }
     ensures { λ _. ⌜ now (frames .exit) ≡ setFrame (now (frames .entry)) p (withRoot (frameAt (now (frames .entry)) p) root) ⌝ }
 {
-    frames[RECORD_WORDS * (p as usize) + 5] = root;
+    frames[start_of(p) + 5] = root;
+}
+
+// The frame at place p is returning (1) or not (0).
+pub fn set_returning(frames: &mut [u32], p: u32, b: u32)
+    requires { ⌜ (length (now frames) ≡ frameWords) × (p < places) ⌝ }
+    ensures { λ _. ⌜ now (frames .exit) ≡ setFrame (now (frames .entry)) p (withReturning (frameAt (now (frames .entry)) p) b) ⌝ }
+{
+    frames[start_of(p) + 6] = b;
 }
 
 // ---- the start

@@ -7,10 +7,9 @@ ghost use lib.ListN.{length};
 ghost use Rattle.frames.specs.Widths.{maxWorkers, places, frameWords, dequePlaces, dequeWords};
 ghost use Rattle.frames.specs.Frames.{frameAt};
 ghost use Rattle.frames.specs.Deques.{size};
-ghost use Rattle.frames.specs.Steps.{spawn, steal};
-ghost use Rattle.frames.specs.Promises.{table, IsReturn, IsParentAfter, IsSync};
-ghost use Rattle.frames.specs.Ranges.{Acts, ParentOf, ParentCounts};
-use super::Ended;
+ghost use Rattle.frames.specs.Steps.{spawn, endFrame, waitsNoMore, endsToo, steal};
+ghost use Rattle.frames.specs.Promises.{table, Waits, GoesOn, IsSync};
+ghost use Rattle.frames.specs.Ranges.{Acts, EndsIn};
 use super::Frame;
 use super::NONE;
 use super::Returned;
@@ -22,8 +21,11 @@ use super::deques::top_off;
 use super::records::child_of;
 use super::records::frame_at;
 use super::records::free_place;
+use super::records::outstanding_at;
 use super::records::put_frame;
+use super::records::returning_at;
 use super::records::set_outstanding;
+use super::records::set_returning;
 use super::records::set_suspended;
 use super::records::suspended_at;
 
@@ -48,62 +50,65 @@ pub fn spawn_frame(
     next.parent
 }
 
-// The parent, at place q with so many live children, has one less; perhaps it resumes. Worker w has n frames left.
-fn return_to(
-    deques: &mut [u32],
-    frames: &mut [u32],
-    w: u32,
-    n: u32,
-    q: u32,
-    children: u32,
-) -> Returned
-    requires { ⌜ (length (now deques) ≡ dequeWords) × (length (now frames) ≡ frameWords) × (w < maxWorkers) × (q < places) × (n ≡ size (now deques) w) × (children ≡ frameAt (now frames) q .outstanding) × (0 < children) ⌝ }
-    ensures { λ r. ⌜ IsParentAfter (now (deques .entry)) (now (frames .entry)) w q (now (deques .exit)) (now (frames .exit)) r ⌝ }
+// The frame at place p, whose parent is at place q or is none, ends: its place is the first free one, and its parent has a live child less.
+pub fn end_frame(frames: &mut [u32], free: u32, p: u32, q: u32)
+    requires { ⌜ EndsIn (now frames) p q ⌝ }
+    ensures { λ _. ⌜ now (frames .exit) ≡ endFrame (now (frames .entry)) free p ⌝ }
 {
-    let left = children - 1;
-    set_outstanding(frames, q, left);
-    if n != 0 {
-        return Returned::Continued;
+    put_frame(frames, p, free_place(free));
+    if q == NONE {
+        return;
     }
+    let left = outstanding_at(frames, q) - 1;
+    set_outstanding(frames, q, left);
+}
+
+// Is the frame at place q suspended, with no live child left?
+fn waits_no_more(frames: &[u32], q: u32) -> bool
+    requires { ⌜ (length (now frames) ≡ frameWords) × (q < places) ⌝ }
+    ensures { λ r. ⌜ r ≡ waitsNoMore (frameAt (now (frames .entry)) q) ⌝ }
+{
     if suspended_at(frames, q) != 1 {
+        return false;
+    }
+    outstanding_at(frames, q) == 0
+}
+
+// Does the frame at place q, a child of which has ended, end too?
+pub fn ends_too(frames: &[u32], q: u32) -> bool
+    requires { ⌜ (length (now frames) ≡ frameWords) × (q < places) ⌝ }
+    ensures { λ r. ⌜ r ≡ endsToo (frameAt (now (frames .entry)) q) ⌝ }
+{
+    if !waits_no_more(frames, q) {
+        return false;
+    }
+    returning_at(frames, q) == 1
+}
+
+// The frame at place q resumes on worker w, whose deque is empty, or the worker is idle.
+pub fn go_on(deques: &mut [u32], frames: &mut [u32], w: u32, q: u32) -> Returned
+    requires { ⌜ (length (now deques) ≡ dequeWords) × (length (now frames) ≡ frameWords) × (w < maxWorkers) × (q < places) × (size (now deques) w ≡ 0) ⌝ }
+    ensures { λ r. ⌜ GoesOn (now (deques .entry)) (now (frames .entry)) w q (now (deques .exit)) (now (frames .exit)) r ⌝ }
+{
+    if !waits_no_more(frames, q) {
         return Returned::Idle;
     }
-    if left != 0 {
+    if returning_at(frames, q) == 1 {
         return Returned::Idle;
     }
     set_suspended(frames, q, 0);
-    push_on(deques, w, n, q);
+    push_on(deques, w, 0, q);
     Returned::Resumed
 }
 
-// Worker w's bottom frame, which is f at place p, ends, and its place is the first free one.
-pub fn return_frame(
-    deques: &mut [u32],
-    frames: &mut [u32],
-    free: u32,
-    w: u32,
-    n: u32,
-    p: u32,
-    f: Frame,
-) -> Ended
-    requires { ⌜ Acts (now deques) (now frames) w n p f × ParentOf p f × ParentCounts (now frames) f ⌝ }
-    ensures { λ r. ⌜ IsReturn (table (now (deques .entry)) (now (frames .entry)) free) w (table (now (deques .exit)) (now (frames .exit)) (r .«free_place»)) (r .outcome) ⌝ }
+// Worker w's bottom frame, the n-th, which is at place p, waits in its return.
+pub fn wait_frame(deques: &mut [u32], frames: &mut [u32], w: u32, n: u32, p: u32)
+    requires { ⌜ Acts (now deques) (now frames) w n p (frameAt (now frames) p) ⌝ }
+    ensures { λ _. ⌜ Waits (now (deques .entry)) (now (frames .entry)) w (now (deques .exit)) (now (frames .exit)) ⌝ }
 {
+    set_suspended(frames, p, 1);
+    set_returning(frames, p, 1);
     pop_off(deques, w, n);
-    put_frame(frames, p, free_place(free));
-    let q = f.parent;
-    if q == NONE {
-        return Ended {
-            free_place: p,
-            outcome: Returned::Finished,
-        };
-    }
-    let parent = frame_at(frames, q);
-    let outcome = return_to(deques, frames, w, n - 1, q, parent.outstanding);
-    Ended {
-        free_place: p,
-        outcome,
-    }
 }
 
 // Worker w takes the top frame of worker v.

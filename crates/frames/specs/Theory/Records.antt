@@ -9,7 +9,7 @@ use lib.ListN.{length, getD, set, length-set, List·getD-eq-default}
 use lib.Seq.{getD-set-same, getD-set-other, set-getD, set-set, set-comm, sets}
 use Rattle.frames.specs.declared.Frame.{Frame}
 use Rattle.frames.specs.Widths.{places, recordWords, frameWords}
-use Rattle.frames.specs.Frames.{frameAt, setFrame, withOutstanding, withSuspended, withRoot, freePlace}
+use Rattle.frames.specs.Frames.{frameAt, setFrame, withOutstanding, withSuspended, withRoot, withReturning, freePlace}
 
 -- ---- words stored one after the other
 
@@ -44,7 +44,7 @@ sets-again (x ∷ xs) (y ∷ ys) a ws e =
 
 -- a record's words
 abbrev wordsOf : Frame → List ℕ
-wordsOf f = f .live ∷ f .parent ∷ f .depth ∷ f .outstanding ∷ f .suspended ∷ f .root ∷ []
+wordsOf f = f .live ∷ f .parent ∷ f .depth ∷ f .outstanding ∷ f .suspended ∷ f .root ∷ f .returning ∷ []
 
 frame-words : (fs : List ℕ) (p : ℕ) (f : Frame) → setFrame fs p f ≡ sets fs (recordWords * p) (wordsOf f)
 unfolding setFrame
@@ -55,7 +55,8 @@ frame-words fs p f =
     let three : a + 3 ≡ suc (suc (suc a)) = omega arith in
     let four : a + 4 ≡ suc (suc (suc (suc a))) = omega arith in
     let five : a + 5 ≡ suc (suc (suc (suc (suc a)))) = omega arith in
-    rw (five, four, three, two, one)
+    let six : a + 6 ≡ suc (suc (suc (suc (suc (suc a))))) = omega arith in
+    rw (six, five, four, three, two, one)
 
 -- ---- records
 
@@ -66,7 +67,7 @@ length-setFrame fs p f = simp length-set
 -- two tables whose words agree at the records
 frame-by : (fs gs : List ℕ) (p q : ℕ) → ((i : ℕ) → i < recordWords → getD fs (recordWords * p + i) 0 ≡ getD gs (recordWords * q + i) 0) → frameAt fs p ≡ frameAt gs q
 unfolding frameAt
-frame-by fs gs p q h = rw (first, h 1 (omega arith), h 2 (omega arith), h 3 (omega arith), h 4 (omega arith), h 5 (omega arith))
+frame-by fs gs p q h = rw (first, h 1 (omega arith), h 2 (omega arith), h 3 (omega arith), h 4 (omega arith), h 5 (omega arith), h 6 (omega arith))
   where
     first : getD fs (recordWords * p) 0 ≡ getD gs (recordWords * q) 0
     first = simp add-zero at (h 0 (omega arith))
@@ -105,19 +106,25 @@ module _ (fs : List ℕ) (p n : ℕ) where
   unfolding frameAt setFrame
   outstanding-set =
       let a : ℕ = recordWords * p in
-      rw (set-getD fs a 0, set-getD fs (a + 1) 0, set-getD fs (a + 2) 0, kept fs (a + 3) (a + 4) n (omega arith), kept fs (a + 3) (a + 5) n (omega arith))
+      rw (set-getD fs a 0, set-getD fs (a + 1) 0, set-getD fs (a + 2) 0, kept fs (a + 3) (a + 4) n (omega arith), kept fs (a + 3) (a + 5) n (omega arith), kept fs (a + 3) (a + 6) n (omega arith))
 
   pub suspended-set : set fs (recordWords * p + 4) n ≡ setFrame fs p (withSuspended (frameAt fs p) n)
   unfolding frameAt setFrame
   suspended-set =
       let a : ℕ = recordWords * p in
-      rw (set-getD fs a 0, set-getD fs (a + 1) 0, set-getD fs (a + 2) 0, set-getD fs (a + 3) 0, kept fs (a + 4) (a + 5) n (omega arith))
+      rw (set-getD fs a 0, set-getD fs (a + 1) 0, set-getD fs (a + 2) 0, set-getD fs (a + 3) 0, kept fs (a + 4) (a + 5) n (omega arith), kept fs (a + 4) (a + 6) n (omega arith))
 
   pub root-set : set fs (recordWords * p + 5) n ≡ setFrame fs p (withRoot (frameAt fs p) n)
   unfolding frameAt setFrame
   root-set =
       let a : ℕ = recordWords * p in
-      rw (set-getD fs a 0, set-getD fs (a + 1) 0, set-getD fs (a + 2) 0, set-getD fs (a + 3) 0, set-getD fs (a + 4) 0)
+      rw (set-getD fs a 0, set-getD fs (a + 1) 0, set-getD fs (a + 2) 0, set-getD fs (a + 3) 0, set-getD fs (a + 4) 0, kept fs (a + 5) (a + 6) n (omega arith))
+
+  pub returning-set : set fs (recordWords * p + 6) n ≡ setFrame fs p (withReturning (frameAt fs p) n)
+  unfolding frameAt setFrame
+  returning-set =
+      let a : ℕ = recordWords * p in
+      rw (set-getD fs a 0, set-getD fs (a + 1) 0, set-getD fs (a + 2) 0, set-getD fs (a + 3) 0, set-getD fs (a + 4) 0, set-getD fs (a + 5) 0)
 
 -- the root that it has
 pub root-kept : (fs : List ℕ) (p : ℕ) → setFrame fs p (withRoot (frameAt fs p) (frameAt fs p .root)) ≡ fs

@@ -1,25 +1,21 @@
--- What a spawn, a return, a sync, a write and a steal do, over the workers' lists and the single records. In each, p is worker w's
+-- What a spawn, an end, a resumption, a wait, a sync, a write and a steal do, over the workers' lists and the single records. In each, p is worker w's
 -- bottom frame, ps are the frames above it, gs the free places.
 use mathlib.Core.Path.{_≡_, refl, sym, ap, _∙_}
 use mathlib.Core.Logic.{_≢_}
-use mathlib.Core.Bool.{true, false, cond}
 use mathlib.Core.List.{List, [], _∷_}
 use Prim.Native.Nat.{ℕ, suc, _≤_, _<_}
 use native.Mathlib.Omega.{arith}
 use lib.ListN.{length}
-use lib.Dec.{eqb, eqb→eq}
+use lib.Dec.{eqb}
 use borrow.Author.Tests.{eq-eqb, ne-eqb}
 use Rattle.words.specs.Basics.{none}
-use Rattle.words.specs.Tests.{both, true→T}
 use Rattle.words.specs.Counting.{δ, δ-same, count, count-cons}
 use Rattle.frames.specs.declared.Frame.{Frame}
-use Rattle.frames.specs.declared.Returned.{Returned}
-use Rattle.frames.specs.declared.Returned.the-variants.{Continued, Idle, Resumed, Finished}
 use Rattle.frames.specs.declared.Synced.the-variants.{Passed, Suspended}
 use Rattle.frames.specs.Widths.{maxWorkers, places, dequePlaces}
 use Rattle.frames.specs.Frames.{frameAt, setFrame, childOf, withChild, withoutChild, withSuspended, withRoot, freePlace}
-use Rattle.frames.specs.Deques.{size, top, dequeList, push, pop, dropTop}
-use Rattle.frames.specs.Steps.{Table, acting, resumes, returnedTo, parentAfter, spawn, return, returned, steal, sync, synced}
+use Rattle.frames.specs.Deques.{top, dequeList, push, dropTop}
+use Rattle.frames.specs.Steps.{Table, acting, suspend, endFrame, resume, spawn, steal, sync, synced}
 use Rattle.frames.specs.Promises.{table}
 use Rattle.frames.specs.Theory.Records.{length-setFrame, frame-set-same, frame-set-other}
 use Rattle.frames.specs.Theory.Lists.{front, last, list-length, list-head, list-top, list-elsewhere, dropTop-elsewhere, dropTop-shaped, dropTop-list}
@@ -62,94 +58,67 @@ module _ (t : Table) (w p g : ℕ) (ps gs : List ℕ) (F : Formed t (g ∷ gs)) 
         child = frame-set-same _ g (childOf f p) (length-setFrame (t .frames) p _ ∙ F .long) (F .places .1);
       })
 
--- ---- return: the frame's place is the first free one
+-- ---- the end of the frame at place p: its place is the first free one
 
-pub record Finishes (t t′ : Table) (w p : ℕ) (ps gs : List ℕ) : Type 0 where
-  pub after : After t t′ w ps (p ∷ gs) (p ∷ [])
-  pub freed : frameAt (t′ .frames) p ≡ freePlace (t .«free_place»)
-  pub outcome : returned t w ≡ Finished
+-- the table afterwards
+abbrev pub endTable : Table → ℕ → Table
+endTable t p = table (t .deques) (endFrame (t .frames) (t .«free_place») p) p
 
--- to the parent at place q, whose record is f afterwards; the deque is d
-pub record Returns (t t′ : Table) (w p q : ℕ) (d gs : List ℕ) (f : Frame) (r : Returned) : Type 0 where
-  pub after : After t t′ w d (p ∷ gs) (q ∷ p ∷ [])
-  pub freed : frameAt (t′ .frames) p ≡ freePlace (t .«free_place»)
-  pub parent : frameAt (t′ .frames) q ≡ f
-  pub outcome : returned t w ≡ r
+-- ps are the places of the records that are stored
+pub record Ends (t : Table) (w p : ℕ) (d gs ps : List ℕ) : Type 0 where
+  pub after : After t (endTable t p) w d (p ∷ gs) ps
+  pub freed : frameAt (endTable t p .frames) p ≡ freePlace (t .«free_place»)
 
--- worker w's frame at place p gone
-abbrev freed : Table → ℕ → ℕ → Table
-freed t w p = table (pop (t .deques) w) (setFrame (t .frames) p (freePlace (t .«free_place»))) p
+module _ (t : Table) (w p : ℕ) (d gs : List ℕ) (F : Formed t gs) (e : dequeList (t .deques) w ≡ d) (b : p < places) (o : count p gs ≡ 0) where
+  abbrev freed : Table
+  freed = table (t .deques) (setFrame (t .frames) p (freePlace (t .«free_place»))) p
 
--- the record at place q with a live child less
-abbrev pub less : Table → ℕ → Frame
-less t q = withoutChild (frameAt (t .frames) q)
+  freed-after : After t freed w d (p ∷ gs) (p ∷ [])
+  freed-after = after-free (unchanged t w d gs F e) p o b
 
-module _ (t : Table) (w p : ℕ) (ps gs : List ℕ) (F : Formed t gs) (h : w < maxWorkers) (d : dequeList (t .deques) w ≡ p ∷ ps) (b : p < places) (o : count p gs ≡ 0) where
-  freed-after : After t (freed t w p) w ps (p ∷ gs) (p ∷ [])
-  freed-after = after-free (after-pop (unchanged t w (p ∷ ps) gs F d) h) p o b
-
-  freed-place : frameAt (freed t w p .frames) p ≡ freePlace (t .«free_place»)
+  freed-place : frameAt (freed .frames) p ≡ freePlace (t .«free_place»)
   freed-place = frame-set-same (t .frames) p (freePlace (t .«free_place»)) (F .long) b
 
-  left : size (pop (t .deques) w) w ≡ length ps
-  left = sym (list-length (pop (t .deques) w) w) ∙ ap length (freed-after .deque)
+  main-is : frameAt (t .frames) p .parent ≡ none → endFrame (t .frames) (t .«free_place») p ≡ freed .frames
+  unfolding endFrame
+  main-is n = rw (eq-eqb (frameAt (t .frames) p .parent) none n)
 
-  parent-is : acting t w .parent ≡ frameAt (t .frames) p .parent
-  parent-is = ap (λ (f : Frame). f .parent) (acting-is t w p ps d)
+  pub end-main : frameAt (t .frames) p .parent ≡ none → Ends t w p d gs (p ∷ [])
+  end-main n = let is = main-is n in record { after = rw is freed-after; freed = rw is freed-place }
 
-  module _ (n : frameAt (t .frames) p .parent ≡ none) where
-    test-main : eqb (acting t w .parent) none ≡ true
-    test-main = eq-eqb (acting t w .parent) none (parent-is ∙ n)
+  module _ (q : ℕ) (n : frameAt (t .frames) p .parent ≡ q) (c : q < places) (oq : count q (p ∷ gs) ≡ 0) where
+    -- the parent's record with a live child less
+    abbrev g : Frame
+    g = withoutChild (frameAt (t .frames) q)
 
-    finish-is : return t w ≡ freed t w p
-    unfolding return
-    finish-is = rw (test-main, list-head (t .deques) w p ps d)
+    child-is : endFrame (t .frames) (t .«free_place») p ≡ setFrame (freed .frames) q g
+    unfolding endFrame
+    child-is = rw (n, ne-eqb q none (λ m. omega (arith, c, m)))
 
-    finish-outcome : returned t w ≡ Finished
-    unfolding returned
-    finish-outcome = rw test-main
+    freed-still : frameAt (setFrame (freed .frames) q g) p ≡ freePlace (t .«free_place»)
+    freed-still = frame-set-other (freed .frames) q p g (λ m. out-head q p gs oq (sym m)) ∙ freed-place
 
-    pub return-finishes : Finishes t (return t w) w p ps gs
-    return-finishes = rw finish-is (record { after = freed-after; freed = freed-place; outcome = finish-outcome })
+    pub end-child : Ends t w p d gs (q ∷ p ∷ []) × (frameAt (endTable t p .frames) q ≡ g)
+    end-child = (
+      record { after = rw child-is (after-store freed-after q g oq); freed = rw child-is freed-still },
+      rw child-is (frame-set-same (freed .frames) q g (freed-after .formed .long) c),
+    )
 
-  module _ (q : ℕ) (e : frameAt (t .frames) p .parent ≡ q) (n : q ≢ none) where
-    test-child : eqb (acting t w .parent) none ≡ false
-    test-child = ne-eqb (acting t w .parent) none (λ m. n (sym e ∙ sym parent-is ∙ m))
+-- ---- "the parent resumes on this worker, past its sync": the frame at place q, on worker w's deque, which is empty
 
-    return-is : return t w ≡ parentAfter (freed t w p) w q (less t q)
-    unfolding return
-    return-is = rw (test-child, parent-is, e, list-head (t .deques) w p ps d)
+pub resume-does : (t : Table) (w q : ℕ) (gs : List ℕ) → Formed t gs → w < maxWorkers → dequeList (t .deques) w ≡ [] → q < places → count q gs ≡ 0
+    → After t (resume t w q) w (q ∷ []) gs (q ∷ []) × (frameAt (resume t w q .frames) q ≡ withSuspended (frameAt (t .frames) q) 0)
+resume-does t w q gs F h e b o =
+    let f = withSuspended (frameAt (t .frames) q) 0 in
+    (after-push (after-store (unchanged t w [] gs F e) q f o) q h (omega arith), frame-set-same (t .frames) q f (F .long) b)
 
-    outcome-is : returned t w ≡ returnedTo (length ps) (less t q)
-    unfolding returned
-    outcome-is = rw (test-child, parent-is, e, left)
+-- ---- worker w's bottom frame leaves its deque, at a sync or as returning, with the record f
 
-    module _ (c : q < places) (oq : count q (p ∷ gs) ≡ 0) where
-      stored-after : (f : Frame) → After t (table (freed t w p .deques) (setFrame (freed t w p .frames) q f) p) w ps (p ∷ gs) (q ∷ p ∷ [])
-      stored-after f = after-store freed-after q f oq
-
-      stored-parent : (f : Frame) → frameAt (setFrame (freed t w p .frames) q f) q ≡ f
-      stored-parent f = frame-set-same (freed t w p .frames) q f (freed-after .formed .long) c
-
-      stored-freed : (f : Frame) → frameAt (setFrame (freed t w p .frames) q f) p ≡ freePlace (t .«free_place»)
-      stored-freed f = frame-set-other (freed t w p .frames) q p f (λ m. out-head q p gs oq (sym m)) ∙ freed-place
-
-      pub return-stays : resumes (length ps) (less t q) ≡ false → Returns t (return t w) w p q ps gs (less t q) (cond (eqb (length ps) 0) Idle Continued)
-      return-stays r =
-          rw (return-is, left, r)
-          (record { after = stored-after (less t q); freed = stored-freed (less t q); parent = stored-parent (less t q); outcome = outcome-is ∙ rw r })
-
-      -- "the parent resumes on this worker, past its sync"
-      pub return-resumes : resumes (length ps) (less t q) ≡ true → Returns t (return t w) w p q (q ∷ ps) gs (withSuspended (less t q) 0) Resumed
-      return-resumes r =
-          let z = both (eqb (length ps) 0) _ r .0 in
-          rw (return-is, left, r)
-          (record {
-            after = after-push (stored-after (withSuspended (less t q) 0)) q h (omega (arith, eqb→eq (length ps) 0 (true→T z)));
-            freed = stored-freed (withSuspended (less t q) 0);
-            parent = stored-parent (withSuspended (less t q) 0);
-            outcome = outcome-is ∙ rw (r, z);
-          })
+pub suspend-does : (t : Table) (w p : ℕ) (ps gs : List ℕ) (f : Frame) → Formed t gs → w < maxWorkers → dequeList (t .deques) w ≡ p ∷ ps → p < places → count p gs ≡ 0
+    → After t (suspend t w f) w ps gs (p ∷ []) × (frameAt (suspend t w f .frames) p ≡ f)
+suspend-does t w p ps gs f F h d b o =
+    rw (list-head (t .deques) w p ps d)
+    (after-store (after-pop (unchanged t w (p ∷ ps) gs F d) h) p f o, frame-set-same (t .frames) p f (F .long) b)
 
 -- ---- sync
 
@@ -159,34 +128,13 @@ sync-passes t w p ps d z =
     let e = eq-eqb (acting t w .outstanding) 0 (ap (λ (f : Frame). f .outstanding) (acting-is t w p ps d) ∙ z) in
     (rw e, rw e)
 
-pub record Waits (t t′ : Table) (w p : ℕ) (ps gs : List ℕ) : Type 0 where
-  pub after : After t t′ w ps gs (p ∷ [])
-  pub waiting : frameAt (t′ .frames) p ≡ withSuspended (frameAt (t .frames) p) 1
-  pub outcome : synced t w ≡ Suspended
-
-module _ (t : Table) (w p : ℕ) (ps gs : List ℕ) (F : Formed t gs) (h : w < maxWorkers) (d : dequeList (t .deques) w ≡ p ∷ ps) (b : p < places) (o : count p gs ≡ 0)
-    (z : frameAt (t .frames) p .outstanding ≢ 0) where
-  test-waits : eqb (acting t w .outstanding) 0 ≡ false
-  test-waits =
-      ne-eqb (acting t w .outstanding) 0
-      (λ e. z (sym (ap (λ (f : Frame). f .outstanding) (acting-is t w p ps d)) ∙ e))
-
-  sync-is : sync t w ≡ table (pop (t .deques) w) (setFrame (t .frames) p (withSuspended (frameAt (t .frames) p) 1)) (t .«free_place»)
-  unfolding sync
-  sync-is = rw (test-waits, list-head (t .deques) w p ps d)
-
-  sync-outcome : synced t w ≡ Suspended
-  unfolding synced
-  sync-outcome = rw test-waits
-
-  pub sync-waits : Waits t (sync t w) w p ps gs
-  sync-waits =
-      rw sync-is
-      (record {
-        after = after-store (after-pop (unchanged t w (p ∷ ps) gs F d) h) p (withSuspended (frameAt (t .frames) p) 1) o;
-        waiting = frame-set-same (t .frames) p (withSuspended (frameAt (t .frames) p) 1) (F .long) b;
-        outcome = sync-outcome;
-      })
+pub sync-waits : (t : Table) (w p : ℕ) (ps : List ℕ) → dequeList (t .deques) w ≡ p ∷ ps → frameAt (t .frames) p .outstanding ≢ 0
+    → (sync t w ≡ suspend t w (withSuspended (frameAt (t .frames) p) 1)) × (synced t w ≡ Suspended)
+unfolding sync synced
+sync-waits t w p ps d z =
+    let is = acting-is t w p ps d in
+    let e = ne-eqb (acting t w .outstanding) 0 (λ k. z (sym (ap (λ (f : Frame). f .outstanding) is) ∙ k)) in
+    (rw (e, is), rw e)
 
 -- ---- write: the frame gets another tree
 

@@ -12,9 +12,9 @@ use Rattle.words.specs.Tests.{decided}
 use Rattle.words.specs.Below.{Words, words-set, words-zeros, plus-word, minus-word, cond-word}
 use Rattle.frames.specs.declared.Frame.{Frame}
 use Rattle.frames.specs.Widths.{places, recordWords, dequeStride}
-use Rattle.frames.specs.Frames.{frameAt, setFrame, withOutstanding, withSuspended, withRoot, withChild, childOf, freePlace, mainFrame, initPlaces, initFrames}
+use Rattle.frames.specs.Frames.{frameAt, setFrame, withOutstanding, withSuspended, withRoot, withReturning, withChild, withoutChild, asReturning, childOf, freePlace, mainFrame, initPlaces, initFrames}
 use Rattle.frames.specs.Deques.{size, setSize, place, setPlace, bottom, top, push, pop, shiftUp, dropTop, initDeques}
-use Rattle.frames.specs.Steps.{Table, acting, spawn, resumes, ended, parentAfter, parentPlace, parentFrame, return, steal, sync}
+use Rattle.frames.specs.Steps.{Table, acting, spawn, suspend, endFrame, resumes, resume, goOn, steal, sync}
 
 -- ---- a record
 
@@ -25,6 +25,7 @@ pub record FrameWords (f : Frame) : Type 0 where
   pub outstanding : f .outstanding < 4294967296
   pub suspended : f .suspended < 4294967296
   pub root : f .root < 4294967296
+  pub returning : f .returning < 4294967296
 
 pub words-frameAt : (fs : List ℕ) (p : ℕ) → Words fs → FrameWords (frameAt fs p)
 unfolding frameAt
@@ -36,6 +37,7 @@ words-frameAt fs p h =
       outstanding = h (recordWords * p + 3);
       suspended = h (recordWords * p + 4);
       root = h (recordWords * p + 5);
+      returning = h (recordWords * p + 6);
     }
 
 pub words-setFrame : (fs : List ℕ) (p : ℕ) (f : Frame) → Words fs → FrameWords f → Words (setFrame fs p f)
@@ -50,23 +52,27 @@ words-setFrame fs p f h F =
     let B : Words b = words-set a (recordWords * p + 1) (f .parent) A (F .parent) in
     let C : Words c = words-set b (recordWords * p + 2) (f .depth) B (F .depth) in
     let D : Words d = words-set c (recordWords * p + 3) (f .outstanding) C (F .outstanding) in
-    words-set e (recordWords * p + 5) (f .root) (words-set d (recordWords * p + 4) (f .suspended) D (F .suspended)) (F .root)
+    let E : Words e = words-set d (recordWords * p + 4) (f .suspended) D (F .suspended) in
+    words-set (set e (recordWords * p + 5) (f .root)) (recordWords * p + 6) (f .returning) (words-set e (recordWords * p + 5) (f .root) E (F .root)) (F .returning)
 
 module _ (f : Frame) (F : FrameWords f) where
   words-outstanding : (n : ℕ) → n < 4294967296 → FrameWords (withOutstanding f n)
-  words-outstanding n h = record { live = F .live; parent = F .parent; depth = F .depth; outstanding = h; suspended = F .suspended; root = F .root }
+  words-outstanding n h = record { live = F .live; parent = F .parent; depth = F .depth; outstanding = h; suspended = F .suspended; root = F .root; returning = F .returning }
 
   words-suspended : (s : ℕ) → s < 4294967296 → FrameWords (withSuspended f s)
-  words-suspended s h = record { live = F .live; parent = F .parent; depth = F .depth; outstanding = F .outstanding; suspended = h; root = F .root }
+  words-suspended s h = record { live = F .live; parent = F .parent; depth = F .depth; outstanding = F .outstanding; suspended = h; root = F .root; returning = F .returning }
 
   pub words-root : (r : ℕ) → r < 4294967296 → FrameWords (withRoot f r)
-  words-root r h = record { live = F .live; parent = F .parent; depth = F .depth; outstanding = F .outstanding; suspended = F .suspended; root = h }
+  words-root r h = record { live = F .live; parent = F .parent; depth = F .depth; outstanding = F .outstanding; suspended = F .suspended; root = h; returning = F .returning }
+
+  words-returning : (b : ℕ) → b < 4294967296 → FrameWords (withReturning f b)
+  words-returning b h = record { live = F .live; parent = F .parent; depth = F .depth; outstanding = F .outstanding; suspended = F .suspended; root = F .root; returning = h }
 
   words-childOf : (p : ℕ) → p < 4294967296 → FrameWords (childOf f p)
-  words-childOf p h = record { live = omega arith; parent = h; depth = plus-word (f .depth) 1; outstanding = omega arith; suspended = omega arith; root = F .root }
+  words-childOf p h = record { live = omega arith; parent = h; depth = plus-word (f .depth) 1; outstanding = omega arith; suspended = omega arith; root = F .root; returning = omega arith }
 
 words-freePlace : (next : ℕ) → next < 4294967296 → FrameWords (freePlace next)
-words-freePlace next h = record { live = omega arith; parent = h; depth = omega arith; outstanding = omega arith; suspended = omega arith; root = omega arith }
+words-freePlace next h = record { live = omega arith; parent = h; depth = omega arith; outstanding = omega arith; suspended = omega arith; root = omega arith; returning = omega arith }
 
 -- ---- a deque
 
@@ -140,19 +146,26 @@ module _ (t : Table) (w : ℕ) (T : TableWords t) where
         place = words-frameAt (t .frames) (t .«free_place») (T .frames) .parent;
       }
 
-  words-ended : TableWords (ended t w)
-  words-ended =
-      record {
-        deques = words-pop (t .deques) w (T .deques);
-        frames = words-setFrame (t .frames) (bottom (t .deques) w) (freePlace (t .«free_place»)) (T .frames) (words-freePlace (t .«free_place») (T .place));
-        place = bottom-word (t .deques) w (T .deques);
-      }
+  -- the bottom frame leaves its deque
+  words-suspend : (f : Frame) → FrameWords f → TableWords (suspend t w f)
+  words-suspend f F = record { deques = words-pop (t .deques) w (T .deques); frames = words-setFrame (t .frames) (bottom (t .deques) w) f (T .frames) F; place = T .place }
 
-  words-parentAfter : (q : ℕ) (f : Frame) → q < 4294967296 → FrameWords f → TableWords (parentAfter t w q f)
-  words-parentAfter q f h F =
-      elim (decided (resumes (size (t .deques) w) f)) [
-        | inl e ↦ rw e (record { deques = words-push (t .deques) w (T .deques) q h; frames = words-setFrame (t .frames) q (withSuspended f 0) (T .frames) (words-suspended f F 0 (omega arith)); place = T .place })
-        | inr e ↦ rw e (record { deques = T .deques; frames = words-setFrame (t .frames) q f (T .frames) F; place = T .place })
+  pub words-waiting : TableWords (suspend t w (asReturning (acting t w)))
+  words-waiting =
+      let f = withSuspended (acting t w) 1 in
+      words-suspend (asReturning (acting t w)) (words-returning f (words-suspended (acting t w) words-acting 1 (omega arith)) 1 (omega arith))
+
+  pub words-goOn : (q : ℕ) → q < 4294967296 → TableWords (goOn t w q)
+  unfolding goOn
+  words-goOn q h =
+      let f = frameAt (t .frames) q in
+      elim (decided (resumes f)) [
+        | inl e ↦ rw e (record {
+          deques = words-push (t .deques) w (T .deques) q h;
+          frames = words-setFrame (t .frames) q (withSuspended f 0) (T .frames) (words-suspended f (words-frameAt (t .frames) q (T .frames)) 0 (omega arith));
+          place = T .place;
+        })
+        | inr e ↦ rw e T
       ]
 
   pub words-sync : TableWords (sync t w)
@@ -160,30 +173,25 @@ module _ (t : Table) (w : ℕ) (T : TableWords t) where
   words-sync =
       elim (decided (eqb (acting t w .outstanding) 0)) [
         | inl e ↦ rw e T
-        | inr e ↦
-            rw e
-            (record {
-              deques = words-pop (t .deques) w (T .deques);
-              frames = words-setFrame (t .frames) (bottom (t .deques) w) (withSuspended (acting t w) 1) (T .frames) (words-suspended (acting t w) words-acting 1 (omega arith));
-              place = T .place;
-            })
+        | inr e ↦ rw e (words-suspend (withSuspended (acting t w) 1) (words-suspended (acting t w) words-acting 1 (omega arith)))
       ]
+
+pub words-endFrame : (fs : List ℕ) (free p : ℕ) → free < 4294967296 → Words fs → Words (endFrame fs free p)
+unfolding endFrame
+words-endFrame fs free p h F =
+    let q : ℕ = frameAt fs p .parent in
+    let g : Frame = frameAt fs q in
+    let G : FrameWords g = words-frameAt fs q F in
+    let freed : Words (setFrame fs p (freePlace free)) = words-setFrame fs p (freePlace free) F (words-freePlace free h) in
+    elim (decided (eqb q none)) [
+      | inl e ↦ rw e freed
+      | inr e ↦ rw e (words-setFrame (setFrame fs p (freePlace free)) q (withoutChild g) freed (words-outstanding g G (g .outstanding - 1) (minus-word (g .outstanding) 1 (G .outstanding))))
+    ]
 
 pub words-steal : (t : Table) (w v : ℕ) → TableWords t → TableWords (steal t w v)
 unfolding steal
 words-steal t w v T =
     record { deques = words-push (dropTop (t .deques) v) w (words-dropTop (t .deques) v (T .deques)) (top (t .deques) v) (top-word (t .deques) v (T .deques)); frames = T .frames; place = T .place }
-
-pub words-return : (t : Table) (w : ℕ) → TableWords t → TableWords (return t w)
-unfolding return
-words-return t w T =
-    let q : ℕ = parentPlace t w in
-    let g : Frame = frameAt (t .frames) q in
-    let G : FrameWords g = words-frameAt (t .frames) q (T .frames) in
-    elim (decided (eqb q none)) [
-      | inl e ↦ rw e (words-ended t w T)
-      | inr e ↦ rw e (words-parentAfter (ended t w) w (words-ended t w T) q (parentFrame t w) (words-acting t w T .parent) (words-outstanding g G (g .outstanding - 1) (minus-word (g .outstanding) 1 (G .outstanding))))
-    ]
 
 -- ---- the start
 
@@ -199,7 +207,7 @@ unfolding initFrames
 words-initFrames n = words-initPlaces (places - 1) (setFrame (replicate n 0) 0 (mainFrame 0)) 1 (words-setFrame (replicate n 0) 0 (mainFrame 0) (words-zeros n) main)
   where
     main : FrameWords (mainFrame 0)
-    main = record { live = omega arith; parent = omega arith; depth = omega arith; outstanding = omega arith; suspended = omega arith; root = omega arith }
+    main = record { live = omega arith; parent = omega arith; depth = omega arith; outstanding = omega arith; suspended = omega arith; root = omega arith; returning = omega arith }
 
 pub words-initDeques : (n : ℕ) → Words (initDeques (replicate n 0))
 unfolding initDeques

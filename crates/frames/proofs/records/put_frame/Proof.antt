@@ -1,5 +1,4 @@
--- Six stores, as the definition has them; each leaves the length.
-use mathlib.Core.Path.{refl}
+-- Seven stores, as the definition has them; each leaves the length.
 use native.Mathlib.Omega.{arith}
 use lib.ListN.{length-set}
 use borrow.Author.Needs.{needs}
@@ -22,9 +21,12 @@ slice-write-frames-5 c = simp length-set (omega arith)
 slice-write-frames-6 : tie.Need-slice-write-frames-6
 slice-write-frames-6 c = simp length-set (omega arith)
 
+slice-write-frames-7 : tie.Need-slice-write-frames-7
+slice-write-frames-7 c = simp length-set (omega arith)
+
 returns : tie.Need-returns
 unfolding setFrame
-returns c = refl
+returns c = rw (c .start-of .ensures)
 
 pub put-frame-spec : {M : Type 1} → statement M
 put-frame-spec =
@@ -48,5 +50,8 @@ put-frame-spec =
     (λ c. search needs)
     (λ c. search needs)
     slice-write-frames-6
+    (λ c. search needs)
+    (λ c. search needs)
+    slice-write-frames-7
     (λ c. search needs)
     returns)

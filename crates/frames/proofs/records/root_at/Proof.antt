@@ -1,5 +1,4 @@
 -- One load, as the definition has it.
-use mathlib.Core.Path.{refl}
 use borrow.Author.Needs.{needs}
 use Rattle.frames.specs.Frames.{frameAt}
 use Rattle.frames.proofs.records.root_at.Statement.{statement}
@@ -7,7 +6,7 @@ use Rattle.frames.proofs.records.root_at.Tie as tie
 
 returns : tie.Need-returns
 unfolding frameAt
-returns c = refl
+returns c = rw (c .before .start-of .ensures)
 
 pub root-at-spec : {M : Type 1} → statement M
 root-at-spec = tie.close (tie.spec (λ c. search needs) (λ c. search needs) (λ c. search needs) (λ c. search needs) returns)

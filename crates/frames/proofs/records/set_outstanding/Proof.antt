@@ -5,7 +5,9 @@ use Rattle.frames.proofs.records.set_outstanding.Statement.{statement}
 use Rattle.frames.proofs.records.set_outstanding.Tie as tie
 
 returns : tie.Need-returns
-returns c = outstanding-set (c .args .frames .now) (c .args .p) (c .args .n)
+returns c =
+    let s = c .before .before in
+    rw (c .start-of .ensures) (outstanding-set (s .args .frames .now) (s .args .p) (s .args .n))
 
 pub set-outstanding-spec : {M : Type 1} → statement M
 set-outstanding-spec = tie.close (tie.spec (λ c. search needs) (λ c. search needs) (λ c. search needs) (λ c. search needs) (λ c. search needs) returns)

@@ -5,7 +5,9 @@ use Rattle.frames.proofs.records.set_root.Statement.{statement}
 use Rattle.frames.proofs.records.set_root.Tie as tie
 
 returns : tie.Need-returns
-returns c = root-set (c .args .frames .now) (c .args .p) (c .args .root)
+returns c =
+    let s = c .before .before in
+    rw (c .start-of .ensures) (root-set (s .args .frames .now) (s .args .p) (s .args .root))
 
 pub set-root-spec : {M : Type 1} → statement M
 set-root-spec = tie.close (tie.spec (λ c. search needs) (λ c. search needs) (λ c. search needs) (λ c. search needs) (λ c. search needs) returns)

@@ -5,7 +5,9 @@ use Rattle.frames.proofs.records.set_suspended.Statement.{statement}
 use Rattle.frames.proofs.records.set_suspended.Tie as tie
 
 returns : tie.Need-returns
-returns c = suspended-set (c .args .frames .now) (c .args .p) (c .args .s)
+returns c =
+    let s = c .before .before in
+    rw (c .start-of .ensures) (suspended-set (s .args .frames .now) (s .args .p) (s .args .s))
 
 pub set-suspended-spec : {M : Type 1} → statement M
 set-suspended-spec = tie.close (tie.spec (λ c. search needs) (λ c. search needs) (λ c. search needs) (λ c. search needs) (λ c. search needs) returns)
