@@ -5,17 +5,17 @@ use mathlib.Core.List.{List}
 use Prim.Native.Nat.{ℕ, zero, suc, _+_, _-_, _*_, _/_, _<_, _≤_}
 use native.Mathlib.Numerals.{sub-one}
 use native.Mathlib.Omega.{arith}
-use lib.ListN.{length, getD, set}
+use lib.ListN.{getD, set}
 use Rattle.words.specs.Basics.{none}
 use Rattle.words.specs.Tests.{true≢false}
 use Rattle.sizes.specs.Bits.{bit-lt}
 use Rattle.sizes.specs.Sizes.{bit}
 use Rattle.pool.specs.Pool.{refcount, left, child, sibling, setNode, setRefcount, setLink, pathNode, copyPath, renew, firstShared, writeFrom, write}
 use Rattle.pool.specs.Links.{Link, PathIn, CopyIn, IsShared, WriteIn, Wrote}
-use Rattle.pool.specs.Theory.Links.{path-here, path-on}
 use Rattle.pool.specs.Theory.Write.{first-here, first-none, first-below, from-root, from-below}
-use Rattle.pool.proofs.Words.{child-word, link-word}
+use Rattle.pool.proofs.Words.{link-word}
 use Rattle.pool.proofs.Laws.{parts, path-step, path-end}
+use Rattle.pool.proofs.Walk.{Visited, link-is, next-visited}
 
 -- ---- the new path
 
@@ -51,17 +51,12 @@ first-turn : (l : ℕ) (ws : List ℕ) (a i x : ℕ) → 0 < l → refcount ws i
 first-turn zero ws a i x h c = absurd (omega arith)
 first-turn (suc l) ws a i x h c = rw sub-one (sym (first-below ws a i x l c))
 
--- the node i of level l, at this place, has one holder, and the walk from here on finds p
+-- the node of level l at this place has one holder, and the walk from here on finds p
 pub record Walked (N l : ℕ) (ws : List ℕ) (x at : ℕ) (p : ℕ × ℕ × ℕ) : Type 0 where
   pub above : ℕ
-  pub node : ℕ
-  pub place : at ≡ 4 * node
-  pub path : PathIn N ws l node x
-  pub one : refcount ws node ≤ 1
-  pub finds : firstShared l ws above node x ≡ p
-
-pub walked-within : {N l : ℕ} {ws : List ℕ} {x at : ℕ} {p : ℕ × ℕ × ℕ} → Walked N l ws x at p → at < 4 * N
-walked-within {N} {l} {ws} {x} A = omega (arith, A .place, path-here N ws l (A .node) x (A .path))
+  pub visited : Visited N l ws x at
+  pub one : refcount ws (visited .node) ≤ 1
+  pub finds : firstShared l ws above (visited .node) x ≡ p
 
 -- the root
 pub root-shared : (h : ℕ) (ws : List ℕ) (root x : ℕ) {at link c : ℕ} → at ≡ 4 * root → c ≡ getD ws at 0 → 1 < c → IsShared h x true h at link (firstShared h ws root root x)
@@ -71,52 +66,36 @@ root-shared h ws root x e d c = (let big : 1 < refcount ws root = subst (λ k. 1
 
 pub root-alone : (N h : ℕ) (ws : List ℕ) (root x : ℕ) {at c : ℕ} → PathIn N ws h root x → at ≡ 4 * root → c ≡ getD ws at 0 → c ≤ 1 → Walked N h ws x at (firstShared h ws root root x)
 unfolding refcount
-root-alone N h ws root x P e d c = record { above = root; node = root; place = e; path = P; one = subst (λ k. k ≤ 1) (d ∙ ap (λ k. getD ws k 0) e) c; finds = refl }
+root-alone N h ws root x P e d c = record { above = root; visited = record { node = root; place = e; path = P }; one = subst (λ k. k ≤ 1) (d ∙ ap (λ k. getD ws k 0) e) c; finds = refl }
 
-module _ {N l : ℕ} {ws : List ℕ} {x at : ℕ} {p : ℕ × ℕ × ℕ} (A : Walked N l ws x at p) (h : 0 < l) {link : ℕ} (el : link ≡ at + 1 + bit (l - 1) x) where
-  here : A .node < N
-  here = path-here N ws l (A .node) x (A .path)
+module _ {N l : ℕ} {ws : List ℕ} {x at : ℕ} {p : ℕ × ℕ × ℕ} (A : Walked N l ws x at p) (h : 0 < l) {link : ℕ} (el : link ≡ at + 1 + bit (l - 1) x) {next : ℕ} (en : next ≡ 4 * getD ws link 0) where
+  abbrev node : ℕ
+  node = A .visited .node
 
-  abbrev down : ℕ
-  down = child ws (A .node) (bit (l - 1) x)
+  abbrev on : Visited N (l - 1) ws x next
+  on = next-visited (A .visited) h el en
 
-  on : PathIn N ws (l - 1) down x
-  on = path-on N ws l (A .node) x h (A .path)
+  below : firstShared (l - 1) ws node (on .node) x ≡ p
+  below = first-turn l ws (A .above) node x h (A .one) ∙ A .finds
 
-  link-is : link ≡ 4 * A .node + 1 + bit (l - 1) x
-  link-is = omega (arith, el, A .place)
+  module _ {c : ℕ} (ec : c ≡ getD ws next 0) where
+    holders-are : c ≡ refcount ws (on .node)
+    unfolding refcount
+    holders-are = ec ∙ ap (λ k. getD ws k 0) (on .place)
 
-  pub link-in : 4 * N ≤ length ws → link < length ws
-  link-in m = omega (arith, link-is, bit-lt (l - 1) x, here)
+    -- the next node has one holder too
+    pub goes-on : c ≤ 1 → Walked N (l - 1) ws x next p
+    goes-on b = record { above = node; visited = on; one = omega (arith, holders-are); finds = below }
 
-  module _ {next : ℕ} (en : next ≡ 4 * getD ws link 0) where
-    next-is : next ≡ 4 * down
-    next-is = en ∙ ap (λ k. 4 * k) (ap (λ k. getD ws k 0) link-is ∙ child-word ws (A .node) (bit (l - 1) x) (bit-lt (l - 1) x))
-
-    pub next-in : 4 * N ≤ length ws → next < length ws
-    next-in m = omega (arith, next-is, path-here N ws (l - 1) down x on)
-
-    below : firstShared (l - 1) ws (A .node) down x ≡ p
-    below = first-turn l ws (A .above) (A .node) x h (A .one) ∙ A .finds
-
-    module _ {c : ℕ} (ec : c ≡ getD ws next 0) where
-      holders-are : c ≡ refcount ws down
-      unfolding refcount
-      holders-are = ec ∙ ap (λ k. getD ws k 0) next-is
-
-      -- the next node has one holder too
-      pub goes-on : c ≤ 1 → Walked N (l - 1) ws x next p
-      goes-on b = record { above = A .node; node = down; place = next-is; path = on; one = omega (arith, holders-are); finds = below }
-
-      -- it has more
-      pub next-shared : {k : ℕ} → 1 < c → IsShared k x true (l - 1) next link p
-      next-shared b = (let f = sym (first-here ws (A .node) down x (l - 1) (omega (arith, holders-are))) ∙ below in
-          rw (sym f) (record { rest = refl; place = next-is; linked = λ _ _. link-is }))
+    -- it has more
+    pub next-shared : {k : ℕ} → 1 < c → IsShared k x true (l - 1) next link p
+    next-shared b = (let f = sym (first-here ws node (on .node) x (l - 1) (omega (arith, holders-are))) ∙ below in
+        rw (sym f) (record { rest = refl; place = on .place; linked = λ _ _. link-is (A .visited) h el }))
 
 -- the leaf
 pub leaf-alone : {N l h : ℕ} {ws : List ℕ} {x at link : ℕ} {p : ℕ × ℕ × ℕ} → Walked N l ws x at p → l ≤ 0 → IsShared h x false 0 at link p
-leaf-alone {N} {l} {h} {ws} {x} A b = (let f = sym (first-none ws (A .above) (A .node) x (A .one)) ∙ ap (λ k. firstShared k ws (A .above) (A .node) x) {x = 0} {y = l} (omega arith) ∙ A .finds in
-    rw (sym f) (record { rest = refl; place = A .place; linked = λ e. absurd (true≢false (sym e)) }))
+leaf-alone {N} {l} {h} {ws} {x} A b = (let f = sym (first-none ws (A .above) (A .visited .node) x (A .one)) ∙ ap (λ k. firstShared k ws (A .above) (A .visited .node) x) {x = 0} {y = l} (omega arith) ∙ A .finds in
+    rw (sym f) (record { rest = refl; place = A .visited .place; linked = λ e. absurd (true≢false (sym e)) }))
 
 -- ---- the write
 

@@ -12,13 +12,30 @@ use crate::node::store_node;
 use crate::refs::retain;
 use words::sub;
 
-// The child of node i of level l + 1 on the way to splitter x: its link is indexed by the bit, with no branch.
-fn child_in(pool: &[u32], nodes: u32, i: u32, l: u32, x: u32) -> u32
-    requires { ⌜ (4 * nodes ≤ length (now pool)) × (i < nodes) × (l < 32) ⌝ }
-    ensures { λ r. ⌜ r ≡ child (now (pool .entry)) i (bit l x) ⌝ }
+// A node is told by the place of its first word, so that the walk shifts it once.
+
+// The place of node i.
+fn place_of(i: u32) -> usize
+    ensures { λ r. ⌜ r ≡ 4 * i ⌝ }
+{
+    4 * (i as usize)
+}
+
+// The place of the link on the way to splitter x, of the node of level l + 1 at this place: indexed by the bit, with no branch.
+fn link_at(at: usize, l: u32, x: u32) -> usize
+    requires { ⌜ (at ≤ 17179869180) × (l < 32) ⌝ }
+    ensures { λ r. ⌜ r ≡ at + 1 + bit l x ⌝ }
 {
     let b = ((x >> l) & 1) as usize;
-    pool[4 * (i as usize) + 1 + b]
+    at + 1 + b
+}
+
+// The place of the node that this link leads to.
+fn linked(pool: &[u32], link: usize) -> usize
+    requires { ⌜ link < length (now pool) ⌝ }
+    ensures { λ r. ⌜ r ≡ 4 * getD (now (pool .entry)) link 0 ⌝ }
+{
+    place_of(pool[link])
 }
 
 // What the tree holds at splitter x. The walk meets nodes only, so no index is tested.
@@ -27,12 +44,23 @@ pub fn read_at(pool: &[u32], nodes: u32, height: u32, root: u32, x: u32) -> u32
     ensures { λ r. ⌜ r ≡ readAt height (now (pool .entry)) root x ⌝ }
 {
     let mut l = height;
-    let mut i = root;
+    let mut at = place_of(root);
     while l > 0 {
         l -= 1;
-        i = child_in(pool, nodes, i, l, x);
+        at = linked(pool, link_at(at, l, x));
     }
-    pool[4 * (i as usize) + 3]
+    pool[at + 3]
+}
+
+// ---- the new path
+
+// The child of node i of level l + 1 on the way to splitter x: its link is indexed by the bit, with no branch.
+fn child_in(pool: &[u32], nodes: u32, i: u32, l: u32, x: u32) -> u32
+    requires { ⌜ (4 * nodes ≤ length (now pool)) × (i < nodes) × (l < 32) ⌝ }
+    ensures { λ r. ⌜ r ≡ child (now (pool .entry)) i (bit l x) ⌝ }
+{
+    let b = ((x >> l) & 1) as usize;
+    pool[4 * (i as usize) + 1 + b]
 }
 
 // The next free node after node i.
@@ -102,38 +130,12 @@ pub fn set_value(pool: &mut [u32], at: usize, v: u32)
 
 // ---- where a write takes nodes
 
-// A node is told by the place of its first word, so that the walk shifts it once.
-
-// The place of node i.
-fn place_of(i: u32) -> usize
-    ensures { λ r. ⌜ r ≡ 4 * i ⌝ }
-{
-    4 * (i as usize)
-}
-
 // The holders of the node at this place.
 fn holders_at(pool: &[u32], at: usize) -> u32
     requires { ⌜ at < length (now pool) ⌝ }
     ensures { λ r. ⌜ r ≡ getD (now (pool .entry)) at 0 ⌝ }
 {
     pool[at]
-}
-
-// The place of the link on the way to splitter x, of the node of level l + 1 at this place: indexed by the bit, with no branch.
-fn link_at(at: usize, l: u32, x: u32) -> usize
-    requires { ⌜ (at ≤ 17179869180) × (l < 32) ⌝ }
-    ensures { λ r. ⌜ r ≡ at + 1 + bit l x ⌝ }
-{
-    let b = ((x >> l) & 1) as usize;
-    at + 1 + b
-}
-
-// The place of the node that this link leads to.
-fn linked(pool: &[u32], link: usize) -> usize
-    requires { ⌜ link < length (now pool) ⌝ }
-    ensures { λ r. ⌜ r ≡ 4 * getD (now (pool .entry)) link 0 ⌝ }
-{
-    place_of(pool[link])
 }
 
 // The first node with more than one holder on the way to a splitter: its level, its place and that of the link to it. If none is

@@ -5,7 +5,8 @@ use native.Mathlib.Omega.{arith}
 use borrow.Author.Needs.{needs}
 use Rattle.pool.specs.Pool.{firstShared}
 use Rattle.pool.specs.Theory.Links.{path-here}
-use Rattle.pool.proofs.Writing.{Walked, walked-within, root-shared, root-alone, link-in, next-in, goes-on, next-shared, leaf-alone}
+use Rattle.pool.proofs.Walk.{visited-within, link-in, next-visited}
+use Rattle.pool.proofs.Writing.{Walked, root-shared, root-alone, goes-on, next-shared, leaf-alone}
 use Rattle.pool.proofs.tree.first_shared.Statement.{statement}
 use Rattle.pool.proofs.tree.first_shared.Tie as tie
 
@@ -35,14 +36,14 @@ loop-holds c =
 link-at-requires : tie.Need-link-at-requires Inv-loop μ-loop
 link-at-requires c κs =
     let turn = c .before in
-    (omega (arith, walked-within (turn .loop .inv .1)), omega (arith, turn .loop .inv .0))
+    (omega (arith, visited-within (turn .loop .inv .1 .visited)), omega (arith, turn .loop .inv .0))
 
 linked-requires : tie.Need-linked-requires Inv-loop μ-loop
 linked-requires c κs =
     let test = c .before in
     let turn = test .before in
     let s = turn .before .before .before .before .before in
-    link-in (turn .loop .inv .1) (test .loop-test .taken) (c .link-at .ensures) (s .pre .0)
+    link-in (turn .loop .inv .1 .visited) (test .loop-test .taken) (c .link-at .ensures) (s .pre .0)
 
 holders-at-requires-2 : tie.Need-holders-at-requires-2 Inv-loop μ-loop
 holders-at-requires-2 c κs =
@@ -50,7 +51,7 @@ holders-at-requires-2 c κs =
     let test = link .before in
     let turn = test .before in
     let s = turn .before .before .before .before .before in
-    next-in (turn .loop .inv .1) (test .loop-test .taken) (link .link-at .ensures) (c .linked .ensures) (s .pre .0)
+    omega (arith, s .pre .0, visited-within (next-visited (turn .loop .inv .1 .visited) (test .loop-test .taken) (link .link-at .ensures) (c .linked .ensures)))
 
 returns-2 : tie.Need-returns-2 Inv-loop μ-loop
 returns-2 c =
