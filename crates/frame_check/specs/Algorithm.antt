@@ -107,9 +107,13 @@ parentSound f g =
 abbrev pub placedSound : Frame → ℕ → ℕ → Bool
 placedSound f c n = (eqb n 1 && eqb (f .suspended) 0) || (eqb n 0 && (eqb (f .suspended) 1 && ltb 0 c))
 
--- the same, and its parent g
+-- R-3: "1 on a frame waiting so, which is suspended, else 0"
+abbrev pub returningSound : Frame → Bool
+returningSound f = eqb (f .returning) 0 || (eqb (f .returning) 1 && eqb (f .suspended) 1)
+
+-- of a live frame and its parent g, all of this
 abbrev pub liveSound : Frame → Frame → ℕ → ℕ → Bool
-liveSound f g c n = eqb (f .outstanding) c && (parentSound f g && placedSound f c n)
+liveSound f g c n = eqb (f .outstanding) c && (parentSound f g && (placedSound f c n && returningSound f))
 
 abbrev pub placeSound : List ℕ → ℕ → ℕ → ℕ → Bool
 placeSound fs p c n = implies (liveAt fs p) (liveSound (frameAt fs p) (frameAt fs (frameAt fs p .parent)) c n)
@@ -129,7 +133,8 @@ next fs p = frameAt fs p .parent
 
 -- zero but for the link
 abbrev pub freeSound : Frame → Bool
-freeSound f = eqb (f .live) 0 && (eqb (f .depth) 0 && (eqb (f .outstanding) 0 && (eqb (f .suspended) 0 && eqb (f .root) 0)))
+freeSound f =
+    eqb (f .live) 0 && (eqb (f .depth) 0 && (eqb (f .outstanding) 0 && (eqb (f .suspended) 0 && (eqb (f .root) 0 && eqb (f .returning) 0))))
 
 -- the chain from place p on has just c places, all of them free
 unfoldable pub chainFrom : List ℕ → ℕ → ℕ → Bool

@@ -5,7 +5,7 @@ ghost use lib.ListN.{length, getD};
 ghost use Rattle.frames.specs.Widths.{places, frameWords};
 ghost use mathlib.Core.Bool.{cond};
 ghost use Rattle.words.specs.Basics.{all};
-ghost use Rattle.frame_check.specs.Algorithm.{parentSound, placedSound, liveSound, freeSound, placeTallied, liveAt, lives, chainFrom};
+ghost use Rattle.frame_check.specs.Algorithm.{parentSound, placedSound, returningSound, liveSound, freeSound, placeTallied, liveAt, lives, chainFrom};
 use super::tallies::DEQUE_STEP;
 use frames::Frame;
 use frames::NONE;
@@ -30,10 +30,18 @@ fn placed_sound(f: Frame, children: u32, seen: u32) -> bool
     ((seen == 1) & (f.suspended == 0)) | ((seen == 0) & ((f.suspended == 1) & (0 < children)))
 }
 
+// R-3, the last word of a live frame: 1 if it waits in its return, and then it is suspended, else 0.
+fn returning_sound(f: Frame) -> bool
+    ensures { λ r. ⌜ r ≡ returningSound f ⌝ }
+{
+    (f.returning == 0) | ((f.returning == 1) & (f.suspended == 1))
+}
+
 fn live_sound(f: Frame, g: Frame, children: u32, seen: u32) -> bool
     ensures { λ r. ⌜ r ≡ liveSound f g children seen ⌝ }
 {
-    (f.outstanding == children) & (parent_sound(f, g) & placed_sound(f, children, seen))
+    (f.outstanding == children)
+        & (parent_sound(f, g) & (placed_sound(f, children, seen) & returning_sound(f)))
 }
 
 // A live frame at place p, with its tallies of children and of places of deques.
@@ -83,7 +91,9 @@ pub fn places_sound(frames: &[u32], tallies: &[u32], live: u32) -> bool
 fn free_sound(f: Frame) -> bool
     ensures { λ r. ⌜ r ≡ freeSound f ⌝ }
 {
-    (f.live == 0) & ((f.depth == 0) & ((f.outstanding == 0) & ((f.suspended == 0) & (f.root == 0))))
+    (f.live == 0)
+        & ((f.depth == 0)
+            & ((f.outstanding == 0) & ((f.suspended == 0) & ((f.root == 0) & (f.returning == 0)))))
 }
 
 // Has the chain from place first on just so many places, all of them free? No place is on such a chain twice: it would not end.

@@ -1,5 +1,5 @@
--- Document 01's "Soundness" on small states, computed: a few sound ones, and for each sentence changes of a sound one after which
--- this sentence alone is false.
+-- Document 01's "Soundness" with R-3's sentence on small states, computed: a few sound ones, and for each sentence changes of a
+-- sound one after which this sentence alone is false.
 use mathlib.Core.Path.{_≡_, refl, sym, ap, _∙_}
 use mathlib.Core.Bool.{Bool, true, cond, _||_, _&&_}
 use mathlib.Core.Logic.{inl, inr}
@@ -15,13 +15,13 @@ use Rattle.words.specs.Tests.{decided}
 use Rattle.words.specs.Counting.{all-of}
 use Rattle.sizes.specs.Sizes.{height, width, treeNodes}
 use Rattle.pool.specs.Pool.{refcount, left, right, value, setNode, initLevel, initInner, initLeaves, initFree, initPool}
-use Rattle.frames.specs.Widths.{maxWorkers, places, dequePlaces, dequeStride}
+use Rattle.frames.specs.Widths.{maxWorkers, places, recordWords, dequePlaces, dequeStride}
 use Rattle.frames.specs.declared.Frame.{Frame}
-use Rattle.frames.specs.Frames.{frameAt, setFrame, initPlaces, initFrames}
+use Rattle.frames.specs.Frames.{frameAt, setFrame, asReturning, initPlaces, initFrames}
 use Rattle.frames.specs.Deques.{size, setSize, place, setPlace, bottom, top, push, pop, shiftUp, dropTop, initDeques}
-use Rattle.frames.specs.Steps.{Table, spawn, steal, sync}
+use Rattle.frames.specs.Steps.{Table, acting, spawn, suspend, steal, sync}
 use Rattle.soundness.specs.Numbers.{numbersIn}
-use Rattle.soundness.specs.Soundness.{oneMain, parentsLive, countsRight, placedOnce, holdLive, absentEmpty, restZero, linked, onlyBelow, placesFree, treeAt, nodesAt, rootsBelow}
+use Rattle.soundness.specs.Soundness.{oneMain, parentsLive, countsRight, placedOnce, returningRight, holdLive, absentEmpty, restZero, linked, onlyBelow, placesFree, treeAt, nodesAt, rootsBelow}
 use Rattle.soundness.specs.Soundness.{Sentence, says, words, holds, numberSentences, freePlaces, sentences}
 
 -- ---- sound states
@@ -46,13 +46,13 @@ with holders freeNode t =
 -- c free places in rising order, the second being p
 rising : ℕ → ℕ → List ℕ
 rising zero p = []
-rising (suc c) p = 0 ∷ cond (eqb c 0) none p ∷ 0 ∷ 0 ∷ 0 ∷ 0 ∷ rising c (suc p)
+rising (suc c) p = 0 ∷ cond (eqb c 0) none p ∷ 0 ∷ 0 ∷ 0 ∷ 0 ∷ 0 ∷ rising c (suc p)
 
 table : Table
-table = record { deques = 1 ∷ replicate 519 0; frames = 1 ∷ none ∷ 0 ∷ 0 ∷ 0 ∷ 0 ∷ rising 63 2; «free_place» = 1 }
+table = record { deques = 1 ∷ replicate 519 0; frames = 1 ∷ none ∷ 0 ∷ 0 ∷ 0 ∷ 0 ∷ 0 ∷ rising 63 2; «free_place» = 1 }
 
 -- the tables at a start
-table-first : (initDeques (replicate 520 0) ≡ table .deques) × (initFrames (replicate 384 0) ≡ table .frames)
+table-first : (initDeques (replicate 520 0) ≡ table .deques) × (initFrames (replicate 448 0) ≡ table .frames)
 unfolding table rising initDeques push setSize setPlace size initFrames initPlaces setFrame
 table-first = (refl, refl)
 
@@ -67,6 +67,10 @@ stolen = with 2 3 (steal (spawn table 0) 1 0)
 -- Main, suspended, and its child 1, on worker 0's deque
 waiting : State
 waiting = with 2 3 (sync (steal (spawn table 0) 1 0) 1)
+
+-- R-3: the same, with Main waiting in its return
+leaving : State
+leaving = let t : Table = steal (spawn table 0) 1 0 in with 2 3 (suspend t 1 (asReturning (acting t 1)))
 
 -- Main, its child 1 and the child 2 of 1, on worker 0's deque
 stacked : State
@@ -85,7 +89,7 @@ three : State
 three = record { numbers = 2 ∷ 3 ∷ 7 ∷ 6 ∷ 1 ∷ []; deques = table .deques; frames = table .frames; pool = initPool (replicate 28 7) 3 7 (10 ∷ 20 ∷ 30 ∷ []) .0 }
 
 sounds : List State
-sounds = start ∷ stolen ∷ waiting ∷ stacked ∷ grown ∷ ended 5 ∷ three ∷ []
+sounds = start ∷ stolen ∷ waiting ∷ leaving ∷ stacked ∷ grown ∷ ended 5 ∷ three ∷ []
 
 -- ---- changes
 
@@ -105,6 +109,7 @@ data Change : Type 0 where
   outstanding : ℕ → ℕ → Change
   suspended : ℕ → ℕ → Change
   root : ℕ → ℕ → Change
+  returning : ℕ → ℕ → Change
   node : ℕ → List ℕ → Change
   nodeHolders : ℕ → ℕ → Change
   nodeLeft : ℕ → ℕ → Change
@@ -118,7 +123,7 @@ setDeques : State → List ℕ → State
 setDeques s ds = record { numbers = s .numbers; deques = ds; frames = s .frames; pool = s .pool }
 
 setField : State → ℕ → ℕ → ℕ → State
-setField s p f v = record { numbers = s .numbers; deques = s .deques; frames = set (s .frames) (6 * p + f) v; pool = s .pool }
+setField s p f v = record { numbers = s .numbers; deques = s .deques; frames = set (s .frames) (recordWords * p + f) v; pool = s .pool }
 
 setPool : State → List ℕ → State
 setPool s ws = record { numbers = s .numbers; deques = s .deques; frames = s .frames; pool = ws }
@@ -137,6 +142,7 @@ changed s (depth p v) = setField s p 2 v
 changed s (outstanding p v) = setField s p 3 v
 changed s (suspended p v) = setField s p 4 v
 changed s (root p v) = setField s p 5 v
+changed s (returning p v) = setField s p 6 v
 changed s (node i vs) = setPool s (setNode (s .pool) i (getD vs 0 0) (getD vs 1 0) (getD vs 2 0) (getD vs 3 0))
 changed s (nodeHolders i v) = setPool s (set (s .pool) (4 * i) v)
 changed s (nodeLeft i v) = setPool s (set (s .pool) (4 * i + 1) v)
@@ -201,6 +207,14 @@ frameRows =
     -- suspended without a child
     start but (inDeque 0 0 ∷ suspended 0 1 ∷ []) ∷
     [])) ∷
+    ("1 on a frame waiting so, which is suspended, else 0; anything else there is unsound." alone (
+    -- 1 on a frame in a deque: Main, and a child
+    start but (returning 0 1 ∷ []) ∷
+    leaving but (returning 1 1 ∷ []) ∷
+    -- the word is not 0 or 1: on a suspended frame, and on one in a deque
+    waiting but (returning 0 2 ∷ []) ∷
+    start but (returning 0 2 ∷ []) ∷
+    [])) ∷
     ("Deques hold live frames only;" alone (
     start but (inDeque 1 1 ∷ atPlace 1 0 5 ∷ []) ∷
     -- past the table, which reads as a dead frame: the range alone cannot be wrong
@@ -226,6 +240,7 @@ frameRows =
     start but (outstanding 5 1 ∷ []) ∷
     start but (suspended 5 1 ∷ []) ∷
     start but (root 5 1 ∷ []) ∷
+    start but (returning 5 1 ∷ []) ∷
     -- not on the chain
     start but (freePlace 2 ∷ []) ∷
     -- twice
@@ -336,7 +351,7 @@ freeQuick fs first =
     below places c && all places (λ p.
     let f : Frame = frameAt fs p in
     (eqb (f .live) 1 && eqb (count p c) 0) ||
-    ((eqb (f .live) 0 && (eqb (f .depth) 0 && (eqb (f .outstanding) 0 && (eqb (f .suspended) 0 && eqb (f .root) 0)))) && eqb (count p c) 1))
+    ((eqb (f .live) 0 && (eqb (f .depth) 0 && (eqb (f .outstanding) 0 && (eqb (f .suspended) 0 && (eqb (f .root) 0 && eqb (f .returning) 0))))) && eqb (count p c) 1))
 
 free-quick : (fs : List ℕ) (first : ℕ) → placesFree fs first ≡ freeQuick fs first
 unfolding placesFree
@@ -349,7 +364,7 @@ tested zero b (s ∷ ss) = says (words s) b ∷ ss
 tested (suc k) b (s ∷ ss) = s ∷ tested k b ss
 
 abbrev testedBy : Bool → Bool → State → List Sentence
-testedBy rest free s = tested 13 rest (tested 16 free (sentences (numbersIn (s .numbers)) (s .deques) (s .frames) (s .pool)))
+testedBy rest free s = tested 14 rest (tested 17 free (sentences (numbersIn (s .numbers)) (s .deques) (s .frames) (s .pool)))
 
 quickIn : State → List String
 quickIn s = failing (testedBy (restQuick (s .deques)) (freeQuick (s .frames) (numbersIn (s .numbers) .«free_place»)) s)
@@ -373,7 +388,7 @@ foundQuick r = map quickIn (r .states)
 at-once : _≡_ {A = List (List String) × List (List (List String)) × List (List (List String)) × List (List (List String))}
     (map quickIn sounds, map foundQuick numberRows, map foundQuick frameRows, map foundQuick poolRows)
     (map (λ s. []) sounds, map said numberRows, map said frameRows, map said poolRows)
-unfolding foundQuick quickIn rising table start stolen waiting stacked grown ended three with setNumber setDeques setField setPool changed _but_ _alone_ sounds numberRows frameRows poolRows failing said bottom top pop shiftUp dropTop spawn steal sync initPool initFree initLeaves initInner initLevel setNode height width treeNodes push setSize setPlace size place setFrame frameAt rootsBelow oneMain parentsLive countsRight placedOnce holdLive absentEmpty linked onlyBelow treeAt nodesAt refcount left right value δ count
+unfolding foundQuick quickIn rising table start stolen waiting leaving stacked grown ended three with setNumber setDeques setField setPool changed _but_ _alone_ sounds numberRows frameRows poolRows failing said bottom top pop shiftUp dropTop spawn steal sync initPool initFree initLeaves initInner initLevel setNode height width treeNodes push setSize setPlace size place setFrame frameAt rootsBelow oneMain parentsLive countsRight placedOnce returningRight holdLive absentEmpty linked onlyBelow treeAt nodesAt refcount left right value δ count
 at-once = refl
 
 quickly : (ts : List Row) → map foundQuick ts ≡ map said ts → map found ts ≡ map said ts

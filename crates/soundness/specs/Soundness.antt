@@ -1,4 +1,5 @@
--- Document 01's paragraph "Soundness", sentence by sentence, as tests. Definitions only.
+-- Document 01's paragraph "Soundness", sentence by sentence, and R-3's sentence on the word of frames that wait in their return,
+-- as tests. Definitions only.
 -- A state is its numbers (`Numbers`), the words ds of the 8 deques and the words fs of the frame table (64 places); ws are the
 -- lent pool's words.
 use mathlib.Core.Bool.{Bool, true, false, cond, not, _||_, _&&_}
@@ -93,6 +94,11 @@ placedOnce ds fs =
     ((eqb (inDeques ds p) 1 && eqb (frameAt fs p .suspended) 0) ||
     (eqb (inDeques ds p) 0 && (eqb (frameAt fs p .suspended) 1 && ltb 0 (children fs p)))))
 
+-- R-3, "Frame records gain a word for it, last": "1 on a frame waiting so, which is suspended, else 0; anything else there is unsound."
+unfoldable pub returningRight : List ℕ → Bool
+returningRight fs =
+    all places (λ p. implies (lives fs p) (eqb (frameAt fs p .returning) 0 || (eqb (frameAt fs p .returning) 1 && eqb (frameAt fs p .suspended) 1)))
+
 -- "Deques hold live frames only"
 unfoldable pub holdLive : List ℕ → List ℕ → Bool
 holdLive ds fs = all maxWorkers (λ w. all (size ds w) (λ k. ltb (place ds w k) places && lives fs (place ds w k)))
@@ -114,13 +120,16 @@ unfoldable pub onlyBelow : List ℕ → List ℕ → Bool
 onlyBelow ds fs =
     all maxWorkers (λ w. all (size ds w - 1) (λ k. all places (λ c. implies (isChild fs (place ds w (suc k)) c) (ltb (suc (suc k)) (size ds w) && eqb c (place ds w (suc (suc k)))))))
 
--- "Free frame places lie once on theirs, all but the link to the next being zero." one step more than places passes its end
+-- "Free frame places lie once on theirs, all but the link to the next being zero.", R-3's word too. One step more than places passes
+-- its end
 abbrev pub freePlaces : List ℕ → ℕ → List ℕ
 freePlaces fs first = follow (suc places) (λ p. frameAt fs p .parent) first
 
 abbrev pub placeFree : List ℕ → ℕ → Bool
 placeFree fs p =
-    eqb (frameAt fs p .live) 0 && (eqb (frameAt fs p .depth) 0 && (eqb (frameAt fs p .outstanding) 0 && (eqb (frameAt fs p .suspended) 0 && eqb (frameAt fs p .root) 0)))
+    eqb (frameAt fs p .live) 0 &&
+    (eqb (frameAt fs p .depth) 0 &&
+    (eqb (frameAt fs p .outstanding) 0 && (eqb (frameAt fs p .suspended) 0 && (eqb (frameAt fs p .root) 0 && eqb (frameAt fs p .returning) 0))))
 
 unfoldable pub placesFree : List ℕ → ℕ → Bool
 placesFree fs first =
@@ -134,6 +143,7 @@ frameSentences workers first ds fs =
     says "Every other live frame has a live parent one shallower." (parentsLive fs) ∷
     says "Outstanding counts are right." (countsRight fs) ∷
     says "Each live frame is either in just one place of one deque and not suspended, or in none and suspended with a live child." (placedOnce ds fs) ∷
+    says "1 on a frame waiting so, which is suspended, else 0; anything else there is unsound." (returningRight fs) ∷
     says "Deques hold live frames only;" (holdLive ds fs) ∷
     says "a worker that does not exist has an empty one;" (absentEmpty workers ds) ∷
     says "deque places past a deque's frames are zero." (restZero ds) ∷

@@ -91,7 +91,8 @@ module _ (workers first : ℕ) (ds fs : List ℕ) (s : Passes workers first ds f
         one-main = one-main;
         parents = λ p b l. live p b l .1 .0 .1;
         outstanding = λ p b l. live p b l .0;
-        placed = λ p b l. live p b l .1 .1;
+        placed = λ p b l. live p b l .1 .1 .0;
+        returning = λ p b l. live p b l .1 .1 .1;
         hold-live = held;
         absent = λ w b. s .fits w b .1 .0;
         within = λ w b. s .fits w b .0;

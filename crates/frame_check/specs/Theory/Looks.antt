@@ -71,5 +71,5 @@ module _ (workers first : ℕ) (ds fs : List ℕ) (F : FramesFacts workers first
         on = on;
         chained = chained;
         one = one;
-        live = λ p b l. (F .outstanding p b l, ((orphan p b l, F .parents p b l), F .placed p b l));
+        live = λ p b l. (F .outstanding p b l, ((orphan p b l, F .parents p b l), (F .placed p b l, F .returning p b l)));
       }

@@ -20,7 +20,7 @@ use Rattle.frames.specs.Widths.{maxWorkers, places, dequePlaces}
 use Rattle.frames.specs.Deques.{size, place}
 use Rattle.soundness.specs.Soundness.{isChild, children, inDeques, freePlaces}
 use Rattle.soundness.specs.Theory.Is.{Is, eq-is, le-is, and-is, or-is, implies-is, cond-is, all-is}
-use Rattle.soundness.specs.Theory.Sentences.{Lives, HasParent, Placed, lives-is, parent-is, placed-is, hold-is, absent-is, zeros-is}
+use Rattle.soundness.specs.Theory.Sentences.{Lives, HasParent, Placed, Returning, lives-is, parent-is, placed-is, returning-is, hold-is, absent-is, zeros-is}
 use Rattle.frame_check.specs.Algorithm.{childStep, dequeStep, childCount, dequeCount, childAt, childIn, tallyChildren}
 use Rattle.frame_check.specs.Algorithm.{dequeFits, onDeque, dequeSound, mains, placeSound, wordSound, placeChecked, zeros, tallies, checkFrames}
 use Rattle.frame_check.specs.Theory.Tallied.{length-tally, tally-at, tallyDeques-at}
@@ -112,7 +112,7 @@ abbrev pub Parented : List ℕ → ℕ → Type 0
 Parented fs p = (frameAt fs p .depth ≡ 0 → frameAt fs p .parent ≡ none) × ((frameAt fs p .depth ≡ 0 → ⊥) → HasParent fs p)
 
 abbrev pub LiveAt : List ℕ → List ℕ → ℕ → Type 0
-LiveAt ds fs p = (frameAt fs p .outstanding ≡ children fs p) × (Parented fs p × Placed ds fs p)
+LiveAt ds fs p = (frameAt fs p .outstanding ≡ children fs p) × (Parented fs p × (Placed ds fs p × Returning fs p))
 
 pub record Passes (workers first : ℕ) (ds fs : List ℕ) : Type 0 where
   pub fits : (w : ℕ) → w < maxWorkers → Fits workers ds w
@@ -137,7 +137,7 @@ module _ (workers first : ℕ) (ds fs : List ℕ) where
       let f = frameAt fs p in
       implies-is (lives-is ds fs p)
       (and-is (eq-is (f .outstanding) (children fs p))
-      (and-is (cond-is (eq-is (f .depth) 0) (eq-is (f .parent) none) (parent-is ds fs p)) (placed-is ds fs p)))
+      (and-is (cond-is (eq-is (f .depth) 0) (eq-is (f .parent) none) (parent-is ds fs p)) (and-is (placed-is ds fs p) (returning-is ds fs p))))
 
   -- ---- the whole
 

@@ -1,4 +1,4 @@
--- Document 01's "Soundness", the sentences on numbers, frames and deques, as facts. Sentences has that the tests are these facts.
+-- Document 01's "Soundness" with R-3's sentence, the sentences on numbers, frames and deques, as facts. Sentences has that the tests are these facts.
 use mathlib.Core.Path.{_≡_, sym, ap}
 use mathlib.Core.Logic.{_≢_, _⊎_}
 use mathlib.Core.Bool.{true}
@@ -74,6 +74,10 @@ HasParent fs p = (frameAt fs p .parent < places) × Lives fs (frameAt fs p .pare
 abbrev pub Placed : List ℕ → List ℕ → ℕ → Type 0
 Placed ds fs p = ((stands ds p ≡ 1) × (frameAt fs p .suspended ≡ 0)) ⊎ ((stands ds p ≡ 0) × (frameAt fs p .suspended ≡ 1) × (0 < children fs p))
 
+-- R-3: "1 on a frame waiting so, which is suspended, else 0"
+abbrev pub Returning : List ℕ → ℕ → Type 0
+Returning fs p = (frameAt fs p .returning ≡ 0) ⊎ ((frameAt fs p .returning ≡ 1) × (frameAt fs p .suspended ≡ 1))
+
 -- "Free frame places lie once on theirs, all but the link to the next being zero."
 pub record PlacesFree (fs : List ℕ) (first : ℕ) : Type 0 where
   pub gs : List ℕ
@@ -85,6 +89,7 @@ pub record FramesFacts (workers first : ℕ) (ds fs : List ℕ) : Type 0 where
   pub parents : (p : ℕ) → p < places → Lives fs p → frameAt fs p .depth ≢ 0 → HasParent fs p
   pub outstanding : (p : ℕ) → p < places → Lives fs p → frameAt fs p .outstanding ≡ children fs p
   pub placed : (p : ℕ) → p < places → Lives fs p → Placed ds fs p
+  pub returning : (p : ℕ) → p < places → Lives fs p → Returning fs p
   pub hold-live : (w : ℕ) → w < maxWorkers → (k : ℕ) → k < size ds w → (place ds w k < places) × Lives fs (place ds w k)
   pub absent : (w : ℕ) → w < maxWorkers → workers ≤ w → size ds w ≡ 0
   pub within : (w : ℕ) → w < maxWorkers → size ds w ≤ dequePlaces

@@ -14,11 +14,11 @@ use Rattle.frames.specs.Frames.{frameAt, freePlace}
 use Rattle.frames.specs.Deques.{size, place}
 use Rattle.soundness.specs.declared.Numbers.{Numbers}
 use Rattle.soundness.specs.Soundness.{lives, children, inDeques, freePlaces, placeFree, liveRoots, allOf, numberSentences, frameSentences, poolSentences, sentences, soundParts}
-use Rattle.soundness.specs.Soundness.{oneMain, parentsLive, countsRight, placedOnce, holdLive, absentEmpty, restZero, linked, onlyBelow, placesFree, framesSound, numbersSound, poolSound, sound}
+use Rattle.soundness.specs.Soundness.{oneMain, parentsLive, countsRight, placedOnce, returningRight, holdLive, absentEmpty, restZero, linked, onlyBelow, placesFree, framesSound, numbersSound, poolSound, sound}
 use Rattle.soundness.specs.Theory.Is.{Is, is-as, true-is, eq-is, lt-is, le-is, and-is, and3-is, or-is, not-is, implies-is, both-imply, from-is, all-is, all-but-last}
 use Rattle.soundness.specs.Theory.Each.{row-of, of-each, allOf-append}
 use Rattle.soundness.specs.Theory.FreeLists.{chain-below, follow-sound, sound-follow, the-one}
-pub use Rattle.soundness.specs.Theory.Facts.{Lives, stands, stands-is, child-is, child-at, at-child, NoFrame, OnlyMain, HasParent, Placed, PlacesFree, FramesFacts, NumbersFacts, SoundFacts}
+pub use Rattle.soundness.specs.Theory.Facts.{Lives, stands, stands-is, child-is, child-at, at-child, NoFrame, OnlyMain, HasParent, Placed, Returning, PlacesFree, FramesFacts, NumbersFacts, SoundFacts}
 
 -- ---- frames and deques
 
@@ -84,6 +84,14 @@ module _ (ds fs : List ℕ) where
   unfolding placedOnce
   placedOnce-is = all-is places (λ p. implies-is (lives-is p) (placed-is p))
 
+  -- the frame at p waits in its return only if it is suspended
+  pub returning-is : (p : ℕ) → Is (eqb (frameAt fs p .returning) 0 || (eqb (frameAt fs p .returning) 1 && eqb (frameAt fs p .suspended) 1)) (Returning fs p)
+  returning-is p = or-is (eq-is (frameAt fs p .returning) 0) (and-is (eq-is (frameAt fs p .returning) 1) (eq-is (frameAt fs p .suspended) 1))
+
+  returningRight-is : Is (returningRight fs) ((p : ℕ) → p < places → Lives fs p → Returning fs p)
+  unfolding returningRight
+  returningRight-is = all-is places (λ p. implies-is (lives-is p) (returning-is p))
+
   -- the frame at place k of worker w's deque lives
   pub hold-is : (w k : ℕ) → Is (ltb (place ds w k) places && lives fs (place ds w k)) ((place ds w k < places) × Lives fs (place ds w k))
   hold-is w k = and-is (lt-is (place ds w k) places) (lives-is (place ds w k))
@@ -119,12 +127,14 @@ module _ (ds fs : List ℕ) where
 
 -- ---- free places
 
-made : ℕ → ℕ → ℕ → ℕ → ℕ → ℕ → Frame
-made l p d o s r = record { live = l; parent = p; depth = d; outstanding = o; suspended = s; root = r }
+made : ℕ → ℕ → ℕ → ℕ → ℕ → ℕ → ℕ → Frame
+made l p d o s r b = record { live = l; parent = p; depth = d; outstanding = o; suspended = s; root = r; returning = b }
 
-free-frame : (f : Frame) → (f .live ≡ 0) × ((f .depth ≡ 0) × ((f .outstanding ≡ 0) × ((f .suspended ≡ 0) × (f .root ≡ 0)))) → f ≡ freePlace (f .parent)
+free-frame : (f : Frame) → (f .live ≡ 0) × ((f .depth ≡ 0) × ((f .outstanding ≡ 0) × ((f .suspended ≡ 0) × ((f .root ≡ 0) × (f .returning ≡ 0))))) → f ≡ freePlace (f .parent)
 unfolding made
-free-frame f h = (let g : made (f .live) (f .parent) (f .depth) (f .outstanding) (f .suspended) (f .root) ≡ made 0 (f .parent) 0 0 0 0 = rw (h .0, h .1 .0, h .1 .1 .0, h .1 .1 .1 .0, h .1 .1 .1 .1) in g)
+free-frame f h =
+    let g : made (f .live) (f .parent) (f .depth) (f .outstanding) (f .suspended) (f .root) (f .returning) ≡ made 0 (f .parent) 0 0 0 0 0 = rw (h .0, h .1 .0, h .1 .1 .0, h .1 .1 .1 .0, h .1 .1 .1 .1 .0, h .1 .1 .1 .1 .1) in
+    g
 
 abbrev pub FreeAt : List ℕ → ℕ → Type 0
 FreeAt fs p = (q : ℕ) × (frameAt fs p ≡ freePlace q)
@@ -133,8 +143,8 @@ pub free-is : (fs : List ℕ) (p : ℕ) → Is (placeFree fs p) (FreeAt fs p)
 free-is fs p =
     let f = frameAt fs p in
     is-as (λ h. (f .parent, free-frame f h))
-    (λ h. (let e = h .1 in (ap (λ (g : Frame). g .live) e, (ap (λ (g : Frame). g .depth) e, (ap (λ (g : Frame). g .outstanding) e, (ap (λ (g : Frame). g .suspended) e, ap (λ (g : Frame). g .root) e))))))
-    (and-is (eq-is (f .live) 0) (and-is (eq-is (f .depth) 0) (and-is (eq-is (f .outstanding) 0) (and-is (eq-is (f .suspended) 0) (eq-is (f .root) 0)))))
+    (λ h. (let e = h .1 in (ap (λ (g : Frame). g .live) e, (ap (λ (g : Frame). g .depth) e, (ap (λ (g : Frame). g .outstanding) e, (ap (λ (g : Frame). g .suspended) e, (ap (λ (g : Frame). g .root) e, ap (λ (g : Frame). g .returning) e)))))))
+    (and-is (eq-is (f .live) 0) (and-is (eq-is (f .depth) 0) (and-is (eq-is (f .outstanding) 0) (and-is (eq-is (f .suspended) 0) (and-is (eq-is (f .root) 0) (eq-is (f .returning) 0))))))
 
 module _ (fs : List ℕ) (first : ℕ) where
   -- p lives and is not among gs, or it is free and there once
@@ -183,13 +193,14 @@ module _ (workers first : ℕ) (ds fs : List ℕ) where
         parents = parents-is ds fs .fact (r 1);
         outstanding = counts-is ds fs .fact (r 2);
         placed = placedOnce-is ds fs .fact (r 3);
-        hold-live = holdLive-is ds fs .fact (r 4);
-        absent = absentEmpty-is ds fs workers .fact (r 5);
-        within = λ w b. restZero-is ds fs .fact (r 6) w b .0;
-        zeros = λ w b k l c. restZero-is ds fs .fact (r 6) w b .1 k c l;
-        child-of-above = linked-is ds fs .fact (r 7);
-        only-below = onlyBelow-is ds fs .fact (r 8);
-        places = places-is fs first .fact (r 9);
+        returning = returningRight-is ds fs .fact (r 4);
+        hold-live = holdLive-is ds fs .fact (r 5);
+        absent = absentEmpty-is ds fs workers .fact (r 6);
+        within = λ w b. restZero-is ds fs .fact (r 7) w b .0;
+        zeros = λ w b k l c. restZero-is ds fs .fact (r 7) w b .1 k c l;
+        child-of-above = linked-is ds fs .fact (r 8);
+        only-below = onlyBelow-is ds fs .fact (r 9);
+        places = places-is fs first .fact (r 10);
       }
 
   pub facts-frames : FramesFacts workers first ds fs → framesSound workers first ds fs ≡ true
@@ -203,18 +214,21 @@ module _ (workers first : ℕ) (ds fs : List ℕ) where
         (
           placedOnce-is ds fs .test (F .placed),
           (
-            holdLive-is ds fs .test (F .hold-live),
+            returningRight-is ds fs .test (F .returning),
             (
-              absentEmpty-is ds fs workers .test (F .absent),
+              holdLive-is ds fs .test (F .hold-live),
               (
-                restZero-is ds fs .test (λ w b. (F .within w b, λ k c l. F .zeros w b k l c)),
+                absentEmpty-is ds fs workers .test (F .absent),
                 (
-                  linked-is ds fs .test (F .child-of-above),
+                  restZero-is ds fs .test (λ w b. (F .within w b, λ k c l. F .zeros w b k l c)),
                   (
-                    onlyBelow-is ds fs .test (F .only-below),
+                    linked-is ds fs .test (F .child-of-above),
                     (
-                      places-is fs first .test (F .places),
-                      tt,
+                      onlyBelow-is ds fs .test (F .only-below),
+                      (
+                        places-is fs first .test (F .places),
+                        tt,
+                      ),
                     ),
                   ),
                 ),
