@@ -5,20 +5,24 @@ use mathlib.Core.Bool.{Bool, true, false, not}
 use mathlib.Core.List.{List, [], _∷_, _++_, append-assoc, append-nil}
 use Prim.Native.Nat.{ℕ, zero, suc, _+_, _-_, _*_, _<_, _≤_}
 use native.Mathlib.Omega.{arith}
-use lib.ListN.{length, getD, take, drop, replicate, length-append, length-take, length-drop, length-replicate, drop-of-length-le}
+use lib.ListN.{length, getD, take, drop, replicate, length-append, length-set, length-drop, length-replicate, drop-of-length-le}
 use lib.Seq.{sets, sets-eq, take-all, drop-at, length-take-le, drop-append-add, drop-drop, drop-cons, take-nil}
 use lib.Dec.{ltb}
-use borrow.Author.Tests.{ltb-true, ltb-false}
+use borrow.Author.Tests.{ltb-true, ltb-false, lt-ltb, le-ltb}
+use Rattle.words.specs.Basics.{plus}
 use Rattle.words.specs.Tests.{decided}
-use Rattle.frames.specs.Widths.{frameWords, dequeWords}
+use Rattle.frames.specs.Widths.{places, frameWords, dequeWords}
 use Rattle.image.specs.declared.ImageCheck.the-variants.{WrongLength, WrongCheck, Good}
-use Rattle.image.specs.Widths.{numberCount, nodeWords, stateWords, wordsFor}
-use Rattle.image.specs.Image.{nodeCount, imageWords, wordsOf, wordAt, blocksFor, filled, imageOf, imageBlocks, imageBytes, nodesIn, blocksCalled, wrongLength, dataOf, checksHold, allZero, restOf, wrongCheck, imageCheck, wordsIn, Lengths, stored, IsRead}
+use Rattle.image.specs.Widths.{numberCount, nodeWords, stateWords, wordsFor, version, oldFrameWords, oldStateWords}
+use Rattle.image.specs.Image.{nodeCount, versioned, imageWords, wordBytes, bytesOf, wordsOf, wordAt, blocksFor, filled, imageOf, imageBlocks, imageBytes, firstIn, nodesIn, stateWordsIn, wordsCalled, blocksCalled, wrongLength, dataOf, checksHold, allZero, restOf, wrongCheck, imageCheck, wordsIn, unversioned, widened, numberWordsIn, framesIn, poolIn, Lengths, stored, IsRead}
 use Rattle.image.specs.Inner.{placeOf, putWords, withChecks, readWords}
+use Rattle.image.specs.Theory.Forms.{old-state, new-state, state-least, length-widened}
 use Rattle.image.specs.Theory.Bytes.{bytes-zeros, length-words, at-words}
 use Rattle.image.specs.Theory.Blocks.{word-drop, word-take, word-front, length-data}
 use Rattle.image.specs.Theory.Refused.{right-length, when-17}
-use Rattle.image.specs.Theory.Round.{length-state, length-image-words, length-image, image-blocks, length-filled, blocks-enough, blocks-needed, good-length, part-length}
+use Rattle.image.specs.Theory.Round.{length-filled, blocks-enough, blocks-needed, good-length, part-length, length-pool}
+use Rattle.image.specs.Theory.Written.{length-state, length-image-words, length-image, image-blocks, frames-new}
+use Rattle.image.specs.Theory.Old.{oldFramesIn, frames-old}
 use Rattle.image.proofs.Stores.{put-append, put-run, with-checks-put}
 
 -- ---- saving
@@ -33,22 +37,33 @@ put-next t u v xs ys k e l d =
 whole : (t u xs : List ℕ) (i k : ℕ) → length xs ≡ k → u ≡ putWords t i (take k xs) → u ≡ putWords t i xs
 whole t u xs i k l e = e ∙ ap (putWords t i) (take-all k xs (omega arith))
 
+-- the first number with the version, then the others
+pub numbers-stored : (ns t u v : List ℕ) → length ns ≡ numberCount → u ≡ sets t 0 (wordBytes (plus (getD ns 0 0) version)) → v ≡ sets u 4 (bytesOf (take 4 (drop 1 ns)))
+    → v ≡ putWords t 0 (versioned ns)
+unfolding bytesOf
+numbers-stored [] t u v l e d = absurd (omega arith)
+numbers-stored (x ∷ xs) t u v l e d =
+    d
+    ∙ ap₂ (λ (p q : List ℕ). sets p 4 (bytesOf q)) e (take-all 4 xs (omega arith))
+    ∙ sym (put-run (versioned (x ∷ xs)) t 0 (omega arith))
+
 module _ (ns ds fs ws : List ℕ) (has : Lengths ns ds fs) (room : nodeWords * nodeCount ns ≤ length ws) where
   abbrev nodes : List ℕ
   nodes = take (nodeWords * nodeCount ns) ws
 
   -- the parts, then the zeros
-  pub data-stored : (t t₁ t₂ t₃ t₄ t₅ : List ℕ) (p b : ℕ) → p ≡ placeOf (wordsFor (nodeCount ns)) → b ≡ imageBlocks (nodeCount ns) → t₁ ≡ putWords t 0 (take numberCount ns) → t₂ ≡ putWords t₁ numberCount (take dequeWords ds)
+  pub data-stored : (t t₁ t₂ t₃ t₄ t₅ : List ℕ) (p b : ℕ) → p ≡ placeOf (wordsFor (nodeCount ns)) → b ≡ imageBlocks (nodeCount ns) → t₁ ≡ putWords t 0 (versioned ns) → t₂ ≡ putWords t₁ numberCount (take dequeWords ds)
       → t₃ ≡ putWords t₂ (numberCount + dequeWords) (take frameWords fs) → t₄ ≡ putWords t₃ stateWords nodes → t₅ ≡ sets t₄ p (replicate (4 * (127 * b - wordsFor (nodeCount ns))) 0)
       → t₅ ≡ putWords t 0 (filled b (imageWords ns ds fs ws))
   data-stored t t₁ t₂ t₃ t₄ t₅ p b ep eb e₁ e₂ e₃ e₄ e₅ =
       let w : ℕ = wordsFor (nodeCount ns) in
       let m : ℕ = 127 * b - w in
-      let l₂ : length (ns ++ ds) ≡ numberCount + dequeWords = omega (arith, length-append ns ds, has .numbers, has .deques) in
-      let d₁ : t₁ ≡ putWords t 0 ns = whole t t₁ ns 0 numberCount (has .numbers) e₁ in
-      let d₂ : t₂ ≡ putWords t 0 (ns ++ ds) = put-next t t₁ t₂ ns ds numberCount d₁ (has .numbers) (whole t₁ t₂ ds numberCount dequeWords (has .deques) e₂) in
-      let d₃ : t₃ ≡ putWords t 0 (ns ++ ds ++ fs) = put-next t t₂ t₃ (ns ++ ds) fs (numberCount + dequeWords) d₂ l₂ (whole t₂ t₃ fs (numberCount + dequeWords) frameWords (has .frames) e₃) in
-      let d₄ : t₄ ≡ putWords t 0 (imageWords ns ds fs ws) = put-next t t₃ t₄ (ns ++ ds ++ fs) nodes stateWords d₃ (length-state ns ds fs ws has room) e₄ in
+      let vs : List ℕ = versioned ns in
+      let l₁ : length vs ≡ numberCount = length-set ns 0 _ ∙ has .numbers in
+      let l₂ : length (vs ++ ds) ≡ numberCount + dequeWords = omega (arith, length-append vs ds, has .deques) in
+      let d₂ : t₂ ≡ putWords t 0 (vs ++ ds) = put-next t t₁ t₂ vs ds numberCount e₁ l₁ (whole t₁ t₂ ds numberCount dequeWords (has .deques) e₂) in
+      let d₃ : t₃ ≡ putWords t 0 (vs ++ ds ++ fs) = put-next t t₂ t₃ (vs ++ ds) fs (numberCount + dequeWords) d₂ l₂ (whole t₂ t₃ fs (numberCount + dequeWords) frameWords (has .frames) e₃) in
+      let d₄ : t₄ ≡ putWords t 0 (imageWords ns ds fs ws) = put-next t t₃ t₄ (vs ++ ds ++ fs) nodes stateWords d₃ (length-state ns ds fs ws has room) e₄ in
       let r : length (replicate {A = ℕ} m 0) ≡ m = length-replicate {A = ℕ} m 0 in
       let z : t₅ ≡ putWords t₄ w (replicate m 0) =
       e₅ ∙ ap (λ (x : ℕ). sets t₄ x (replicate (4 * m) 0)) ep ∙ ap (sets t₄ (placeOf w)) (sym (bytes-zeros m)) ∙ sym (put-run (replicate m 0) t₄ w (omega (arith, r, eb, blocks-enough w, blocks-needed w))) in
@@ -67,8 +82,21 @@ module _ (ns ds fs ws : List ℕ) (has : Lengths ns ds fs) (room : nodeWords * n
 
 -- ---- 17 and 18
 
+number-at : (image : List ℕ) (i : ℕ) → 512 ≤ length image → i < 127 → wordAt image (4 * i) ≡ getD (wordsOf (take 508 image)) i 0
+number-at image i l b = sym (at-words 127 (take 508 image) (length-take-le 508 image (omega arith)) i b ∙ word-take 508 image (4 * i) (omega arith))
+
+pub first-at : (image : List ℕ) → 512 ≤ length image → wordAt image 0 ≡ firstIn image
+first-at image l = number-at image 0 l (omega arith)
+
 pub nodes-at : (image : List ℕ) → 512 ≤ length image → wordAt image 8 ≡ nodesIn image
-nodes-at image l = sym (at-words 127 (take 508 image) (length-take-le 508 image (omega arith)) 2 (omega arith) ∙ word-take 508 image 8 (omega arith))
+nodes-at image l = number-at image 2 l (omega arith)
+
+-- the first word tells the words of a state
+pub state-old : (image : List ℕ) (w : ℕ) → w ≡ firstIn image → w < version → oldStateWords ≡ stateWordsIn image
+state-old image w e h = sym (old-state image (lt-ltb (firstIn image) version (omega arith)))
+
+pub state-new : (image : List ℕ) (w : ℕ) → w ≡ firstIn image → version ≤ w → stateWords ≡ stateWordsIn image
+state-new image w e h = sym (new-state image (le-ltb (firstIn image) version (omega arith)))
 
 -- the data with a block more
 data-snoc : (n : ℕ) (image : List ℕ) → dataOf (suc n) image ≡ dataOf n image ++ take 508 (drop (512 * n) image)
@@ -104,32 +132,35 @@ module _ (image : List ℕ) where
   unfolding wrongCheck
   checks-wrong n en e = let f : checksHold (blocksCalled image) image ≡ false = ap (λ (k : ℕ). checksHold k image) (sym en) ∙ e in rw f
 
-  pub rest-tested : (n w : ℕ) (z : Bool) → n ≡ blocksCalled image → w ≡ wordsFor (nodesIn image) → length image ≡ 512 * n → checksHold n image ≡ true
+  pub rest-tested : (n w : ℕ) (z : Bool) → n ≡ blocksCalled image → w ≡ wordsCalled image → length image ≡ 512 * n → checksHold n image ≡ true
       → z ≡ allZero (take (4 * (127 * n - w)) (drop (512 * n - 4 - 4 * (127 * n - w)) image)) → not z ≡ wrongCheck image
   unfolding wrongCheck
   rest-tested n w z en ew l c e =
       let c′ : checksHold (blocksCalled image) image ≡ true = ap (λ (k : ℕ). checksHold k image) (sym en) ∙ c in
       let z′ : allZero (restOf image) ≡ z =
       ap₂ (λ (a b : ℕ). allZero (drop (4 * a) (dataOf b image))) (sym ew) (sym en)
-      ∙ ap allZero (rest-place n w image (omega arith) (omega arith) (omega arith) (omega arith)) ∙ sym e in
+      ∙ ap allZero (rest-place n w image (omega (arith, state-least image)) (omega arith) (omega arith) (omega arith)) ∙ sym e in
       rw (c′, z′)
 
   pub too-short : length image < 512 → WrongLength ≡ imageCheck image
   too-short h = sym (when-17 image .1 (inl h))
 
+  pub no-form : (w : ℕ) → w ≡ firstIn image → 512 ≤ w → WrongLength ≡ imageCheck image
+  no-form w e h = sym (when-17 image .1 (inr (inl (omega arith))))
+
   pub other-length : (b : ℕ) → b ≡ blocksCalled image → length image ≢ 512 * b → WrongLength ≡ imageCheck image
-  other-length b eb d = sym (when-17 image .1 (inr (λ e. d (e ∙ ap (λ (k : ℕ). 512 * k) (sym eb)))))
+  other-length b eb d = sym (when-17 image .1 (inr (inr (λ e. d (e ∙ ap (λ (k : ℕ). 512 * k) (sym eb))))))
 
-  tested : (b : ℕ) → b ≡ blocksCalled image → length image ≡ 512 * b → wrongLength image ≡ false
-  tested b eb d = right-length image (d ∙ ap (λ (k : ℕ). 512 * k) eb)
+  tested : (w b : ℕ) → w ≡ firstIn image → w < 512 → b ≡ blocksCalled image → length image ≡ 512 * b → wrongLength image ≡ false
+  tested w b ew h eb d = right-length image (record { form = omega arith; long = d ∙ ap (λ (k : ℕ). 512 * k) eb })
 
-  pub is-wrong : (b : ℕ) → b ≡ blocksCalled image → length image ≡ 512 * b → wrongCheck image ≡ true → WrongCheck ≡ imageCheck image
+  pub is-wrong : (w b : ℕ) → w ≡ firstIn image → w < 512 → b ≡ blocksCalled image → length image ≡ 512 * b → wrongCheck image ≡ true → WrongCheck ≡ imageCheck image
   unfolding imageCheck
-  is-wrong b eb d e = rw (tested b eb d, e)
+  is-wrong w b ew h eb d e = rw (tested w b ew h eb d, e)
 
-  pub is-right : (b : ℕ) → b ≡ blocksCalled image → length image ≡ 512 * b → wrongCheck image ≡ false → Good ≡ imageCheck image
+  pub is-right : (w b : ℕ) → w ≡ firstIn image → w < 512 → b ≡ blocksCalled image → length image ≡ 512 * b → wrongCheck image ≡ false → Good ≡ imageCheck image
   unfolding imageCheck
-  is-right b eb d e = rw (tested b eb d, e)
+  is-right w b ew h eb d e = rw (tested w b ew h eb d, e)
 
 -- ---- reading
 
@@ -169,31 +200,65 @@ words-data (suc k) n image i b l =
 front-stored : (t u xs : List ℕ) → length xs ≤ length t → u ≡ sets t 0 xs → u ≡ stored xs t
 front-stored t u xs h e = let z : 0 + length xs ≡ length xs = omega arith in e ∙ sets-eq xs t 0 (omega arith) ∙ ap (λ (k : ℕ). xs ++ drop k t) z
 
+-- a part of just this length
+all-stored : (t u xs : List ℕ) → length xs ≡ length t → u ≡ sets t 0 xs → u ≡ xs
+all-stored t u xs l e =
+    let z : drop (length xs) t ≡ [] = drop-of-length-le t {i = length xs} (omega arith) in
+    front-stored t u xs (omega arith) e ∙ ap (λ (q : List ℕ). xs ++ q) z ∙ append-nil xs
+
 module _ (image : List ℕ) (good : imageCheck image ≡ Good) where
-  part : (t u : List ℕ) (k i : ℕ) → i + k ≤ wordsFor (nodesIn image) → k ≤ length t → u ≡ sets t 0 (readWords k image i) → u ≡ stored (take k (drop i (wordsIn image))) t
-  part t u k i b room d =
-      let q : readWords k image i ≡ take k (drop i (wordsIn image)) = words-data k (blocksCalled image) image i (omega (arith, blocks-enough (wordsFor (nodesIn image)))) (omega (arith, good-length image good)) in
-      let c : length (take k (drop i (wordsIn image))) ≤ length t = omega (arith, length-take k (drop i (wordsIn image))) in
-      front-stored t u (take k (drop i (wordsIn image))) c (d ∙ ap (sets t 0) q)
-
-  -- a part that has just this length
-  all-of : (t u : List ℕ) (k i : ℕ) → i + k ≤ wordsFor (nodesIn image) → length t ≡ k → u ≡ sets t 0 (readWords k image i) → u ≡ take k (drop i (wordsIn image))
-  all-of t u k i b l d =
-      let n : length (take k (drop i (wordsIn image))) ≡ k = part-length image good i k b in
-      let z : drop (length (take k (drop i (wordsIn image)))) t ≡ [] = drop-of-length-le t {i = length (take k (drop i (wordsIn image)))} (omega arith) in
-      part t u k i b (omega arith) d ∙ ap (λ (l : List ℕ). take k (drop i (wordsIn image)) ++ l) z ∙ append-nil (take k (drop i (wordsIn image)))
-
   -- the words called for stand in the image
-  pub fits : (i k : ℕ) → i + k ≤ wordsFor (nodesIn image) → 512 * blocksFor (i + k) ≤ length image
+  pub fits : (i k : ℕ) → i + k ≤ wordsCalled image → 512 * blocksFor (i + k) ≤ length image
   fits i k h = omega (arith, good-length image good)
 
-  pub parts-read : (ns ds fs ws ns' ds' fs' ws' : List ℕ) (k : ℕ) → k ≡ nodesIn image → Lengths ns ds fs → nodeWords * nodesIn image ≤ length ws → ns' ≡ sets ns 0 (readWords numberCount image 0)
-      → ds' ≡ sets ds 0 (readWords dequeWords image numberCount) → fs' ≡ sets fs 0 (readWords frameWords image (numberCount + dequeWords)) → ws' ≡ sets ws 0 (readWords (nodeWords * k) image stateWords)
+  these : (k i : ℕ) → i + k ≤ wordsCalled image → readWords k image i ≡ take k (drop i (wordsIn image))
+  these k i b = words-data k (blocksCalled image) image i (omega (arith, blocks-enough (wordsCalled image))) (omega (arith, good-length image good))
+
+  -- a part that has just this length
+  all-of : (t u : List ℕ) (k i : ℕ) → i + k ≤ wordsCalled image → length t ≡ k → u ≡ sets t 0 (readWords k image i) → u ≡ take k (drop i (wordsIn image))
+  all-of t u k i b l d = all-stored t u (take k (drop i (wordsIn image))) (part-length image good i k b ∙ sym l) (d ∙ ap (sets t 0) (these k i b))
+
+  pub numbers-fit : 512 * blocksFor numberCount ≤ length image
+  numbers-fit = fits 0 numberCount (omega (arith, state-least image))
+
+  pub numbers-read : (ns u v : List ℕ) → length ns ≡ numberCount → u ≡ sets ns 0 (readWords numberCount image 0) → v ≡ unversioned u → v ≡ numberWordsIn image
+  numbers-read ns u v l e d = d ∙ ap unversioned (all-of ns u numberCount 0 (omega (arith, state-least image)) l e)
+
+  -- the frame records of either form
+  module _ (w : ℕ) (ew : w ≡ firstIn image) where
+    old-in : w < version → numberCount + dequeWords + oldFrameWords ≤ wordsCalled image
+    old-in h = omega (arith, state-old image w ew h)
+
+    new-in : version ≤ w → numberCount + dequeWords + frameWords ≤ wordsCalled image
+    new-in h = omega (arith, state-new image w ew h)
+
+    pub old-frames-fit : w < version → 512 * blocksFor (numberCount + dequeWords + oldFrameWords) ≤ length image
+    old-frames-fit h = fits (numberCount + dequeWords) oldFrameWords (old-in h)
+
+    pub new-frames-fit : version ≤ w → 512 * blocksFor (numberCount + dequeWords + frameWords) ≤ length image
+    new-frames-fit h = fits (numberCount + dequeWords) frameWords (new-in h)
+
+    pub old-frames-read : (fs u : List ℕ) → length fs ≡ frameWords → w < version → u ≡ sets fs 0 (widened places (readWords oldFrameWords image (numberCount + dequeWords))) → u ≡ framesIn image
+    old-frames-read fs u l h e =
+        let q : readWords oldFrameWords image (numberCount + dequeWords) ≡ oldFramesIn image = these oldFrameWords (numberCount + dequeWords) (old-in h) in
+        let k : length (oldFramesIn image) ≡ oldFrameWords = part-length image good (numberCount + dequeWords) oldFrameWords (old-in h) in
+        let k′ : length (widened places (oldFramesIn image)) ≡ length fs = length-widened places (oldFramesIn image) (omega arith) ∙ sym l in
+        all-stored fs u (widened places (oldFramesIn image)) k′ (e ∙ ap (λ (x : List ℕ). sets fs 0 (widened places x)) q)
+        ∙ sym (frames-old image (lt-ltb (firstIn image) version (omega arith)))
+
+    pub new-frames-read : (fs u : List ℕ) → length fs ≡ frameWords → version ≤ w → u ≡ sets fs 0 (readWords frameWords image (numberCount + dequeWords)) → u ≡ framesIn image
+    new-frames-read fs u l h e =
+        all-of fs u frameWords (numberCount + dequeWords) (new-in h) l e ∙ sym (frames-new image (le-ltb (firstIn image) version (omega arith)))
+
+  pub parts-read : (ds ws ns' ds' fs' ws' : List ℕ) (k s : ℕ) → k ≡ nodesIn image → s ≡ stateWordsIn image → length ds ≡ dequeWords → nodeWords * nodesIn image ≤ length ws → ns' ≡ numberWordsIn image
+      → ds' ≡ sets ds 0 (readWords dequeWords image numberCount) → fs' ≡ framesIn image → ws' ≡ sets ws 0 (readWords (nodeWords * k) image s)
       → IsRead image ns' ds' fs' ws ws'
-  parts-read ns ds fs ws ns' ds' fs' ws' k e has room en ed ef ew =
+  parts-read ds ws ns' ds' fs' ws' k s e es ld room en ed ef ew =
+      let lp : length (poolIn image) ≤ length ws = omega (arith, length-pool image good) in
       record {
-        numbers = all-of ns ns' numberCount 0 (omega arith) (has .numbers) en;
-        deques = all-of ds ds' dequeWords numberCount (omega arith) (has .deques) ed;
-        frames = all-of fs fs' frameWords (numberCount + dequeWords) (omega arith) (has .frames) ef;
-        pool = part ws ws' (nodeWords * nodesIn image) stateWords (omega arith) room (ew ∙ ap (λ (j : ℕ). sets ws 0 (readWords (nodeWords * j) image stateWords)) e);
+        numbers = en;
+        deques = all-of ds ds' dequeWords numberCount (omega (arith, state-least image)) ld ed;
+        frames = ef;
+        pool = front-stored ws ws' (poolIn image) lp
+            (ew ∙ ap₂ (λ (a b : ℕ). sets ws 0 (readWords (nodeWords * a) image b)) e es ∙ ap (sets ws 0) (these (nodeWords * nodesIn image) (stateWordsIn image) (omega arith)));
       }

@@ -1,18 +1,19 @@
 -- A turn and the end of the loops.
 use mathlib.Core.Path.{_≡_, refl, sym, ap, ap₂, _∙_}
 use mathlib.Core.Bool.{Bool, true, _&&_}
-use mathlib.Core.List.{List, [], _∷_, _++_}
+use mathlib.Core.List.{List, [], _∷_, _++_, append-assoc}
 use Prim.Native.Nat.{ℕ, zero, suc, _+_, _-_, _*_, _%_, _^_, _<_, _≤_}
 use native.Mathlib.Omega.{arith}
 use native.Mathlib.Nat.{mod-add-mod}
 use native.Mathlib.Numerals.{add-one}
-use lib.ListN.{length, getD, take, drop, set, replicate, length-replicate, length-drop, replicate-append-replicate}
-use lib.Seq.{sets, take-suc, drop-cons, drop-drop, take-add, length-take-le, getD-drop, getD-take}
+use lib.ListN.{length, getD, take, drop, set, replicate, length-append, length-replicate, length-drop, replicate-append-replicate}
+use lib.Seq.{sets, take-suc, take-all, take-append-le, drop-append-le, drop-cons, drop-drop, take-add, length-take-le, getD-drop, getD-take}
 use lib.Dec.{eqb}
 use Rattle.words.specs.Basics.{sum}
 use Rattle.words.specs.Counting.{sum-cong}
-use Rattle.image.specs.Image.{wordBytes, bytesOf, wordAt, check, checksHold, allZero}
+use Rattle.image.specs.Image.{wordBytes, bytesOf, wordAt, check, checksHold, allZero, widened}
 use Rattle.image.specs.Inner.{placeOf, putWords, wordsAt, readWords, withCheck, withChecks}
+use Rattle.image.specs.Theory.Forms.{length-widened}
 use Rattle.image.specs.Theory.Bytes.{length-bytes, bytes-append}
 use Rattle.image.specs.Theory.Blocks.{word-drop}
 use Rattle.image.proofs.Stores.{put-append, put-run, check-next}
@@ -103,13 +104,42 @@ data-run (suc (suc r)) image i h =
     let e : placeOf (suc i) ≡ placeOf i + 4 = omega arith in
     ap (λ (l : List ℕ). wordAt image (placeOf i) ∷ l) (data-run (suc r) image (suc i) (omega arith) ∙ ap (λ (k : ℕ). wordsAt (suc r) image k) e)
 
-pub part-turn : (t u v image : List ℕ) (i k r at : ℕ) → (i + k) % 127 + r ≤ 127 → at ≡ placeOf (i + k) → u ≡ sets t 0 (readWords k image i)
-    → v ≡ sets u k (wordsAt r image at) → v ≡ sets t 0 (readWords (k + r) image i)
-part-turn t u v image i k r at b p e d =
+pub part-turn : (t u v image : List ℕ) (i j k r at : ℕ) → (i + k) % 127 + r ≤ 127 → at ≡ placeOf (i + k) → u ≡ sets t j (readWords k image i)
+    → v ≡ sets u (j + k) (wordsAt r image at) → v ≡ sets t j (readWords (k + r) image i)
+part-turn t u v image i j k r at b p e d =
     d
-    ∙ ap (λ (m : ℕ). sets u k (wordsAt r image m)) p
-    ∙ ap (sets u k) (sym (data-run r image (i + k) b))
-    ∙ sets-next t u (readWords k image i) (readWords r image (i + k)) (readWords (k + r) image i) 0 k e (omega (arith, length-data-words k image i)) (data-split k r image i)
+    ∙ ap (λ (m : ℕ). sets u (j + k) (wordsAt r image m)) p
+    ∙ ap (sets u (j + k)) (sym (data-run r image (i + k) b))
+    ∙ sets-next t u (readWords k image i) (readWords r image (i + k)) (readWords (k + r) image i) j (j + k) e (omega (arith, length-data-words k image i)) (data-split k r image i)
+
+-- ---- the frame records of an image from before
+
+-- a record more
+widened-next : (n : ℕ) (xs ys : List ℕ) → length xs ≡ 6 * n → length ys ≡ 6 → widened (suc n) (xs ++ ys) ≡ widened n xs ++ ys ++ 0 ∷ []
+unfolding widened
+widened-next zero [] ys l k = ap (λ (q : List ℕ). q ++ 0 ∷ []) (take-all 6 ys (omega arith))
+widened-next zero (x ∷ xs) ys l k = absurd (omega arith)
+widened-next (suc n) xs ys l k =
+    let first : List ℕ = take 6 xs in
+    let rest : List ℕ = widened n (drop 6 xs) in
+    ap₂ (λ (p q : List ℕ). p ++ 0 ∷ widened (suc n) q) (take-append-le 6 xs ys (omega arith)) (drop-append-le 6 xs ys (omega arith))
+    ∙ ap (λ (q : List ℕ). first ++ 0 ∷ q) (widened-next n (drop 6 xs) ys (omega (arith, length-drop 6 xs)) k)
+    ∙ sym (append-assoc first (0 ∷ (rest ++ ys)) (0 ∷ []))
+    ∙ ap (λ (q : List ℕ). q ++ 0 ∷ []) (sym (append-assoc first (0 ∷ rest) ys))
+
+pub record-turn : (t u v image : List ℕ) (i p : ℕ) → u ≡ sets t 0 (widened p (readWords (6 * p) image i)) → v ≡ sets u (7 * p) (readWords 6 image (i + 6 * p))
+    → set v (7 * p + 6) 0 ≡ sets t 0 (widened (p + 1) (readWords (6 * (p + 1)) image i))
+record-turn t u v image i p e d =
+    let xs : List ℕ = readWords (6 * p) image i in
+    let ys : List ℕ = readWords 6 image (i + 6 * p) in
+    let lx : length xs ≡ 6 * p = length-data-words (6 * p) image i in
+    let ly : length ys ≡ 6 = length-data-words 6 image (i + 6 * p) in
+    let lw : length (widened p xs) ≡ 7 * p = length-widened p xs (omega arith) in
+    let six : v ≡ sets t 0 (widened p xs ++ ys) = d ∙ sets-next t u (widened p xs) ys (widened p xs ++ ys) 0 (7 * p) e (omega arith) refl in
+    let more : 6 * (p + 1) ≡ 6 * p + 6 = omega arith in
+    let all : widened (p + 1) (readWords (6 * (p + 1)) image i) ≡ widened p xs ++ ys ++ 0 ∷ [] =
+    ap₂ (λ (m k : ℕ). widened m (readWords k image i)) (add-one p) more ∙ ap (widened (suc p)) (data-split (6 * p) 6 image i) ∙ widened-next p xs ys lx ly in
+    sets-next t v (widened p xs ++ ys) (0 ∷ []) (widened (p + 1) (readWords (6 * (p + 1)) image i)) 0 (7 * p + 6) six (omega (arith, length-append (widened p xs) ys)) all
 
 pub check-turn : (t u : List ℕ) (k : ℕ) → 512 * (k + 1) ≤ length t → u ≡ withChecks k t → withCheck u (512 * k) ≡ withChecks (k + 1) t
 check-turn t u k h e =

@@ -1,18 +1,19 @@
--- Document 02's R-1: a state and a pool as blocks of bytes, what an image is refused for, and what an accepted one says. Definitions only.
+-- Document 02's R-1, as R-3 changes it: a state and a pool as blocks of bytes, what an image is refused for, and what an accepted one says.
+-- Definitions only.
 -- A state is lent in three parts: the words ns of its numbers, ds of its deques and fs of its frame records. ws are the pool's words.
 use mathlib.Core.Path.{_≡_}
 use mathlib.Core.Bool.{Bool, true, cond, not, _||_, _&&_}
 use mathlib.Core.List.{List, [], _∷_, _++_}
 use Prim.Native.Nat.{ℕ, zero, suc, _+_, _-_, _*_, _/_, _%_, _^_}
-use lib.ListN.{length, getD, take, drop, replicate}
+use lib.ListN.{length, getD, take, drop, set, replicate}
 use lib.Dec.{eqb, ltb}
-use Rattle.words.specs.Basics.{sum}
+use Rattle.words.specs.Basics.{plus, sum}
 use Rattle.model.specs.Record.{little}
-use Rattle.frames.specs.Widths.{frameWords, dequeWords}
+use Rattle.frames.specs.Widths.{places, frameWords, dequeWords}
 use Rattle.soundness.specs.Numbers.{numbersIn}
 use Rattle.image.specs.declared.ImageCheck.{ImageCheck}
 use Rattle.image.specs.declared.ImageCheck.the-variants.{WrongLength, WrongCheck, Good}
-use Rattle.image.specs.Widths.{numberCount, nodeWords, blockBytes, dataBytes, dataWords, stateWords, wordsFor}
+use Rattle.image.specs.Widths.{numberCount, nodeWords, blockBytes, dataBytes, dataWords, stateWords, wordsFor, version, oldRecordWords, oldFrameWords, oldStateWords}
 
 -- ---- the words of an image
 
@@ -20,10 +21,14 @@ use Rattle.image.specs.Widths.{numberCount, nodeWords, blockBytes, dataB
 abbrev pub nodeCount : List ℕ → ℕ
 nodeCount ns = numbersIn ns .nodes
 
+-- R-3: "The first word of an image has 256 added"
+abbrev pub versioned : List ℕ → List ℕ
+versioned ns = set ns 0 (plus (getD ns 0 0) version)
+
 -- "workers, splitters, nodes, first free node, first free frame place; for each of 8 workers its deque length and 64 places for its frames
 -- from the top; 64 frame records ..; then the pool's nodes"
 abbrev pub imageWords : List ℕ → List ℕ → List ℕ → List ℕ → List ℕ
-imageWords ns ds fs ws = ns ++ ds ++ fs ++ take (nodeWords * nodeCount ns) ws
+imageWords ns ds fs ws = versioned ns ++ ds ++ fs ++ take (nodeWords * nodeCount ns) ws
 
 -- ---- bytes
 
@@ -88,17 +93,36 @@ imageBytes nodes = blockBytes * imageBlocks nodes
 
 -- ---- what an image is refused for
 
+-- the first word of its first block
+abbrev pub firstIn : List ℕ → ℕ
+firstIn image = getD (wordsOf (take dataBytes image)) 0 0
+
 -- the nodes that its first block records
 abbrev pub nodesIn : List ℕ → ℕ
 nodesIn image = nodeCount (wordsOf (take dataBytes image))
 
--- the blocks that "its first block calls for"
-abbrev pub blocksCalled : List ℕ → ℕ
-blocksCalled image = imageBlocks (nodesIn image)
+-- R-3: "below 256, it is an image from before"
+abbrev pub isOld : List ℕ → Bool
+isOld image = ltb (firstIn image) version
 
--- "17, the image is not just as many whole blocks as its first block calls for, or has no whole block"
+-- "A first word of no readable form gives 17": "each later change of the image adds 256 again"
+abbrev pub noForm : List ℕ → Bool
+noForm image = not (ltb (firstIn image) (2 * version))
+
+-- the words of a state in it
+unfoldable pub stateWordsIn : List ℕ → ℕ
+stateWordsIn image = cond (isOld image) oldStateWords stateWords
+
+-- the words and the blocks that "its first block calls for"
+abbrev pub wordsCalled : List ℕ → ℕ
+wordsCalled image = stateWordsIn image + nodeWords * nodesIn image
+
+abbrev pub blocksCalled : List ℕ → ℕ
+blocksCalled image = blocksFor (wordsCalled image)
+
+-- "17, the image is not just as many whole blocks as its first block calls for, or has no whole block", or has no readable form
 unfoldable pub wrongLength : List ℕ → Bool
-wrongLength image = ltb (length image) blockBytes || not (eqb (length image) (blockBytes * blocksCalled image))
+wrongLength image = ltb (length image) blockBytes || noForm image || not (eqb (length image) (blockBytes * blocksCalled image))
 
 -- the data of the first n blocks
 unfoldable pub dataOf : ℕ → List ℕ → List ℕ
@@ -116,7 +140,7 @@ allZero (b ∷ bs) = eqb b 0 && allZero bs
 
 -- "the rest of the last block": the data past the words that are called for
 abbrev pub restOf : List ℕ → List ℕ
-restOf image = drop (4 * wordsFor (nodesIn image)) (dataOf (blocksCalled image) image)
+restOf image = drop (4 * wordsCalled image) (dataOf (blocksCalled image) image)
 
 -- "18, a check is wrong or the rest of the last block is not zero"
 unfoldable pub wrongCheck : List ℕ → Bool
@@ -132,18 +156,28 @@ imageCheck image = cond (wrongLength image) WrongLength (cond (wrongCheck image)
 abbrev pub wordsIn : List ℕ → List ℕ
 wordsIn image = wordsOf (dataOf (blocksCalled image) image)
 
+-- the numbers without the version
+abbrev pub unversioned : List ℕ → List ℕ
+unversioned ns = set ns 0 (getD ns 0 0 % version)
+
+-- n frame records of an image from before, each with R-3's word: "reads as having none waiting"
+unfoldable pub widened : ℕ → List ℕ → List ℕ
+widened zero fs = []
+widened (suc n) fs = take oldRecordWords fs ++ 0 ∷ widened n (drop oldRecordWords fs)
+
 -- the words of the numbers, of the deques, of the frame records and of the nodes
 abbrev pub numberWordsIn : List ℕ → List ℕ
-numberWordsIn image = take numberCount (wordsIn image)
+numberWordsIn image = unversioned (take numberCount (wordsIn image))
 
 abbrev pub dequesIn : List ℕ → List ℕ
 dequesIn image = take dequeWords (drop numberCount (wordsIn image))
 
-abbrev pub framesIn : List ℕ → List ℕ
-framesIn image = take frameWords (drop (numberCount + dequeWords) (wordsIn image))
+unfoldable pub framesIn : List ℕ → List ℕ
+framesIn image =
+    let fs = drop (numberCount + dequeWords) (wordsIn image) in cond (isOld image) (widened places (take oldFrameWords fs)) (take frameWords fs)
 
 abbrev pub poolIn : List ℕ → List ℕ
-poolIn image = take (nodeWords * nodesIn image) (drop stateWords (wordsIn image))
+poolIn image = take (nodeWords * nodesIn image) (drop (stateWordsIn image) (wordsIn image))
 
 -- ---- lent slices
 

@@ -1,6 +1,6 @@
 -- How many words and bytes an image is made of, beside the widths of deques and frame records (crate frames). Definitions only.
 use Prim.Native.Nat.{ℕ, _+_, _*_}
-use Rattle.frames.specs.Widths.{frameWords, dequeWords}
+use Rattle.frames.specs.Widths.{places, frameWords, dequeWords}
 
 -- document 02: "workers, splitters, nodes, first free node, first free frame place"
 abbrev pub numberCount : ℕ
@@ -28,3 +28,17 @@ stateWords = numberCount + dequeWords + frameWords
 -- the words of an image of so many nodes
 abbrev pub wordsFor : ℕ → ℕ
 wordsFor nodes = stateWords + nodeWords * nodes
+
+-- R-3: "The first word of an image has 256 added; below 256, it is an image from before"
+abbrev pub version : ℕ
+version = 256
+
+-- the frame records and the state of an image from before: R-1's "live, parent .., depth, outstanding, suspended and root"
+abbrev pub oldRecordWords : ℕ
+oldRecordWords = 6
+
+abbrev pub oldFrameWords : ℕ
+oldFrameWords = places * oldRecordWords
+
+abbrev pub oldStateWords : ℕ
+oldStateWords = numberCount + dequeWords + oldFrameWords

@@ -4,17 +4,17 @@ ghost use Prim.Native.Nat.{_+_, _*_, _≤_};
 ghost use lib.ListN.{length, take, drop};
 ghost use lib.Dec.{eqb};
 ghost use Rattle.image.specs.Widths.{blockBytes, dataBytes};
-ghost use Rattle.image.specs.Image.{check, wordAt, nodesIn, blocksCalled, checksHold, allZero, wrongCheck, imageCheck};
+ghost use Rattle.image.specs.Image.{check, wordAt, wordsCalled, blocksCalled, checksHold, allZero, wrongCheck, imageCheck};
 use crate::BLOCK_BYTES;
 use crate::DATA_BYTES;
 use crate::DATA_WORDS;
 use crate::ImageCheck;
-use crate::NODE_WORDS;
-use crate::STATE_WORDS;
+use crate::VERSION;
 use crate::bytes::word_at;
-use crate::read::nodes_in;
+use crate::read::first_in;
+use crate::read::words_called;
 use crate::sums::block_check;
-use crate::widths::image_blocks;
+use crate::widths::blocks_for;
 
 // Is the check of the block at `at` right?
 fn block_right(image: &[u8], at: usize) -> bool
@@ -56,15 +56,14 @@ fn zeros(image: &[u8], at: usize, n: usize) -> bool
 }
 
 // Is a check wrong, or the rest of the last block not zero? The rest stands just before the last check.
-fn wrong_check(image: &[u8], nodes: u32, blocks: usize) -> bool
-    requires { ⌜ (nodes ≡ nodesIn (now image)) × (blocks ≡ blocksCalled (now image)) × (length (now image) ≡ blockBytes * blocks) ⌝ }
+fn wrong_check(image: &[u8], words: usize, blocks: usize) -> bool
+    requires { ⌜ (words ≡ wordsCalled (now image)) × (blocks ≡ blocksCalled (now image)) × (length (now image) ≡ blockBytes * blocks) ⌝ }
     ensures { λ r. ⌜ r ≡ wrongCheck (now (image .entry)) ⌝ }
 {
     if !checks_right(image, blocks) {
         return true;
     }
-    let end = STATE_WORDS + NODE_WORDS * (nodes as usize);
-    let rest = 4 * (DATA_WORDS * blocks - end);
+    let rest = 4 * (DATA_WORDS * blocks - words);
     !zeros(image, BLOCK_BYTES * blocks - 4 - rest, rest)
 }
 
@@ -75,12 +74,15 @@ pub fn check_image(image: &[u8]) -> ImageCheck
     if image.len() < BLOCK_BYTES {
         return ImageCheck::WrongLength;
     }
-    let nodes = nodes_in(image);
-    let blocks = image_blocks(nodes);
+    if first_in(image) >= 2 * VERSION {
+        return ImageCheck::WrongLength;
+    }
+    let words = words_called(image);
+    let blocks = blocks_for(words);
     if image.len() != BLOCK_BYTES * blocks {
         return ImageCheck::WrongLength;
     }
-    if wrong_check(image, nodes, blocks) {
+    if wrong_check(image, words, blocks) {
         return ImageCheck::WrongCheck;
     }
     ImageCheck::Good

@@ -1,4 +1,4 @@
-// A state and a pool as blocks of bytes, and back: document 02, R-1. The state's parts are lent and have their exact lengths, so no
+// A state and a pool as blocks of bytes, and back: document 02, R-1 and R-3. The state's parts are lent and have their exact lengths, so no
 // function tests an index.
 mod accept;
 mod bytes;
@@ -26,9 +26,18 @@ pub const DATA_WORDS: usize = 127;
 
 pub const STATE_WORDS: usize = NUMBER_COUNT + frames::DEQUE_WORDS + frames::FRAME_WORDS;
 
+pub const VERSION: u32 = 256;
+
+pub const OLD_RECORD_WORDS: usize = 6;
+
+pub const OLD_FRAME_WORDS: usize = frames::PLACES as usize * OLD_RECORD_WORDS;
+
+pub const OLD_STATE_WORDS: usize = NUMBER_COUNT + frames::DEQUE_WORDS + OLD_FRAME_WORDS;
+
 // What an image is found to be.
 pub enum ImageCheck {
-    // 17, "the image is not just as many whole blocks as its first block calls for, or has no whole block"
+    // 17, "the image is not just as many whole blocks as its first block calls for, or has no whole block"; "A first word of no
+    // readable form gives 17."
     WrongLength,
     // 18, "a check is wrong or the rest of the last block is not zero"
     WrongCheck,

@@ -2,18 +2,26 @@
 ghost use mathlib.Core.Path.{_≡_};
 ghost use Prim.Native.Nat.{_<_, _*_, _^_, min, _-_, _%_};
 ghost use Rattle.image.specs.Widths.{dataWords};
-ghost use Rattle.image.specs.Image.{imageBytes, imageBlocks};
+ghost use Rattle.image.specs.Image.{blocksFor, imageBytes, imageBlocks};
 ghost use Rattle.image.specs.Inner.{placeOf};
 use crate::BLOCK_BYTES;
 use crate::DATA_WORDS;
 use crate::NODE_WORDS;
 use crate::STATE_WORDS;
 
+// The blocks that so many words need. (The bound is what every image that a word of nodes calls for keeps.)
+pub fn blocks_for(words: usize) -> usize
+    requires { ⌜ words < 2 ^ 35 ⌝ }
+    ensures { λ r. ⌜ r ≡ blocksFor words ⌝ }
+{
+    (words + (DATA_WORDS - 1)) / DATA_WORDS
+}
+
 // The blocks of an image of so many nodes.
 pub fn image_blocks(nodes: u32) -> usize
     ensures { λ r. ⌜ r ≡ imageBlocks nodes ⌝ }
 {
-    (STATE_WORDS + NODE_WORDS * (nodes as usize) + (DATA_WORDS - 1)) / DATA_WORDS
+    blocks_for(STATE_WORDS + NODE_WORDS * (nodes as usize))
 }
 
 // Its bytes.

@@ -2,8 +2,8 @@
 ghost use mathlib.Core.Path.{_≡_};
 ghost use Prim.Native.Nat.{_+_, _*_, _≤_};
 ghost use lib.ListN.{length, take};
-ghost use Rattle.image.specs.Widths.{nodeWords, blockBytes};
-ghost use Rattle.image.specs.Image.{nodeCount, imageWords, blocksFor, filled, imageOf, imageBlocks, imageBytes, Lengths, stored};
+ghost use Rattle.image.specs.Widths.{numberCount, nodeWords, blockBytes};
+ghost use Rattle.image.specs.Image.{nodeCount, versioned, imageWords, blocksFor, filled, imageOf, imageBlocks, imageBytes, Lengths, stored};
 ghost use Rattle.image.specs.Inner.{putWords, withCheck, withChecks};
 use crate::BLOCK_BYTES;
 use crate::DATA_BYTES;
@@ -11,6 +11,7 @@ use crate::DATA_WORDS;
 use crate::NODE_WORDS;
 use crate::NUMBER_COUNT;
 use crate::STATE_WORDS;
+use crate::VERSION;
 use crate::bytes::put_run;
 use crate::bytes::put_word;
 use crate::bytes::put_zeros;
@@ -55,6 +56,15 @@ fn write_checks(target: &mut [u8], n: usize)
     }
 }
 
+// Stores the numbers: "The first word of an image has 256 added".
+fn write_numbers(target: &mut [u8], numbers: &[u32])
+    requires { ⌜ (length (now numbers) ≡ numberCount) × (blockBytes ≤ length (now target)) ⌝ }
+    ensures { λ _. ⌜ now (target .exit) ≡ putWords (now (target .entry)) 0 (versioned (now (numbers .entry))) ⌝ }
+{
+    put_word(target, 0, words::add(numbers[0], VERSION));
+    put_run(target, 4, numbers, 1, NUMBER_COUNT - 1);
+}
+
 // Stores the words of an image of so many blocks, and the zeros after them.
 fn write_data(
     numbers: &[u32],
@@ -70,7 +80,7 @@ fn write_data(
 {
     let nodes = NODE_WORDS * (numbers[2] as usize);
     let end = STATE_WORDS + nodes;
-    write_words(target, 0, numbers, NUMBER_COUNT);
+    write_numbers(target, numbers);
     write_words(target, NUMBER_COUNT, deques, DEQUE_WORDS);
     write_words(target, NUMBER_COUNT + DEQUE_WORDS, frames, FRAME_WORDS);
     write_words(target, STATE_WORDS, pool, nodes);

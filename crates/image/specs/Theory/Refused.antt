@@ -1,19 +1,20 @@
 -- When an image is refused by 17 and by 18.
 use mathlib.Core.Path.{_≡_, refl, sym, ap, subst, _∙_}
-use mathlib.Core.Bool.{Bool, true, false, cond, not}
+use mathlib.Core.Bool.{Bool, true, false, cond, not, _||_}
 use mathlib.Core.Logic.{inl, inr, _⊎_, _≢_, _↔_}
 use mathlib.Core.List.{List, [], _∷_}
-use Prim.Native.Nat.{ℕ, zero, suc, _+_, _*_, _<_}
+use Prim.Native.Nat.{ℕ, zero, suc, _+_, _*_, _<_, _≤_}
 use native.Mathlib.Omega.{arith}
 use lib.ListN.{length, getD, take, drop}
 use lib.Seq.{take-take, drop-drop}
 use lib.Dec.{eqb, ltb}
-use borrow.Author.Tests.{eq-eqb, ne-eqb, eqb-true, eqb-false, lt-ltb, le-ltb}
+use borrow.Author.Tests.{eq-eqb, ne-eqb, eqb-true, eqb-false, lt-ltb, le-ltb, ltb-true, ltb-false}
 use Rattle.words.specs.Tests.{decided, neither, not-false, true≢false}
 use Rattle.image.specs.declared.ImageCheck.{ImageCheck}
 use Rattle.image.specs.declared.ImageCheck.the-variants.{WrongLength, WrongCheck, Good}
-use Rattle.image.specs.Widths.{blockBytes, dataBytes}
-use Rattle.image.specs.Image.{wordAt, check, blocksCalled, wrongLength, checksHold, allZero, restOf, wrongCheck, imageCheck}
+use Rattle.image.specs.Widths.{blockBytes, dataBytes, version}
+use Rattle.image.specs.Image.{wordAt, check, firstIn, noForm, blocksCalled, wrongLength, checksHold, allZero, restOf, wrongCheck, imageCheck}
+use Rattle.image.specs.Theory.Forms.{state-least}
 use Rattle.image.specs.Theory.Blocks.{word-take}
 
 -- block k of an image
@@ -78,21 +79,48 @@ byte-some (b ∷ bs) (suc i) w = let f : allZero bs ≡ false = byte-some bs i w
 
 -- ---- 17 and 18
 
-module _ (image : List ℕ) where
-  pub right-length : length image ≡ 512 * blocksCalled image → wrongLength image ≡ false
-  unfolding wrongLength
-  right-length d = rw (le-ltb (length image) 512 (omega arith), eq-eqb (length image) (512 * blocksCalled image) d)
+-- a first word of a readable form, and as many whole blocks as are called for
+pub record RightLength (image : List ℕ) : Type 0 where
+  pub form : firstIn image < 2 * version
+  pub long : length image ≡ blockBytes * blocksCalled image
 
-  pub length-right : wrongLength image ≡ false → length image ≡ 512 * blocksCalled image
+-- "17, the image is not just as many whole blocks as its first block calls for, or has no whole block"; "A first word of no readable
+-- form gives 17."
+abbrev pub NotRightLength : List ℕ → Type 0
+NotRightLength image = (length image < blockBytes) ⊎ (2 * version ≤ firstIn image) ⊎ (length image ≢ blockBytes * blocksCalled image)
+
+module _ (image : List ℕ) where
+  -- every form calls for a block
+  pub whole : length image ≡ 512 * blocksCalled image → 512 ≤ length image
+  whole d = omega (arith, state-least image)
+
+  pub right-length : RightLength image → wrongLength image ≡ false
+  unfolding wrongLength
+  right-length r =
+      rw (le-ltb (length image) 512 (whole (r .long)), lt-ltb (firstIn image) 512 (r .form), eq-eqb (length image) (512 * blocksCalled image) (r .long))
+
+  pub length-right : wrongLength image ≡ false → RightLength image
   unfolding wrongLength
   length-right e =
       let t : Bool = eqb (length image) (512 * blocksCalled image) in
-      eqb-true (length image) (512 * blocksCalled image) (not-false t (neither (ltb (length image) 512) (not t) e .1))
+      let n = neither (ltb (length image) 512 || noForm image) (not t) e in
+      let f = neither (ltb (length image) 512) (noForm image) (n .0) .1 in
+      record {
+        form = ltb-true (firstIn image) 512 (not-false (ltb (firstIn image) 512) f);
+        long = eqb-true (length image) (512 * blocksCalled image) (not-false t (n .1));
+      }
 
-  length-wrong : (length image < 512) ⊎ (length image ≢ 512 * blocksCalled image) → wrongLength image ≡ true
+  length-wrong : NotRightLength image → wrongLength image ≡ true
   unfolding wrongLength
   length-wrong (inl h) = rw (lt-ltb (length image) 512 h)
-  length-wrong (inr d) = elim (decided (ltb (length image) 512)) [ inl h ↦ rw h | inr h ↦ rw (h, ne-eqb (length image) (512 * blocksCalled image) d) ]
+  length-wrong (inr (inl f)) = elim (decided (ltb (length image) 512)) [ inl h ↦ rw h | inr h ↦ rw (h, le-ltb (firstIn image) 512 f) ]
+  length-wrong (inr (inr d)) = elim (decided (ltb (length image) 512 || noForm image)) [ inl h ↦ rw h | inr h ↦ rw (h, ne-eqb (length image) (512 * blocksCalled image) d) ]
+
+  wrong-length : wrongLength image ≡ true → NotRightLength image
+  wrong-length e = elim (decided (ltb (firstIn image) 512)) [
+    | inl f ↦ inr (inr (λ d. true≢false (sym e ∙ right-length (record { form = ltb-true (firstIn image) 512 f; long = d }))))
+    | inr f ↦ inr (inl (ltb-false (firstIn image) 512 f))
+  ]
 
   -- what each answer says of the two tests
   abbrev pub Means : ImageCheck → Type 0
@@ -126,10 +154,10 @@ module _ (image : List ℕ) where
       let z : allZero (restOf image) ≡ false = byte-some (restOf image) (w .0) (w .1) in
       elim (decided (checksHold (blocksCalled image) image)) [ inl c ↦ rw (c, z) | inr c ↦ rw c ]
 
-  pub when-17 : (imageCheck image ≡ WrongLength) ↔ ((length image < blockBytes) ⊎ (length image ≢ blockBytes * blocksCalled image))
+  pub when-17 : (imageCheck image ≡ WrongLength) ↔ NotRightLength image
   unfolding imageCheck
-  when-17 = (λ e. inr (λ d. true≢false (sym (means WrongLength e) ∙ right-length d)), λ h. rw (length-wrong h))
+  when-17 = (λ e. wrong-length (means WrongLength e), λ h. rw (length-wrong h))
 
-  pub when-18 : (imageCheck image ≡ WrongCheck) ↔ ((length image ≡ blockBytes * blocksCalled image) × (SomeCheckWrong image ⊎ RestNotZero image))
+  pub when-18 : (imageCheck image ≡ WrongCheck) ↔ (RightLength image × (SomeCheckWrong image ⊎ RestNotZero image))
   unfolding imageCheck
   when-18 = (λ e. (length-right (means WrongCheck e .0), which-18 (means WrongCheck e .1)), λ h. rw (right-length (h .0), one-18 (h .1)))

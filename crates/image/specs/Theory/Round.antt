@@ -1,20 +1,22 @@
--- Reading what was written gives the same words; an accepted image written again is the same image.
+-- Reading what was written gives the same words; an accepted image written again is the same image. For both forms at once.
 use mathlib.Core.Path.{_≡_, refl, sym, ap, ap₂, _∙_}
+use mathlib.Core.Logic.{inl, inr}
 use mathlib.Core.Bool.{true, false, not}
 use mathlib.Core.List.{List, [], _∷_, _++_, append-assoc}
 use Prim.Native.Nat.{ℕ, zero, suc, _+_, _-_, _*_, _<_, _≤_}
 use native.Mathlib.Omega.{arith}
-use lib.ListN.{length, take, drop, replicate, length-append, length-replicate, length-drop, take-append-drop, List·getD-append}
+use lib.ListN.{length, getD, take, drop, replicate, length-append, length-replicate, length-set, length-drop, take-append-drop, List·getD-append}
 use lib.Seq.{take-at, drop-at, length-take-le, getD-take, take-add, take-take}
 use lib.Dec.{eqb}
-use borrow.Author.Tests.{eqb-true}
-use Rattle.words.specs.Tests.{both, neither, not-false}
-use Rattle.frames.specs.Widths.{frameWords, dequeWords}
+use borrow.Author.Tests.{eqb-true, ltb-true, ltb-false}
+use Rattle.words.specs.Tests.{decided, both, neither, not-false}
+use Rattle.frames.specs.Widths.{places, frameWords, dequeWords}
 use Rattle.image.specs.declared.ImageCheck.the-variants.{Good}
-use Rattle.image.specs.Widths.{numberCount, nodeWords, stateWords, wordsFor}
-use Rattle.image.specs.Image.{nodeCount, imageWords, bytesOf, wordsOf, blocksOf, blocksFor, filled, asBlocks, imageOf, imageBlocks, imageBytes, nodesIn, blocksCalled, wrongLength, dataOf, checksHold, allZero, restOf, wrongCheck, imageCheck, wordsIn, numberWordsIn, dequesIn, framesIn, poolIn, Lengths}
+use Rattle.image.specs.Widths.{numberCount, nodeWords, version, oldFrameWords}
+use Rattle.image.specs.Image.{nodeCount, versioned, bytesOf, wordsOf, blocksOf, blocksFor, filled, asBlocks, firstIn, nodesIn, isOld, stateWordsIn, wordsCalled, blocksCalled, wrongLength, dataOf, checksHold, allZero, restOf, wrongCheck, imageCheck, wordsIn, numberWordsIn, dequesIn, framesIn, poolIn, Lengths}
+use Rattle.image.specs.Theory.Forms.{old-state, new-state, state-least, nodes-unversioned, version-on, no-version, length-widened}
 use Rattle.image.specs.Theory.Bytes.{Bytes, Words, Below, length-bytes, bytes-append, bytes-take, bytes-zeros, words-back, length-words, bytes-words, words-append}
-use Rattle.image.specs.Theory.Refused.{right-length, length-right, means}
+use Rattle.image.specs.Theory.Refused.{RightLength, whole, right-length, length-right, means}
 use Rattle.image.specs.Theory.Blocks.{below-drop, below-take, below-append, length-blocks, data-back, checks-back, blocks-back, length-data}
 
 -- ---- zeros
@@ -49,76 +51,85 @@ blocks-needed w = omega arith
 pub length-filled : (n : ℕ) (ws : List ℕ) → length ws ≤ 127 * n → length (filled n ws) ≡ 127 * n
 length-filled n ws h = omega (arith, length-append ws (replicate (127 * n - length ws) 0), length-replicate {A = ℕ} (127 * n - length ws) 0)
 
--- the nodes that the first block records are those of the whole data
-nodes-data : (n : ℕ) (image : List ℕ) → 0 < n → 508 ≤ length image → nodeCount (wordsOf (dataOf n image)) ≡ nodesIn image
+-- the words of the first block are the first of the whole data
+first-words : (n : ℕ) (image : List ℕ) (i : ℕ) → 0 < n → 508 ≤ length image → i < 127 → getD (wordsOf (dataOf n image)) i 0 ≡ getD (wordsOf (take 508 image)) i 0
 unfolding dataOf
-nodes-data zero image p l = absurd (omega arith)
-nodes-data (suc n) image p l =
+first-words zero image i p l b = absurd (omega arith)
+first-words (suc n) image i p l b =
     let e : length (take 508 image) ≡ 4 * 127 = length-take-le 508 image l in
-    ap nodeCount (words-append 127 (take 508 image) (dataOf n (drop 512 image)) e)
-    ∙ List·getD-append (wordsOf (take 508 image)) (wordsOf (dataOf n (drop 512 image))) 0 2 (omega (arith, length-words 127 (take 508 image) e))
+    ap (λ (ws : List ℕ). getD ws i 0) (words-append 127 (take 508 image) (dataOf n (drop 512 image)) e)
+    ∙ List·getD-append (wordsOf (take 508 image)) (wordsOf (dataOf n (drop 512 image))) 0 i (omega (arith, length-words 127 (take 508 image) e))
 
 -- ---- words as an image, and back
 
-module _ (W : List ℕ) (nodes : ℕ) (l : length W ≡ wordsFor nodes) where
-  blocks : asBlocks W ≡ blocksOf (imageBlocks nodes) (bytesOf (filled (imageBlocks nodes) W))
+module _ (W : List ℕ) (w : ℕ) (l : length W ≡ w) (three : 3 ≤ w) where
+  pub blocks : asBlocks W ≡ blocksOf (blocksFor w) (bytesOf (filled (blocksFor w) W))
   unfolding asBlocks
   blocks = ap (λ (k : ℕ). blocksOf (blocksFor k) (bytesOf (filled (blocksFor k) W))) l
 
   abbrev zeros-after : List ℕ
-  zeros-after = replicate (127 * imageBlocks nodes - length W) 0
+  zeros-after = replicate (127 * blocksFor w - length W) 0
 
-  fit : length (bytesOf (filled (imageBlocks nodes) W)) ≡ 508 * imageBlocks nodes
-  fit = omega (arith, length-bytes (filled (imageBlocks nodes) W), length-filled (imageBlocks nodes) W (omega (arith, blocks-enough (wordsFor nodes))))
+  fit : length (bytesOf (filled (blocksFor w) W)) ≡ 508 * blocksFor w
+  fit = omega (arith, length-bytes (filled (blocksFor w) W), length-filled (blocksFor w) W (omega (arith, blocks-enough w)))
 
-  long : length (asBlocks W) ≡ 512 * imageBlocks nodes
-  long = ap length blocks ∙ length-blocks (imageBlocks nodes) (bytesOf (filled (imageBlocks nodes) W)) fit
+  pub long : length (asBlocks W) ≡ 512 * blocksFor w
+  long = ap length blocks ∙ length-blocks (blocksFor w) (bytesOf (filled (blocksFor w) W)) fit
 
-  some : 0 < imageBlocks nodes
-  some = omega arith
+  its-data : dataOf (blocksFor w) (asBlocks W) ≡ bytesOf (filled (blocksFor w) W)
+  its-data = ap (dataOf (blocksFor w)) blocks ∙ data-back (blocksFor w) (bytesOf (filled (blocksFor w) W)) fit
 
-  its-data : dataOf (imageBlocks nodes) (asBlocks W) ≡ bytesOf (filled (imageBlocks nodes) W)
-  its-data = ap (dataOf (imageBlocks nodes)) blocks ∙ data-back (imageBlocks nodes) (bytesOf (filled (imageBlocks nodes) W)) fit
-
-  module _ (h : Words W) (third : nodeCount W ≡ nodes) where
-    its-words : wordsOf (dataOf (imageBlocks nodes) (asBlocks W)) ≡ filled (imageBlocks nodes) W
+  module _ (h : Words W) where
+    its-words : wordsOf (dataOf (blocksFor w) (asBlocks W)) ≡ filled (blocksFor w) W
     its-words =
         ap wordsOf its-data
-        ∙ words-back (filled (imageBlocks nodes) W) (below-append 4294967296 W zeros-after h (below-zeros 4294967296 (127 * imageBlocks nodes - length W) (omega arith)))
+        ∙ words-back (filled (blocksFor w) W) (below-append 4294967296 W zeros-after h (below-zeros 4294967296 (127 * blocksFor w - length W) (omega arith)))
 
-    recorded : nodesIn (asBlocks W) ≡ nodes
-    recorded =
-        sym (nodes-data (imageBlocks nodes) (asBlocks W) some (omega (arith, long, some)))
-        ∙ ap nodeCount its-words ∙ List·getD-append W zeros-after 0 2 (omega arith) ∙ third
+    -- its first words are those of the first block
+    recorded : (i : ℕ) → i < 3 → getD (wordsOf (take 508 (asBlocks W))) i 0 ≡ getD W i 0
+    recorded i b =
+        sym (first-words (blocksFor w) (asBlocks W) i (omega arith) (omega (arith, long)) (omega arith))
+        ∙ ap (λ (ws : List ℕ). getD ws i 0) its-words ∙ List·getD-append W zeros-after 0 i (omega arith)
 
-    called : blocksCalled (asBlocks W) ≡ imageBlocks nodes
-    called = ap imageBlocks recorded
+    -- of a readable form, and as many words as are called for
+    module _ (form : getD W 0 0 < 2 * version) (size : wordsCalled (asBlocks W) ≡ w) where
+      not-17 : wrongLength (asBlocks W) ≡ false
+      not-17 =
+          let f : firstIn (asBlocks W) ≡ getD W 0 0 = recorded 0 (omega arith) in
+          right-length (asBlocks W) (record { form = omega (arith, f); long = long ∙ ap (λ (k : ℕ). 512 * blocksFor k) (sym size) })
 
-    not-17 : wrongLength (asBlocks W) ≡ false
-    not-17 = right-length (asBlocks W) (long ∙ ap (λ (k : ℕ). 512 * k) (sym called))
+      rest : allZero (restOf (asBlocks W)) ≡ true
+      rest =
+          ap (λ (k : ℕ). allZero (drop (4 * k) (dataOf (blocksFor k) (asBlocks W)))) size
+          ∙ ap (λ (bs : List ℕ). allZero (drop (4 * w) bs)) (its-data ∙ bytes-append W zeros-after)
+          ∙ ap allZero (drop-at (bytesOf W) (bytesOf zeros-after) (4 * w) (length-bytes W ∙ ap (λ (k : ℕ). 4 * k) l))
+          ∙ ap allZero (bytes-zeros (127 * blocksFor w - length W))
+          ∙ zero-zeros (4 * (127 * blocksFor w - length W))
 
-    rest : allZero (restOf (asBlocks W)) ≡ true
-    rest =
-        ap (λ (k : ℕ). allZero (drop (4 * wordsFor k) (dataOf (imageBlocks k) (asBlocks W)))) recorded
-        ∙ ap (λ (bs : List ℕ). allZero (drop (4 * wordsFor nodes) bs)) (its-data ∙ bytes-append W zeros-after)
-        ∙ ap allZero (drop-at (bytesOf W) (bytesOf zeros-after) (4 * wordsFor nodes) (length-bytes W ∙ ap (λ (k : ℕ). 4 * k) l))
-        ∙ ap allZero (bytes-zeros (127 * imageBlocks nodes - length W))
-        ∙ zero-zeros (4 * (127 * imageBlocks nodes - length W))
+      not-18 : wrongCheck (asBlocks W) ≡ false
+      unfolding wrongCheck
+      not-18 =
+          let c : checksHold (blocksCalled (asBlocks W)) (asBlocks W) ≡ true = ap₂ checksHold (ap blocksFor size) blocks ∙ checks-back (blocksFor w) (bytesOf (filled (blocksFor w) W)) fit in
+          rw (c, rest)
 
-    not-18 : wrongCheck (asBlocks W) ≡ false
-    unfolding wrongCheck
-    not-18 =
-        let c : checksHold (blocksCalled (asBlocks W)) (asBlocks W) ≡ true = ap₂ checksHold called blocks ∙ checks-back (imageBlocks nodes) (bytesOf (filled (imageBlocks nodes) W)) fit in
-        rw (c, rest)
+      accepted : imageCheck (asBlocks W) ≡ Good
+      unfolding imageCheck
+      accepted = rw (not-17, not-18)
 
-    accepted : imageCheck (asBlocks W) ≡ Good
-    unfolding imageCheck
-    accepted = rw (not-17, not-18)
+      same-words : wordsIn (asBlocks W) ≡ filled (blocksFor w) W
+      same-words = ap (λ (k : ℕ). wordsOf (dataOf (blocksFor k) (asBlocks W))) size ∙ its-words
 
-    same-words : wordsIn (asBlocks W) ≡ filled (imageBlocks nodes) W
-    same-words = ap (λ (k : ℕ). wordsOf (dataOf k (asBlocks W))) called ∙ its-words
+-- ---- the parts, in either form: ns with or without the version, and g words of frame records
 
--- ---- the parts
+-- the second of three
+second : (a b c : List ℕ) (m n : ℕ) → length a ≡ m → length b ≡ n → take n (drop m (a ++ b ++ c)) ≡ b
+second a b c m n p q = ap (λ (l : List ℕ). take n (drop m l)) (append-assoc a b c) ∙ ap (take n) (drop-at a (b ++ c) m p) ∙ take-at b c n q
+
+pub record PartLengths (ns ds fs ks : List ℕ) (g : ℕ) : Type 0 where
+  pub numbers : length ns ≡ numberCount
+  pub deques : length ds ≡ dequeWords
+  pub frames : length fs ≡ g
+  pub nodes : length ks ≡ nodeWords * nodeCount ns
 
 -- each is a word
 pub record AllWords (ns ds fs ws : List ℕ) : Type 0 where
@@ -127,80 +138,85 @@ pub record AllWords (ns ds fs ws : List ℕ) : Type 0 where
   pub frames : Words fs
   pub pool : Words ws
 
--- the second of three
-second : (a b c : List ℕ) (m n : ℕ) → length a ≡ m → length b ≡ n → take n (drop m (a ++ b ++ c)) ≡ b
-second a b c m n p q = ap (λ (l : List ℕ). take n (drop m l)) (append-assoc a b c) ∙ ap (take n) (drop-at a (b ++ c) m p) ∙ take-at b c n q
-
-module _ (ns ds fs ws : List ℕ) (has : Lengths ns ds fs) (room : nodeWords * nodeCount ns ≤ length ws) where
-  abbrev nodes : List ℕ
-  nodes = take (nodeWords * nodeCount ns) ws
-
-  length-nodes : length nodes ≡ nodeWords * nodeCount ns
-  length-nodes = length-take-le (nodeWords * nodeCount ns) ws room
+module _ (ns ds fs ks : List ℕ) (g : ℕ) (has : PartLengths ns ds fs ks g) where
+  abbrev parts : List ℕ
+  parts = ns ++ ds ++ fs ++ ks
 
   length-two : length (ns ++ ds) ≡ numberCount + dequeWords
   length-two = omega (arith, length-append ns ds, has .numbers, has .deques)
 
-  pub length-state : length (ns ++ ds ++ fs) ≡ stateWords
-  length-state = omega (arith, length-append (ns ++ ds) fs, length-two, has .frames)
+  pub length-three : length (ns ++ ds ++ fs) ≡ numberCount + dequeWords + g
+  length-three = omega (arith, length-append (ns ++ ds) fs, length-two, has .frames)
 
-  pub length-image-words : length (imageWords ns ds fs ws) ≡ wordsFor (nodeCount ns)
-  length-image-words = omega (arith, length-append (ns ++ ds ++ fs) nodes, length-state, length-nodes)
+  abbrev size : ℕ
+  size = numberCount + dequeWords + g + nodeWords * nodeCount ns
 
-  pub image-blocks : imageOf ns ds fs ws ≡ blocksOf (imageBlocks (nodeCount ns)) (bytesOf (filled (imageBlocks (nodeCount ns)) (imageWords ns ds fs ws)))
-  image-blocks = blocks (imageWords ns ds fs ws) (nodeCount ns) length-image-words
+  pub length-parts : length (ns ++ ds ++ fs ++ ks) ≡ numberCount + dequeWords + g + nodeWords * nodeCount ns
+  length-parts = omega (arith, length-append (ns ++ ds ++ fs) ks, length-three, has .nodes)
 
-  pub length-image : length (imageOf ns ds fs ws) ≡ imageBytes (nodeCount ns)
-  length-image = long (imageWords ns ds fs ws) (nodeCount ns) length-image-words
+  number-first : (i : ℕ) → i < numberCount → getD parts i 0 ≡ getD ns i 0
+  number-first i b =
+      List·getD-append (ns ++ ds ++ fs) ks 0 i (omega (arith, length-three))
+      ∙ List·getD-append (ns ++ ds) fs 0 i (omega (arith, length-two))
+      ∙ List·getD-append ns ds 0 i (omega (arith, has .numbers))
 
-  same-nodes : nodeCount (imageWords ns ds fs ws) ≡ nodeCount ns
-  same-nodes =
-      List·getD-append (ns ++ ds ++ fs) nodes 0 2 (omega (arith, length-state))
-      ∙ List·getD-append (ns ++ ds) fs 0 2 (omega (arith, length-two))
-      ∙ List·getD-append ns ds 0 2 (omega (arith, has .numbers))
-
-  module _ (all : AllWords ns ds fs ws) where
-    all-words : Words (imageWords ns ds fs ws)
+  module _ (all : AllWords ns ds fs ks) where
+    all-words : Words parts
     all-words =
-        below-append 4294967296 (ns ++ ds ++ fs) nodes
+        below-append 4294967296 (ns ++ ds ++ fs) ks
         (below-append 4294967296 (ns ++ ds) fs (below-append 4294967296 ns ds (all .numbers) (all .deques)) (all .frames))
-        (below-take 4294967296 (nodeWords * nodeCount ns) ws (omega arith) (all .pool))
+        (all .pool)
 
-    -- 17 and 18 do not refuse it,
-    pub image-accepted : imageCheck (imageOf ns ds fs ws) ≡ Good
-    image-accepted = accepted (imageWords ns ds fs ws) (nodeCount ns) length-image-words all-words same-nodes
+    number-recorded : (i : ℕ) → i < 3 → getD (wordsOf (take 508 (asBlocks parts))) i 0 ≡ getD ns i 0
+    number-recorded i b = recorded parts size length-parts (omega arith) all-words i b ∙ number-first i (omega arith)
 
-    pub nodes-back : nodesIn (imageOf ns ds fs ws) ≡ nodeCount ns
-    nodes-back = recorded (imageWords ns ds fs ws) (nodeCount ns) length-image-words all-words same-nodes
+    pub first-back : firstIn (asBlocks (ns ++ ds ++ fs ++ ks)) ≡ getD ns 0 0
+    first-back = number-recorded 0 (omega arith)
 
-    abbrev tail : List ℕ
-    tail = replicate (127 * imageBlocks (nodeCount ns) - length (imageWords ns ds fs ws)) 0
+    pub nodes-back : nodesIn (asBlocks (ns ++ ds ++ fs ++ ks)) ≡ nodeCount ns
+    nodes-back = number-recorded 2 (omega arith)
 
-    words : wordsIn (imageOf ns ds fs ws) ≡ ns ++ ds ++ fs ++ nodes ++ tail
-    words = same-words (imageWords ns ds fs ws) (nodeCount ns) length-image-words all-words same-nodes
+    -- of a readable form, whose state has this many words
+    module _ (form : getD ns 0 0 < 2 * version) (state : stateWordsIn (asBlocks (ns ++ ds ++ fs ++ ks)) ≡ numberCount + dequeWords + g) where
+      called : wordsCalled (asBlocks parts) ≡ size
+      called = ap₂ (λ (a b : ℕ). a + nodeWords * b) state nodes-back
 
-    words-two : wordsIn (imageOf ns ds fs ws) ≡ ns ++ ds ++ (fs ++ (nodes ++ tail))
-    words-two = words ∙ append-assoc (ns ++ ds ++ fs) nodes tail ∙ append-assoc (ns ++ ds) fs (nodes ++ tail)
+      form-parts : getD parts 0 0 < 2 * version
+      form-parts = omega (arith, number-first 0 (omega arith))
 
-    -- and its numbers,
-    pub numbers-back : numberWordsIn (imageOf ns ds fs ws) ≡ ns
-    numbers-back = ap (take numberCount) (words-two ∙ append-assoc ns ds (fs ++ (nodes ++ tail))) ∙ take-at ns (ds ++ (fs ++ (nodes ++ tail))) numberCount (has .numbers)
+      -- 17 and 18 do not refuse it,
+      pub parts-accepted : imageCheck (asBlocks (ns ++ ds ++ fs ++ ks)) ≡ Good
+      parts-accepted = accepted parts size length-parts (omega arith) all-words form-parts called
 
-    -- its deques,
-    pub deques-back : dequesIn (imageOf ns ds fs ws) ≡ ds
-    deques-back = ap (λ (l : List ℕ). take dequeWords (drop numberCount l)) words-two ∙ second ns ds (fs ++ (nodes ++ tail)) numberCount dequeWords (has .numbers) (has .deques)
+      abbrev tail : List ℕ
+      tail = replicate (127 * blocksFor size - length parts) 0
 
-    -- its frame records,
-    pub frames-back : framesIn (imageOf ns ds fs ws) ≡ fs
-    frames-back =
-        ap (λ (l : List ℕ). take frameWords (drop (numberCount + dequeWords) l)) (words ∙ append-assoc (ns ++ ds ++ fs) nodes tail)
-        ∙ second (ns ++ ds) fs (nodes ++ tail) (numberCount + dequeWords) frameWords length-two (has .frames)
+      words : wordsIn (asBlocks parts) ≡ ns ++ ds ++ fs ++ ks ++ tail
+      words = same-words parts size length-parts (omega arith) all-words form-parts called
 
-    -- and its nodes are those that were written
-    pub pool-back : poolIn (imageOf ns ds fs ws) ≡ take (nodeWords * nodeCount ns) ws
-    pool-back =
-        ap₂ (λ (k : ℕ) (l : List ℕ). take (nodeWords * k) (drop stateWords l)) nodes-back words
-        ∙ second (ns ++ ds ++ fs) nodes tail stateWords (nodeWords * nodeCount ns) length-state length-nodes
+      words-two : wordsIn (asBlocks parts) ≡ ns ++ ds ++ (fs ++ (ks ++ tail))
+      words-two = words ∙ append-assoc (ns ++ ds ++ fs) ks tail ∙ append-assoc (ns ++ ds) fs (ks ++ tail)
+
+      -- and its words are the numbers,
+      pub numbers-part : take numberCount (wordsIn (asBlocks (ns ++ ds ++ fs ++ ks))) ≡ ns
+      numbers-part = ap (take numberCount) (words-two ∙ append-assoc ns ds (fs ++ (ks ++ tail))) ∙ take-at ns (ds ++ (fs ++ (ks ++ tail))) numberCount (has .numbers)
+
+      -- the deques,
+      pub deques-part : dequesIn (asBlocks (ns ++ ds ++ fs ++ ks)) ≡ ds
+      deques-part = ap (λ (l : List ℕ). take dequeWords (drop numberCount l)) words-two ∙ second ns ds (fs ++ (ks ++ tail)) numberCount dequeWords (has .numbers) (has .deques)
+
+      -- the frame records
+      pub frames-part : take g (drop (numberCount + dequeWords) (wordsIn (asBlocks (ns ++ ds ++ fs ++ ks)))) ≡ fs
+      frames-part =
+          ap (λ (l : List ℕ). take g (drop (numberCount + dequeWords) l)) (words ∙ append-assoc (ns ++ ds ++ fs) ks tail)
+          ∙ second (ns ++ ds) fs (ks ++ tail) (numberCount + dequeWords) g length-two (has .frames)
+
+      -- and the nodes that were written
+      pub pool-part : poolIn (asBlocks (ns ++ ds ++ fs ++ ks)) ≡ ks
+      pool-part =
+          ap₂ (λ (a b : ℕ). take (nodeWords * b) (drop a (wordsIn (asBlocks parts)))) state nodes-back
+          ∙ ap (λ (l : List ℕ). take (nodeWords * nodeCount ns) (drop (numberCount + dequeWords + g) l)) words
+          ∙ second (ns ++ ds ++ fs) ks tail (numberCount + dequeWords + g) (nodeWords * nodeCount ns) length-three (has .nodes)
 
 -- ---- an accepted image, written again
 
@@ -214,10 +230,16 @@ module _ (image : List ℕ) (good : imageCheck image ≡ Good) where
   n = blocksCalled image
 
   abbrev w : ℕ
-  w = wordsFor (nodesIn image)
+  w = wordsCalled image
+
+  good-right : RightLength image
+  good-right = length-right image (means image Good good .0)
 
   pub good-length : length image ≡ 512 * n
-  good-length = length-right image (means image Good good .0)
+  good-length = good-right .long
+
+  pub good-whole : 512 ≤ length image
+  good-whole = whole image good-length
 
   good-checks-rest : (checksHold n image ≡ true) × (allZero (restOf image) ≡ true)
   unfolding wrongCheck
@@ -237,32 +259,63 @@ module _ (image : List ℕ) (good : imageCheck image ≡ Good) where
   pub part-length : (i k : ℕ) → i + k ≤ w → length (take k (drop i (wordsIn image))) ≡ k
   part-length i k h = length-take-le k (drop i (wordsIn image)) (omega (arith, length-drop i (wordsIn image), length-w, enough))
 
+  frames-length : length (framesIn image) ≡ frameWords
+  unfolding framesIn
+  frames-length =
+      let fs : List ℕ = drop (numberCount + dequeWords) (wordsIn image) in
+      elim (decided (isOld image)) [
+        | inl o ↦
+            let l : length (take oldFrameWords fs) ≡ oldFrameWords = part-length (numberCount + dequeWords) oldFrameWords (omega (arith, old-state image o)) in
+            rw o (length-widened places (take oldFrameWords fs) (omega (arith, l)))
+        | inr o ↦ rw o (part-length (numberCount + dequeWords) frameWords (omega (arith, new-state image o)))
+      ]
+
   -- the parts of an accepted image have their lengths
   pub good-parts : Lengths (numberWordsIn image) (dequesIn image) (framesIn image)
   good-parts =
       record {
-        numbers = part-length 0 numberCount (omega arith);
-        deques = part-length numberCount dequeWords (omega arith);
-        frames = part-length (numberCount + dequeWords) frameWords (omega arith);
+        numbers = length-set (take numberCount (wordsIn image)) 0 _ ∙ part-length 0 numberCount (omega (arith, state-least image));
+        deques = part-length numberCount dequeWords (omega (arith, state-least image));
+        frames = frames-length;
       }
 
   pub length-pool : length (poolIn image) ≡ nodeWords * nodesIn image
-  length-pool = part-length stateWords (nodeWords * nodesIn image) (omega arith)
+  length-pool = part-length (stateWordsIn image) (nodeWords * nodesIn image) (omega arith)
 
-  -- its numbers record the nodes
+  -- its numbers are those of the first block
+  good-number : (i : ℕ) → i < numberCount → getD (take numberCount (wordsIn image)) i 0 ≡ getD (wordsOf (take 508 image)) i 0
+  good-number i b =
+      getD-take numberCount (wordsIn image) i 0 b ∙ first-words n image i (omega (arith, state-least image)) (omega (arith, good-whole)) (omega arith)
+
+  good-first : getD (take numberCount (wordsIn image)) 0 0 ≡ firstIn image
+  good-first = good-number 0 (omega arith)
+
+  -- they record the nodes
+  first-nodes : nodeCount (take numberCount (wordsIn image)) ≡ nodesIn image
+  first-nodes = good-number 2 (omega arith)
+
   pub good-nodes : nodeCount (numberWordsIn image) ≡ nodesIn image
-  good-nodes = getD-take numberCount (wordsIn image) 2 0 (omega arith) ∙ nodes-data n image (omega arith) (omega (arith, good-length))
+  good-nodes = nodes-unversioned (take numberCount (wordsIn image)) ∙ first-nodes
 
-  -- what the parts make up again
-  words-again : imageWords (numberWordsIn image) (dequesIn image) (framesIn image) (poolIn image) ≡ take w (wordsIn image)
-  words-again =
+  -- with the version, and without where it has none
+  pub numbers-again : isOld image ≡ false → versioned (numberWordsIn image) ≡ take numberCount (wordsIn image)
+  numbers-again o = version-on (take numberCount (wordsIn image)) (omega (arith, good-first, ltb-false (firstIn image) version o)) (omega (arith, good-first, good-right .form))
+
+  pub old-numbers : isOld image ≡ true → numberWordsIn image ≡ take numberCount (wordsIn image)
+  old-numbers o = no-version (take numberCount (wordsIn image)) (omega (arith, good-first, ltb-true (firstIn image) version o))
+
+  -- what the parts make up again, with g words of frame records
+  pub words-again : (g : ℕ) → stateWordsIn image ≡ numberCount + dequeWords + g
+      → take numberCount (wordsIn image) ++ dequesIn image ++ take g (drop (numberCount + dequeWords) (wordsIn image)) ++ take (nodeWords * nodesIn image) (poolIn image) ≡ take w (wordsIn image)
+  words-again g e =
       let W : List ℕ = wordsIn image in
       let k : ℕ = nodeWords * nodesIn image in
-      ap (λ (j : ℕ). numberWordsIn image ++ dequesIn image ++ framesIn image ++ take (nodeWords * j) (poolIn image)) good-nodes
-      ∙ ap (λ (l : List ℕ). numberWordsIn image ++ dequesIn image ++ framesIn image ++ l) (take-take k k (drop stateWords W) (omega arith))
-      ∙ ap (λ (l : List ℕ). l ++ framesIn image ++ poolIn image) (sym (take-add numberCount dequeWords W))
-      ∙ ap (λ (l : List ℕ). l ++ poolIn image) (sym (take-add (numberCount + dequeWords) frameWords W))
-      ∙ sym (take-add stateWords k W)
+      let ns : List ℕ = take numberCount W in
+      let fs : List ℕ = take g (drop (numberCount + dequeWords) W) in
+      ap (λ (l : List ℕ). ns ++ dequesIn image ++ fs ++ l) (take-take k k (drop (stateWordsIn image) W) (omega arith))
+      ∙ ap (λ (l : List ℕ). l ++ fs ++ poolIn image) (sym (take-add numberCount dequeWords W))
+      ∙ ap (λ (l : List ℕ). l ++ poolIn image) (sym (take-add (numberCount + dequeWords) g W) ∙ ap (λ (j : ℕ). take j W) (sym e))
+      ∙ sym (take-add (stateWordsIn image) k W)
 
   module _ (h : Bytes image) where
     bytes-again : bytesOf (wordsIn image) ≡ dataOf n image
@@ -282,10 +335,9 @@ module _ (image : List ℕ) (good : imageCheck image ≡ Good) where
         ∙ ap₂ _++_ (bytes-take w (wordsIn image) ∙ ap (take (4 * w)) bytes-again) (rest-again (length (take w (wordsIn image))) length-again)
         ∙ take-append-drop (4 * w) (dataOf n image)
 
-    pub written-again : imageOf (numberWordsIn image) (dequesIn image) (framesIn image) (poolIn image) ≡ image
+    pub blocks-again : asBlocks (take (wordsCalled image) (wordsIn image)) ≡ image
     unfolding asBlocks
-    written-again =
-        ap asBlocks words-again
-        ∙ ap (λ (k : ℕ). blocksOf (blocksFor k) (bytesOf (filled (blocksFor k) (take w (wordsIn image))))) length-again
+    blocks-again =
+        ap (λ (k : ℕ). blocksOf (blocksFor k) (bytesOf (filled (blocksFor k) (take w (wordsIn image))))) length-again
         ∙ ap (blocksOf n) filled-again
         ∙ blocks-back n image good-length h (good-checks-rest .0)

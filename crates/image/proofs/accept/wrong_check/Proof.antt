@@ -1,8 +1,9 @@
 -- A check is wrong, or the rest decides.
-use mathlib.Core.Path.{sym, ap, _∙_}
+use mathlib.Core.Path.{sym, _∙_}
+use native.Mathlib.Omega.{arith}
 use borrow.Author.Needs.{needs}
 use borrow.Author.Tests.{not-true, not-false}
-use Rattle.image.specs.Widths.{wordsFor}
+use Rattle.image.specs.Theory.Forms.{state-least}
 use Rattle.image.proofs.Ends.{checks-wrong, rest-tested}
 use Rattle.image.proofs.accept.wrong_check.Statement.{statement}
 use Rattle.image.proofs.accept.wrong_check.Tie as tie
@@ -18,9 +19,19 @@ returns-2 c =
     let i = c .before in
     let k = i .before in
     let start = k .before .before in
-    rest-tested (start .args .image .now) (start .args .blocks) (wordsFor (start .args .nodes)) (c .zeros .result) (start .pre .1) (ap wordsFor (start .pre .0)) (start .pre .2)
+    rest-tested (start .args .image .now) (start .args .blocks) (start .args .words) (c .zeros .result) (start .pre .1) (start .pre .0) (start .pre .2)
     (sym (k .checks-right .ensures) ∙ not-false (k .checks-right .result) (i .if1 .left))
     (c .zeros .ensures)
 
+-- every form calls for a block
+sub-zeros : tie.Need-sub-zeros
+sub-zeros c = omega (arith, state-least (c .before .before .before .args .image .now))
+
+sub-zeros-2 : tie.Need-sub-zeros-2
+sub-zeros-2 c = omega (arith, state-least (c .before .before .before .args .image .now))
+
+zeros-requires : tie.Need-zeros-requires
+zeros-requires c κs = omega (arith, state-least (c .before .before .before .args .image .now))
+
 pub wrong-check-spec : {M : Type 1} → statement M
-wrong-check-spec = tie.close (tie.spec (λ c κs. search needs) returns (λ c. search needs) (λ c. search needs) (λ c. search needs) (λ c. search needs) (λ c. search needs) (λ c. search needs) (λ c. search needs) (λ c. search needs) (λ c κs. search needs) returns-2)
+wrong-check-spec = tie.close (tie.spec (λ c κs. search needs) returns (λ c. search needs) (λ c. search needs) (λ c. search needs) (λ c. search needs) sub-zeros sub-zeros-2 zeros-requires returns-2)

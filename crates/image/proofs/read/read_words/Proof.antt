@@ -10,10 +10,10 @@ use Rattle.image.proofs.read.read_words.Statement.{statement}
 use Rattle.image.proofs.read.read_words.Tie as tie
 
 abbrev Inv-loop : tie.InvT-loop
-Inv-loop image i to₀ n k₀ to k = (to ≡ sets to₀ 0 (readWords k image i)) × (length to ≡ length to₀) × (k ≤ n)
+Inv-loop image i to₀ j n k₀ to k = (to ≡ sets to₀ j (readWords k image i)) × (length to ≡ length to₀) × (k ≤ n)
 
 abbrev μ-loop : tie.MeasureT-loop
-μ-loop image i to₀ n k₀ to k = n - k
+μ-loop image i to₀ j n k₀ to k = n - k
 
 abbrev start-of : tie.At-loop Inv-loop μ-loop → tie.Start Inv-loop μ-loop
 start-of l = l .before .before .before
@@ -29,7 +29,7 @@ loop-again c =
     let r = place .before in
     let l = r .before .before in
     let a = start-of l .args in (
-      part-turn (a .to .now) (l .loop .to) _ (a .image .now) (a .i) (l .loop .k) (r .run-length .result) _ (omega arith) (place .place-of .ensures) (l .loop .inv .0) (q .read-run .ensures),
+      part-turn (a .to .now) (l .loop .to) _ (a .image .now) (a .i) (a .j) (l .loop .k) (r .run-length .result) _ (omega arith) (place .place-of .ensures) (l .loop .inv .0) (q .read-run .ensures),
       q .read-run .kept .1 .1 .0 ∙ l .loop .inv .1,
       omega arith,
     )
@@ -38,7 +38,7 @@ returns : tie.Need-returns Inv-loop μ-loop
 returns c =
     let l = c .before in
     let a = start-of l .args in
-    at-end (λ m. sets (a .to .now) 0 (readWords m (a .image .now) (a .i))) (l .loop .inv .2) (c .loop-test .left) (l .loop .inv .0)
+    at-end (λ m. sets (a .to .now) (a .j) (readWords m (a .image .now) (a .i))) (l .loop .inv .2) (c .loop-test .left) (l .loop .inv .0)
 
 pub read-words-spec : {M : Type 1} → statement M
-read-words-spec = tie.close (tie.spec Inv-loop μ-loop loop-holds (λ c. omega arith) (λ c. omega arith) (λ c κs. omega arith) (λ c. omega arith) (λ c κs. omega arith) (λ c κs. omega arith) (λ c. omega arith) (λ c. omega arith) loop-again (λ c. c .before .loop .inv .1) returns)
+read-words-spec = tie.close (tie.spec Inv-loop μ-loop loop-holds (λ c. omega arith) (λ c. omega arith) (λ c κs. omega arith) (λ c. omega arith) (λ c κs. omega arith) (λ c. omega arith) (λ c κs. omega arith) (λ c. omega arith) (λ c. omega arith) loop-again (λ c. c .before .loop .inv .1) returns)
