@@ -4,7 +4,7 @@ use Rattle.frames.specs.Steps.{returnedNumber, syncedNumber}
 use Rattle.semantics.specs.declared.Done.{Done}
 use Rattle.semantics.specs.declared.Done.the-variants.{Spawned, Ended, Stolen, Waited, Value, Written}
 use Rattle.semantics.specs.declared.Refusal.{Refusal}
-use Rattle.semantics.specs.declared.Refusal.the-variants.{Values, Workers, Nodes, Tape, Work, Unsound, Record, NoWorker, MainReturned, WorkerIdle, ThiefBusy, NoVictim, FramesFull, ChildLives, NoSplitter, PoolFull, Blocks, BlockCheck, Target, Lengths}
+use Rattle.semantics.specs.declared.Refusal.the-variants.{Values, Workers, Nodes, Tape, Work, Unsound, Record, NoWorker, MainReturned, WorkerIdle, ThiefBusy, NoVictim, FramesFull, NoSplitter, PoolFull, Blocks, BlockCheck, Target, Lengths}
 use Rattle.semantics.specs.declared.Answer.{Answer}
 use Rattle.semantics.specs.declared.Answer.the-variants.{Accepted, Refused}
 
@@ -23,7 +23,6 @@ refusalNumber WorkerIdle = 10
 refusalNumber ThiefBusy = 11
 refusalNumber NoVictim = 12
 refusalNumber FramesFull = 13
-refusalNumber ChildLives = 14
 refusalNumber NoSplitter = 15
 refusalNumber PoolFull = 16
 -- R-1: "17, the image is not just as many whole blocks as its first block calls for, or has no whole block; 18, a check is wrong or the

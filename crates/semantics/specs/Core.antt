@@ -2,21 +2,23 @@
 -- Definitions only; every one is total.
 use mathlib.Core.Bool.{Bool, cond, not, _||_}
 use mathlib.Core.List.{List, [], _∷_, _++_}
-use Prim.Native.Nat.{ℕ}
+use Prim.Native.Nat.{ℕ, zero, suc}
 use lib.Dec.{eqb, ltb}
 use Rattle.words.specs.Basics.{none, plus, all}
 use Rattle.pool.specs.Pool.{readAt, retain, release, rest, write}
 use Rattle.frames.specs.declared.Frame.{Frame}
-use Rattle.frames.specs.Frames.{setFrame, withRoot}
-use Rattle.frames.specs.Deques.{size, bottom}
-use Rattle.frames.specs.Steps.{Table, acting, spawn, return, returned, steal, stolen, sync, synced}
+use Rattle.frames.specs.declared.Returned.{Returned}
+use Rattle.frames.specs.declared.Returned.the-variants.{Continued, Finished, Waiting}
+use Rattle.frames.specs.Frames.{frameAt, setFrame, withRoot, asReturning}
+use Rattle.frames.specs.Deques.{size, bottom, pop}
+use Rattle.frames.specs.Steps.{Table, acting, spawn, suspend, endFrame, endsToo, goOn, wentOn, steal, stolen, sync, synced}
 use Rattle.soundness.specs.Numbers.{setFreeNode, setFreePlace}
 use Rattle.model.specs.declared.Step.{Step}
 use Rattle.model.specs.declared.Step.the-variants.{Spawn, Return, Steal, Sync, Read, Write}
 use Rattle.semantics.specs.declared.Head.{Head}
 use Rattle.semantics.specs.declared.Done.the-variants.{Spawned, Ended, Stolen, Waited, Value, Written}
 use Rattle.semantics.specs.declared.Refusal.{Refusal}
-use Rattle.semantics.specs.declared.Refusal.the-variants.{NoWorker, MainReturned, WorkerIdle, ThiefBusy, NoVictim, FramesFull, ChildLives, NoSplitter, PoolFull}
+use Rattle.semantics.specs.declared.Refusal.the-variants.{NoWorker, MainReturned, WorkerIdle, ThiefBusy, NoVictim, FramesFull, NoSplitter, PoolFull}
 use Rattle.semantics.specs.declared.Answer.{Answer}
 use Rattle.semantics.specs.declared.Answer.the-variants.{Accepted, Refused}
 
@@ -52,6 +54,10 @@ withFreePlace h p = record { numbers = setFreePlace (h .numbers) p; height = h .
 abbrev pub withFreeNodes : Head → ℕ → ℕ → Head
 withFreeNodes h f k = record { numbers = setFreeNode (h .numbers) f; height = h .height; «free_count» = k }
 
+-- the core with other deques, frame table and first free place
+abbrev pub withTable : Core → Table → Core
+withTable c t = record { head = withFreePlace (c .head) (t .«free_place»); deques = t .deques; frames = t .frames; pool = c .pool }
+
 -- ---- refusals
 
 abbrev pub idle : Core → ℕ → Bool
@@ -80,11 +86,42 @@ spawnOn c w =
     let t : Table = spawn (tableOf c) w in
     stepResult (withFreePlace (c .head) (t .«free_place»)) (t .deques) (t .frames) (retain (c .pool) (actingIn c w .root)) (Accepted (Spawned (plus (actingIn c w .depth) 1)))
 
+-- a return that left the core c, with the outcome o
+abbrev pub returned : Core → Returned → StepResult
+returned c o = record { core = c; answer = Accepted (Ended o) }
+
+-- the frame at place p ends: its tree is released, and its place is the first free one
+unfoldable pub endAt : Core → ℕ → Core
+endAt c p =
+    let r : List ℕ × ℕ × ℕ = release (c .head .height) (c .pool) (c .head .numbers .«free_node») (c .head .«free_count») (frameAt (c .frames) p .root) in
+    record { head = withFreeNodes (withFreePlace (c .head) p) (r .1) (r .2); deques = c .deques; frames = endFrame (c .frames) (c .head .numbers .«free_place») p; pool = r .0 }
+
+-- a frame of depth d, whose parent is at place q, has ended on worker w, whose deque is empty. R-3: if that was the last child of a frame
+-- that waits in its return, "it ends too on that child's worker, and so on upward; the answer shows where that stopped: 1, 2 or 3"
+unfoldable pub upward : ℕ → Core → ℕ → ℕ → StepResult
+upward zero c w q = returned c Finished
+upward (suc d) c w q =
+    let f : Frame = frameAt (c .frames) q in
+    let ends = upward d (endAt c q) w (f .parent) in
+    cond (endsToo f) ends (returned (withTable c (goOn (tableOf c) w q)) (wentOn (tableOf c) q))
+
+-- worker w's bottom frame leaves its deque
+abbrev pub popped : Core → ℕ → Core
+popped c w = record { head = c .head; deques = pop (c .deques) w; frames = c .frames; pool = c .pool }
+
+-- worker w's bottom frame ends; "If its parent is then the bottom, the outcome is 0"
+unfoldable pub endBottom : Core → ℕ → StepResult
+endBottom c w =
+    let f : Frame = actingIn c w in
+    let c′ : Core = endAt (popped c w) (bottom (c .deques) w) in
+    let ends = upward (f .depth) c′ w (f .parent) in
+    cond (eqb (size (c′ .deques) w) 0) ends (returned c′ Continued)
+
+-- R-3: "A return with a live child now suspends the frame as returning and gives outcome 4; its worker goes idle, and its tree is held."
 unfoldable pub returnOn : Core → ℕ → StepResult
 returnOn c w =
-    let t : Table = return (tableOf c) w in
-    let p : List ℕ × ℕ × ℕ = release (c .head .height) (c .pool) (c .head .numbers .«free_node») (c .head .«free_count») (actingIn c w .root) in
-    stepResult (withFreeNodes (withFreePlace (c .head) (t .«free_place»)) (p .1) (p .2)) (t .deques) (t .frames) (p .0) (Accepted (Ended (returned (tableOf c) w)))
+    let ends = endBottom c w in
+    cond (eqb (actingIn c w .outstanding) 0) ends (returned (withTable c (suspend (tableOf c) w (asReturning (actingIn c w)))) Waiting)
 
 unfoldable pub stealOn : Core → ℕ → ℕ → StepResult
 stealOn c w v =
@@ -107,10 +144,10 @@ writeOn c w x v =
 
 -- ---- a step
 
--- refusals 13 to 16, of the kind alone. 16, by R-2: "when fewer nodes are free than that rest has", of the path to the splitter
+-- refusals 13, 15 and 16, of the kind alone; "14 no longer occurs" (R-3). 16, by R-2: "when fewer nodes are free than that rest has", of the path to the splitter
 abbrev pub kindTests : Core → Step → List (Bool × Refusal)
 kindTests c (Spawn w) = (eqb (c .head .numbers .«free_place») none, FramesFull) ∷ []
-kindTests c (Return w) = (not (eqb (actingIn c w .outstanding) 0), ChildLives) ∷ []
+kindTests c (Return w) = []
 kindTests c (Steal w v) = []
 kindTests c (Sync w) = []
 kindTests c (Read w x) = (not (ltb x (c .head .numbers .splitters)), NoSplitter) ∷ []

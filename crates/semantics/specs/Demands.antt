@@ -10,6 +10,8 @@ use lib.Dec.{eqb, ltb}
 use Rattle.words.specs.Basics.{count}
 use Rattle.words.specs.Below.{Words, Bytes}
 use Rattle.sizes.specs.Sizes.{height}
+use Rattle.frames.specs.Widths.{places}
+use Rattle.frames.specs.Frames.{frameAt}
 use Rattle.soundness.specs.Soundness.{freeNodes, cleared}
 use Rattle.model.specs.declared.Step.{Step}
 use Rattle.model.specs.declared.Step.the-variants.{Spawn, Return, Steal, Sync, Read, Write}
@@ -20,9 +22,9 @@ use Rattle.model.specs.Machine.{freeNodes as plainFree}
 use Rattle.model.specs.Steps.{refusal, step, answer, afterWrite}
 use Rattle.model.specs.Run.{Entry, IsFrame, stepsOf, readsOf, oneWorkerSteps}
 use Rattle.semantics.specs.Entries.{State, zeros, wholeNodes, numbersOf, isSound, chainFree}
-use Rattle.image.specs.Image.{imageBytes, nodesIn}
+use Rattle.image.specs.Image.{imageBytes, nodesIn, isOld}
 use Rattle.semantics.specs.Answers.{wordsIn}
-use Rattle.semantics.specs.Images.{savedImage, stateIn, nodesZero, loadOn}
+use Rattle.semantics.specs.Images.{savedImage, imageBefore, stateIn, nodesZero, loadOn}
 use Rattle.semantics.specs.SoundMachine.{machineOf}
 use Rattle.semantics.specs.Calls.{Start, startResult, HostCall, outside, tape, StateAndPool, afterStart, outsideResult, tapeResult, saveResult, afterCall, recordsIn, answersIn, PoolAt, restIn, coreIn, Past, Run, Call, call, save, load, begun, runOf, saysAccepted, traceFrom}
 
@@ -212,16 +214,23 @@ pub record RefusedLoad (s : State) (ws work image : List ℕ) : Type 0 where
   pub pool : loadOn s ws work image .result ≢ 6 → loadOn s ws work image .pool ≡ ws
   pub zero-nodes : loadOn s ws work image .result ≡ 6 → loadOn s ws work image .pool ≡ nodesZero ws
 
+-- R-3: "none waiting"
+abbrev pub NoneWaiting : State → Type 0
+NoneWaiting s = (p : ℕ) → p < places → frameAt (s .frames) p .returning ≡ 0
+
 -- what is read is what the image says; saved again it is the same image; the words past the recorded nodes stay
 pub record AcceptedLoad (s : State) (ws work image : List ℕ) : Type 0 where
   pub state : loadOn s ws work image .state ≡ stateIn image
   pub sound : isSound (stateIn image) (loadOn s ws work image .pool) ≡ true
-  pub again : Bytes image → savedImage (loadOn s ws work image .state) (loadOn s ws work image .pool) ≡ image
+  pub again : isOld image ≡ false → Bytes image → savedImage (loadOn s ws work image .state) (loadOn s ws work image .pool) ≡ image
+  -- R-3: "below 256, it is an image from before and reads as having none waiting"; saved as R-1 saved, it is the same image
+  pub none-waiting : isOld image ≡ true → NoneWaiting (loadOn s ws work image .state)
+  pub again-before : isOld image ≡ true → Bytes image → imageBefore (loadOn s ws work image .state) (loadOn s ws work image .pool) ≡ image
   pub same-length : length (loadOn s ws work image .pool) ≡ length ws
   pub beyond : drop (4 * nodesIn image) (loadOn s ws work image .pool) ≡ drop (4 * nodesIn image) ws
 
--- "Reading back gives the same state": of the image that an accepted save has written, into any parts that fit, a work slice that is long enough and a
--- pool that holds the nodes, whatever they hold and however much longer it is
+-- "Reading back gives the same state": of the image that an accepted save has written, and by R-3 of the one that R-1 wrote where none waits, into any
+-- parts that fit, a work slice that is long enough and a pool that holds the nodes, whatever they hold and however much longer it is
 abbrev pub writtenImage : StateAndPool → List ℕ → List ℕ → List ℕ
 writtenImage h work target = take (imageBytes (numbersOf (h .state) .nodes)) (saveResult h work target .target)
 

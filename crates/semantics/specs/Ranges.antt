@@ -3,7 +3,7 @@
 use mathlib.Core.Path.{_≡_}
 use mathlib.Core.Logic.{_⊎_}
 use mathlib.Core.Bool.{true}
-use Prim.Native.Nat.{ℕ, _≤_, _<_}
+use Prim.Native.Nat.{ℕ, zero, suc, _≤_, _<_}
 use lib.ListN.{length}
 use Rattle.words.specs.Basics.{none}
 use Rattle.sizes.specs.Sizes.{height}
@@ -11,9 +11,11 @@ use Rattle.pool.specs.Pool.{firstShared, rest}
 use Rattle.pool.specs.Links.{Link, LinksIn, PathIn, WriteIn}
 use Rattle.frames.specs.Widths.{maxWorkers, places, frameWords, dequePlaces, dequeWords}
 use Rattle.frames.specs.Deques.{size, place, bottom}
-use Rattle.frames.specs.Ranges.{ParentOf, ParentCounts}
+use Rattle.frames.specs.Frames.{frameAt}
+use Rattle.frames.specs.Steps.{endsToo}
+use Rattle.frames.specs.Ranges.{ParentOf, ParentCounts, EndsIn}
 use Rattle.soundness.specs.Soundness.{sound, freeCount}
-use Rattle.semantics.specs.Core.{Core, actingIn}
+use Rattle.semantics.specs.Core.{Core, actingIn, popped, endAt}
 
 -- a sound core: what every step keeps
 pub record Kept (c : Core) : Type 0 where
@@ -22,6 +24,20 @@ pub record Kept (c : Core) : Type 0 where
   pub height-is : c .head .height ≡ height (c .head .numbers .splitters)
   pub long-deques : length (c .deques) ≡ dequeWords
   pub long-frames : length (c .frames) ≡ frameWords
+
+-- the frame at place p can end: its tree can be released; its parent, if it has one, is at another place and has a live child
+pub record EndsAt (c : Core) (p : ℕ) : Type 0 where
+  pub links : LinksIn (c .head .numbers .nodes) (c .pool)
+  pub free-node : Link (c .head .numbers .nodes) (c .head .numbers .«free_node»)
+  pub root : frameAt (c .frames) p .root < c .head .numbers .nodes
+  pub frame : EndsIn (c .frames) p (frameAt (c .frames) p .parent)
+
+-- a frame of depth d, whose parent is at place q, has ended; if the parent ends too, it can, and so on upward, in at most d ends
+abbrev pub EndsUpward : ℕ → Core → ℕ → Type 0
+EndsUpward zero c q = Unit
+EndsUpward (suc d) c q =
+    (q < places)
+    × (endsToo (frameAt (c .frames) q) ≡ true → EndsAt c q × (frameAt (c .frames) q .depth ≡ d) × EndsUpward d (endAt c q) (frameAt (c .frames) q .parent))
 
 -- what a sound core gives: each index of the step's code has its range
 pub record Ready (c : Core) : Type 0 where
@@ -42,6 +58,8 @@ pub record Ready (c : Core) : Type 0 where
   pub root : (w : ℕ) → w < maxWorkers → 0 < size (c .deques) w → actingIn c w .root < c .head .numbers .nodes
   pub parent : (w : ℕ) → w < maxWorkers → 0 < size (c .deques) w → ParentOf (bottom (c .deques) w) (actingIn c w)
   pub counts : (w : ℕ) → w < maxWorkers → 0 < size (c .deques) w → ParentCounts (c .frames) (actingIn c w)
+  pub upward : (w : ℕ) → w < maxWorkers → 0 < size (c .deques) w → actingIn c w .outstanding ≡ 0
+      → EndsUpward (actingIn c w .depth) (endAt (popped c w) (bottom (c .deques) w)) (actingIn c w .parent)
   pub path : (w x : ℕ) → w < maxWorkers → 0 < size (c .deques) w → x < c .head .numbers .splitters → PathIn (c .head .numbers .nodes) (c .pool) (c .head .height) (actingIn c w .root) x
   pub writes : (w x : ℕ) → w < maxWorkers → 0 < size (c .deques) w → x < c .head .numbers .splitters → rest (c .head .height) (c .pool) (actingIn c w .root) x ≤ c .head .«free_count»
       → WriteIn (c .head .numbers .nodes) (c .head .height) (c .pool) (c .head .numbers .«free_node») x (firstShared (c .head .height) (c .pool) (actingIn c w .root) (actingIn c w .root) x)

@@ -29,10 +29,10 @@ abbrev pub placeOf : ℕ → Name → ℕ
 placeOf m [] = m
 placeOf m (k ∷ r) = k - 1
 
--- ---- frames: no history, and 64 spawns, so that the children to come have names that are not there
+-- ---- frames: no history, and 64 spawns, so that the children to come have names that are not there; R-3: "1 on a frame waiting so"
 
 abbrev pub frameOf : ℕ → List ℕ → List ℕ → ℕ → Frame
-frameOf n fs ws p = record { name = nameOf fs p; values = map (readAt (height n) ws (frameAt fs p .root)) (range n 0); history = []; spawned = places }
+frameOf n fs ws p = record { name = nameOf fs p; values = map (readAt (height n) ws (frameAt fs p .root)) (range n 0); history = []; spawned = places; returning = eqb (frameAt fs p .returning) 1 }
 
 abbrev pub framesOf : ℕ → List ℕ → List ℕ → List ℕ → List Frame
 framesOf n fs ws ps = map (frameOf n fs ws) ps

@@ -10,13 +10,21 @@ pub mod Stored
 pub mod SimRead
 pub mod SimWrite
 pub mod SimSteal
+-- a frame waits, a frame resumes, a frame ends
+pub mod Suspended
+pub mod Resumed
+pub mod EndedFrame
 pub mod SimSync
 pub mod SimSpawn
--- what a return leaves
-pub mod EndedFrame
 pub mod SimReturn
+-- what a return answers
+pub mod Returning
+-- what the ends upward find
+pub mod EndsUpward
 -- the engine refuses as the plain machine does
 pub mod Refusals
+-- the numbers that no step changes
+pub mod NumbersKept
 -- all six kinds
 pub mod Simulation
 -- ---- pools, soundness
@@ -50,6 +58,8 @@ pub mod RefusedCalls
 pub mod SoundSteps
 -- the same nodes in another pool
 pub mod Elsewhere
+-- frame records as R-1 had them
+pub mod OldRecords
 -- saves and readings, call by call
 pub mod Images
 -- calls, tapes

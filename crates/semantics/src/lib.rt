@@ -24,7 +24,7 @@ pub enum Done {
     Written(u32),
 }
 
-// Document 01's refusals, 1 to 16, document 02's, 17 to 19, and the entries' own, 99.
+// Document 01's refusals, 1 to 16 without 14, which no longer occurs (R-3), document 02's, 17 to 19, and the entries' own, 99.
 pub enum Refusal {
     Values,
     Workers,
@@ -39,7 +39,6 @@ pub enum Refusal {
     ThiefBusy,
     NoVictim,
     FramesFull,
-    ChildLives,
     NoSplitter,
     PoolFull,
     // 17 to 19: an image's blocks, a block's check, the target of a save

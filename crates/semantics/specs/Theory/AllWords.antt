@@ -11,9 +11,10 @@ use Rattle.words.specs.Tests.{decided}
 use Rattle.words.specs.Below.{Words, Bytes, words-set}
 use Rattle.pool.specs.Theory.Words.{words-retain, words-release, words-write, words-initPool}
 use Rattle.frames.specs.Widths.{frameWords, dequeWords}
-use Rattle.frames.specs.Frames.{withRoot}
-use Rattle.frames.specs.Deques.{bottom}
-use Rattle.frames.specs.Theory.Words.{words-setFrame, words-root, TableWords, words-acting, words-spawn, words-return, words-steal, words-sync, words-initFrames, words-initDeques}
+use Rattle.frames.specs.Frames.{frameAt, withRoot}
+use Rattle.frames.specs.Deques.{size, bottom}
+use Rattle.frames.specs.Steps.{Table, endsToo}
+use Rattle.frames.specs.Theory.Words.{words-frameAt, words-setFrame, words-root, TableWords, words-acting, words-spawn, words-waiting, bottom-word, words-endFrame, words-goOn, words-steal, words-sync, words-initFrames, words-initDeques}
 use Rattle.soundness.specs.declared.Numbers.{Numbers}
 use Rattle.soundness.specs.declared.Checked.{Checked}
 use Rattle.soundness.specs.declared.Checked.the-variants.{NoRoom, Sound}
@@ -24,7 +25,7 @@ use Rattle.model.specs.declared.Decoded.{Decoded}
 use Rattle.model.specs.declared.Decoded.the-variants.{Valid, Invalid}
 use Rattle.model.specs.Record.{little, validIf, recordOf, decodeAt}
 use Rattle.semantics.specs.declared.Refusal.{Refusal}
-use Rattle.semantics.specs.Core.{Core, StepResult, tableOf, actingIn, judged, spawnOn, returnOn, stealOn, syncOn, readOn, writeOn, testsOf, doneBy, stepOn}
+use Rattle.semantics.specs.Core.{Core, StepResult, tableOf, actingIn, withTable, judged, spawnOn, endAt, upward, popped, endBottom, returnOn, stealOn, syncOn, readOn, writeOn, testsOf, doneBy, stepOn}
 use Rattle.semantics.specs.Entries.{State, fits, coreOf, stateOf, checkedState, wholeNodes, startAccepted, StartResult, recordOn, outsideChecked, outsideWith, outsideOn, recordsFrom, recordsOf, recordsResult, runOn, unfitTape, tapeChecked, tapeWith, tapeOn}
 use Rattle.semantics.specs.Calls.{Start, afterStart, startResult, HostCall, outside, tape, StateAndPool, afterCall}
 use Rattle.semantics.specs.Demands.{StateWords, HostWords}
@@ -99,36 +100,73 @@ unfolding recordsFrom
 tape-words-decoded zero bytes at h = tt
 tape-words-decoded (suc k) bytes at h = (decoded-words bytes at h, tape-words-decoded k bytes (at + 8) h)
 
+-- ---- a return
+
+table-words : (c : Core) → CoreWords c → TableWords (tableOf c)
+table-words c C = record { deques = C .deques; frames = C .frames; place = C .numbers 4 }
+
+-- another table
+table-kept : (c : Core) (t : Table) → CoreWords c → TableWords t → CoreWords (withTable c t)
+table-kept c t C T = record { numbers = words-set (numberWords (c .head .numbers)) 4 _ (C .numbers) (T .place); deques = T .deques; frames = T .frames; pool = C .pool }
+
+-- the one result or the other
+either-result : (b : Bool) (x y : StepResult) → CoreWords (x .core) → CoreWords (y .core) → CoreWords (cond b x y .core)
+either-result b x y h k = elim (decided b) [ inl e ↦ rw e h | inr e ↦ rw e k ]
+
+popped-words : (c : Core) (w : ℕ) → CoreWords c → CoreWords (popped c w)
+popped-words c w C = record { numbers = C .numbers; deques = words-waiting (tableOf c) w (table-words c C) .deques; frames = C .frames; pool = C .pool }
+
+endAt-words : (c : Core) (p : ℕ) → p < 4294967296 → CoreWords c → CoreWords (endAt c p)
+unfolding endAt
+endAt-words c p h C =
+    let f = words-frameAt (c .frames) p (C .frames) in
+    let P = words-release (c .head .height) (c .pool) (c .head .numbers .«free_node») (c .head .«free_count») (frameAt (c .frames) p .root) (C .pool) (C .numbers 3) (f .root) in
+    record {
+      numbers = words-set (numberWords (setFreePlace (c .head .numbers) p)) 3 _ (words-set (numberWords (c .head .numbers)) 4 p (C .numbers) h) (P .free);
+      deques = C .deques;
+      frames = words-endFrame (c .frames) (c .head .numbers .«free_place») p (C .numbers 4) (C .frames);
+      pool = P .words;
+    }
+
+upward-words : (d : ℕ) (c : Core) (w q : ℕ) → q < 4294967296 → CoreWords c → CoreWords (upward d c w q .core)
+unfolding upward
+upward-words zero c w q h C = C
+upward-words (suc d) c w q h C =
+    either-result (endsToo (frameAt (c .frames) q)) _ _
+    (upward-words d (endAt c q) w (frameAt (c .frames) q .parent) (words-frameAt (c .frames) q (C .frames) .parent) (endAt-words c q h C))
+    (table-kept c _ C (words-goOn (tableOf c) w (table-words c C) q h))
+
+endBottom-words : (c : Core) (w : ℕ) → CoreWords c → CoreWords (endBottom c w .core)
+unfolding endBottom
+endBottom-words c w C =
+    let p : ℕ = bottom (c .deques) w in
+    let c′ : Core = endAt (popped c w) p in
+    let E : CoreWords c′ = endAt-words (popped c w) p (bottom-word (c .deques) w (C .deques)) (popped-words c w C) in
+    either-result (eqb (size (c′ .deques) w) 0) _ _ (upward-words (actingIn c w .depth) c′ w (actingIn c w .parent) (words-acting (tableOf c) w (table-words c C) .parent) E) E
+
+return-words : (c : Core) (w : ℕ) → CoreWords c → CoreWords (returnOn c w .core)
+unfolding returnOn
+return-words c w C =
+    either-result (eqb (actingIn c w .outstanding) 0) _ _ (endBottom-words c w C) (table-kept c _ C (words-waiting (tableOf c) w (table-words c C)))
+
 -- ---- a step
 
 module _ (c : Core) (C : CoreWords c) where
-  table-words : TableWords (tableOf c)
-  table-words = record { deques = C .deques; frames = C .frames; place = C .numbers 4 }
-
   root-word : (w : ℕ) → actingIn c w .root < 4294967296
-  root-word w = words-acting (tableOf c) w table-words .root
+  root-word w = words-acting (tableOf c) w (table-words c C) .root
 
   done-words : (st : Step) → RecordWords (Valid st) → CoreWords (doneBy c st .core)
   done-words (Spawn w) h =
-      let T = words-spawn (tableOf c) w table-words in
+      let T = words-spawn (tableOf c) w (table-words c C) in
       unfold spawnOn in
       record { numbers = words-set (numberWords (c .head .numbers)) 4 _ (C .numbers) (T .place); deques = T .deques; frames = T .frames; pool = words-retain (c .pool) _ (C .pool) }
-  done-words (Return w) h =
-      let T = words-return (tableOf c) w table-words in
-      let P = words-release (c .head .height) (c .pool) (c .head .numbers .«free_node») (c .head .«free_count») (actingIn c w .root) (C .pool) (C .numbers 3) (root-word w) in
-      unfold returnOn in
-      record {
-        numbers = words-set (numberWords (setFreePlace (c .head .numbers) _)) 3 _ (words-set (numberWords (c .head .numbers)) 4 _ (C .numbers) (T .place)) (P .free);
-        deques = T .deques;
-        frames = T .frames;
-        pool = P .words;
-      }
+  done-words (Return w) h = return-words c w C
   done-words (Steal w v) h =
-      let T = words-steal (tableOf c) w v table-words in
+      let T = words-steal (tableOf c) w v (table-words c C) in
       unfold stealOn in
       record { numbers = C .numbers; deques = T .deques; frames = C .frames; pool = C .pool }
   done-words (Sync w) h =
-      let T = words-sync (tableOf c) w table-words in
+      let T = words-sync (tableOf c) w (table-words c C) in
       unfold syncOn in
       record { numbers = C .numbers; deques = T .deques; frames = T .frames; pool = C .pool }
   done-words (Read w x) h = unfold readOn in C
@@ -138,7 +176,7 @@ module _ (c : Core) (C : CoreWords c) where
       record {
         numbers = words-set (numberWords (c .head .numbers)) 3 _ (C .numbers) (P .free);
         deques = C .deques;
-        frames = words-setFrame (c .frames) (bottom (c .deques) w) (withRoot (actingIn c w) _) (C .frames) (words-root (actingIn c w) (words-acting (tableOf c) w table-words) _ (P .root));
+        frames = words-setFrame (c .frames) (bottom (c .deques) w) (withRoot (actingIn c w) _) (C .frames) (words-root (actingIn c w) (words-acting (tableOf c) w (table-words c C)) _ (P .root));
         pool = P .words;
       }
 

@@ -1,122 +1,253 @@
--- What a return leaves: the ended frame's place is the first free one, its tree is released, and the other frames stand as they stood.
+-- The end of a frame: its place is the first free one, its parent has a live child less, its tree is released, and the other frames
+-- stand as they stood.
 use mathlib.Core.Path.{_≡_, refl, sym, ap, _∙_, subst}
-use mathlib.Core.List.{List·Memᴰ as In, List·Memᴰ·tail as there, Memᴰ·map as In-map}
-use mathlib.Core.List.{List, [], _∷_, _++_, List·Permᴰ, Permᴰ·symm, Permᴰ·map}
-use Prim.Native.Nat.{ℕ, _<_}
+use mathlib.Core.Logic.{_≢_, inl, inr}
+use mathlib.Core.Bool.{cond}
+use mathlib.Core.List.{List·Memᴰ as In, List·Memᴰ·head as here, List·Memᴰ·tail as there, List·Memᴰ·cases-cons as In-cons, Memᴰ·map as In-map}
+use mathlib.Core.List.{List, [], _∷_, List·Permᴰ, Permᴰ·symm, Permᴰ·map}
+use Prim.Native.Nat.{ℕ, _+_, _<_}
 use native.Mathlib.Omega.{arith}
 use native.Mathlib.Decide.{ℕ-discrete}
 use lib.ListN.{length, getD}
-use Rattle.words.specs.Basics.{joined}
+use Rattle.words.specs.Basics.{joined, same}
+use Rattle.words.specs.Tests.{decided}
 use Rattle.words.specs.Lists.{In-perm}
-use Rattle.words.specs.Counting.{δ-other, count, count-cons}
+use Rattle.words.specs.Distinct.{same-eq, same-ne, same-refl, same-differ}
+use Rattle.words.specs.Counting.{δ-other, count, count-cons, hit, miss}
 use Rattle.sizes.specs.Sizes.{height}
 use Rattle.pool.specs.Pool.{readAt, release}
-use Rattle.frames.specs.Widths.{places}
+use Rattle.frames.specs.Widths.{places, frameWords}
 use Rattle.frames.specs.Deques.{dequeList}
-use Rattle.frames.specs.Frames.{frameAt, freePlace}
-use Rattle.frames.specs.Steps.{Table, return as returnTable}
-use Rattle.frames.specs.Theory.Tables.{Formed}
-use Rattle.model.specs.Machine.{Frame, Machine, live, deque}
-use Rattle.model.specs.Theory.Effects.{rest, live-at}
-use Rattle.semantics.specs.Core.{Core, tableOf, actingIn, returnOn}
-use Rattle.semantics.specs.Theory.Relation.{Trees, TreeLaws, Kept, placesOf, rootOf, rootsOf, Recorded, Relates}
-use Rattle.semantics.specs.Theory.Places.{count-perm, map-cong, PlacedOnce, treeOf, same-numbers, acting-frame}
+use Rattle.frames.specs.declared.Frame.{Frame as FrameWords}
+use Rattle.frames.specs.Frames.{frameAt, withoutChild, freePlace}
+use Rattle.frames.specs.Steps.{endFrame}
+use Rattle.frames.specs.Theory.Cells.{Shaped}
+use Rattle.frames.specs.Theory.Places.{FreePlaces}
+use Rattle.frames.specs.Theory.Summary.{Ends, end-main, end-child}
+use Rattle.model.specs.Machine.{Name, Frame, Machine, live, withFrames, isChild}
+use Rattle.model.specs.Theory.LiveRun.{disjoint-perm}
+use Rattle.model.specs.Theory.FrameTree.{FrameTree, names-apart}
+use Rattle.semantics.specs.Core.{Core, tableOf, endAt}
+use Rattle.semantics.specs.Theory.Relation.{Trees, TreeLaws, Kept, parentPlace, childCount, placesOf, rootOf, rootsOf, Recorded, Relates}
+use Rattle.semantics.specs.Theory.Places.{count-perm, childCount-perm, map-cong, PlacedOnce, treeOf, same-numbers, recorded, recorded-as, recorded-kept, placed-inside, placed-taken, placed-apart}
 
--- the table after the return of worker w's bottom frame
-abbrev pub returnedTable : Core → ℕ → Table
-returnedTable c w = returnTable (tableOf c) w
+-- the frame table after the end of g, the others being R
+pub record FramesAfter {P : Trees} {M : Machine} {c : Core} (r : Relates P M c) (g : Frame) (R : List Frame) (fs′ : List ℕ) : Type 0 where
+  pub long : length fs′ ≡ frameWords
+  pub places : FreePlaces fs′ (r .at (g .name)) (r .at (g .name) ∷ r .gs)
+  pub freed : frameAt fs′ (r .at (g .name)) ≡ freePlace (c .head .numbers .«free_place»)
+  pub same-free : (p : ℕ) → 0 < count p (r .gs) → frameAt fs′ p ≡ frameAt (c .frames) p
+  pub same-root : (f : Frame) → In f R → rootOf fs′ (r .at) f ≡ rootOf (c .frames) (r .at) f
+  pub kept : (L′ : List Frame) → List·Permᴰ L′ R → (f : Frame) → In f R → (s : ℕ) → Recorded (c .frames) (r .at) (live M) s f → Recorded fs′ (r .at) L′ s f
 
--- other deques and suspended frames
-abbrev pub withFrames : Machine → List (List Frame) → List Frame → Machine
-withFrames M ds ss = record { splitters = M .splitters; nodes = M .nodes; deques = ds; suspended = ss }
+module _ {P : Trees} {M : Machine} {c : Core} (r : Relates P M c) (tree : FrameTree M) (g : Frame) (R : List Frame) (before : List·Permᴰ (live M) (g ∷ R)) where
+  abbrev own : ℕ
+  own = r .at (g .name)
 
--- ---- what the end of q leaves: R are the other frames, ds and ss the deques and the suspended frames, t′ is the table
+  abbrev fs′ : List ℕ
+  fs′ = endFrame (c .frames) (c .head .numbers .«free_place») own
 
-pub record Left {P : Trees} {M : Machine} {c : Core} (r : Relates P M c) (q : Frame) (R : List Frame) (ds : List (List Frame)) (ss : List Frame) (t′ : Table) : Type 0 where
+  old : (f : Frame) → In f (g ∷ R) → In f (live M)
+  old f m = In-perm (Permᴰ·symm before) m
+
+  taken : (f : Frame) → In f (g ∷ R) → count (r .at (f .name)) (r .gs) ≡ 0
+  taken f m = placed-taken r f (old f m)
+
+  differ : (f h : Frame) → In f (g ∷ R) → In h (g ∷ R) → f .name ≢ h .name → r .at (f .name) ≢ r .at (h .name)
+  differ f h mf mh = placed-apart r f h (old f mf) (old h mh)
+
+  apart : (f : Frame) → In f R → f .name ≢ g .name
+  apart f i z = names-apart g f R (disjoint-perm before (tree .disjoint)) i (sym z)
+
+  own-record : (s : ℕ) × Recorded (c .frames) (r .at) (live M) s g
+  own-record = recorded r g (old g (here refl))
+
+  counts : (n : Name) (L′ : List Frame) → List·Permᴰ L′ R → childCount n (live M) ≡ cond (isChild n (g .name)) 1 0 + childCount n L′
+  counts n L′ π = omega (arith, childCount-perm n before, childCount-perm n π)
+
+  -- ---- Main
+
+  module _ (main : g .name ≡ []) where
+    F : Ends (tableOf c) 0 own (dequeList (c .deques) 0) (r .gs) (own ∷ [])
+    F = end-main (tableOf c) 0 own (dequeList (c .deques) 0) (r .gs) (r .formed) refl (own-record .1 .inside) (taken g (here refl)) (own-record .1 .parent ∙ ap (parentPlace (r .at)) main)
+
+    main-same : (f : Frame) → In f R → frameAt fs′ (r .at (f .name)) ≡ frameAt (c .frames) (r .at (f .name))
+    main-same f i = F .after .records (r .at (f .name)) (differ f g (there i) (here refl) (apart f i), tt)
+
+    main-after : FramesAfter r g R fs′
+    main-after = record {
+      long = F .after .formed .long;
+      places = F .after .formed .places;
+      freed = F .freed;
+      same-free = λ p h. F .after .records p ((λ z. omega (arith, h, taken g (here refl), ap (λ (x : ℕ). count x (r .gs)) z)), tt);
+      same-root = λ f i. ap (λ (G : FrameWords). G .root) (main-same f i);
+      kept = λ L′ π f i s.
+          recorded-kept (c .frames) fs′ (r .at) (r .at) (live M) L′ s f refl (main-same f i) refl
+          (omega (arith, counts (f .name) L′ π, miss {b = isChild (f .name) (g .name)} (ap (isChild (f .name)) main)));
+    }
+
+  -- ---- a child: h is the parent
+
+  module _ (k : ℕ) (p : Name) (eq : g .name ≡ k ∷ p) (h : Frame) (mh : In h R) (eh : h .name ≡ p) where
+    abbrev upper : ℕ
+    upper = r .at p
+
+    parent-inside : upper < places
+    parent-inside = subst (λ (n : Name). r .at n < places) eh (placed-inside r h (old h (there mh)))
+
+    parent-taken : count upper (own ∷ r .gs) ≡ 0
+    parent-taken =
+        subst (λ (n : Name). count (r .at n) (own ∷ r .gs) ≡ 0) eh
+        (omega (arith, count-cons (r .at (h .name)) own (r .gs), taken h (there mh), δ-other (r .at (h .name)) own (differ h g (there mh) (here refl) (apart h mh))))
+
+    X : Ends (tableOf c) 0 own (dequeList (c .deques) 0) (r .gs) (upper ∷ own ∷ []) × (frameAt fs′ upper ≡ withoutChild (frameAt (c .frames) upper))
+    X = end-child (tableOf c) 0 own (dequeList (c .deques) 0) (r .gs) (r .formed) refl (own-record .1 .inside) (taken g (here refl)) upper
+        (own-record .1 .parent ∙ ap (parentPlace (r .at)) eq) parent-inside parent-taken
+
+    counts-parent : (L′ : List Frame) → List·Permᴰ L′ R → childCount p (live M) ≡ 1 + childCount p L′
+    counts-parent L′ π = omega (arith, counts p L′ π, hit {b = isChild p (g .name)} (ap (isChild p) eq ∙ same-refl p))
+
+    counts-other : (n : Name) → n ≢ p → (L′ : List Frame) → List·Permᴰ L′ R → childCount n L′ ≡ childCount n (live M)
+    counts-other n ne L′ π = omega (arith, counts n L′ π, miss {b = isChild n (g .name)} (ap (isChild n) eq ∙ same-differ (λ z. ne (sym z))))
+
+    child-same : (f : Frame) → In f R → f .name ≢ p → frameAt fs′ (r .at (f .name)) ≡ frameAt (c .frames) (r .at (f .name))
+    child-same f i ne =
+        X .0 .after .records (r .at (f .name))
+        (subst (λ (n : Name). r .at (f .name) ≢ r .at n) eh (differ f h (there i) (there mh) (λ z. ne (z ∙ eh))), (differ f g (there i) (here refl) (apart f i), tt))
+
+    child-free : (z : ℕ) → 0 < count z (r .gs) → frameAt fs′ z ≡ frameAt (c .frames) z
+    child-free z b =
+        X .0 .after .records z (
+          (λ y. omega (arith, b, parent-taken, count-cons upper own (r .gs), ap (λ (x : ℕ). count x (r .gs)) y)),
+          ((λ y. omega (arith, b, taken g (here refl), ap (λ (x : ℕ). count x (r .gs)) y)), tt),
+        )
+
+    -- the parent has the name p
+    parent-kept : (L′ : List Frame) → List·Permᴰ L′ R → (f : Frame) → f .name ≡ p → (s : ℕ) → Recorded (c .frames) (r .at) (live M) s f → Recorded fs′ (r .at) L′ s f
+    parent-kept L′ π f z s W =
+        recorded-as fs′ (r .at) L′ s f (r .at (f .name)) (withoutChild (frameAt (c .frames) (r .at (f .name)))) refl
+        (subst (λ (n : Name). frameAt fs′ (r .at n) ≡ withoutChild (frameAt (c .frames) (r .at n))) (sym z) (X .1))
+        (W .inside) (W .live) (W .parent) (W .depth)
+        (omega (arith, W .outstanding, subst (λ (n : Name). childCount n (live M) ≡ 1 + childCount n L′) (sym z) (counts-parent L′ π))) (W .suspended) (W .returning)
+
+    child-after : FramesAfter r g R fs′
+    child-after = record {
+      long = X .0 .after .formed .long;
+      places = X .0 .after .formed .places;
+      freed = X .0 .freed;
+      same-free = child-free;
+      same-root = λ f i. elim (decided (same (f .name) p)) [
+        | inl z ↦ subst (λ (n : Name). frameAt fs′ (r .at n) .root ≡ frameAt (c .frames) (r .at n) .root) (sym (same-eq (f .name) p z)) (ap (λ (G : FrameWords). G .root) (X .1))
+        | inr z ↦ ap (λ (G : FrameWords). G .root) (child-same f i (same-ne z))
+      ];
+      kept = λ L′ π f i s W. elim (decided (same (f .name) p)) [
+        | inl z ↦ parent-kept L′ π f (same-eq (f .name) p z) s W
+        | inr z ↦ recorded-kept (c .frames) fs′ (r .at) (r .at) (live M) L′ s f refl (child-same f i (same-ne z)) refl (counts-other (f .name) (same-ne z) L′ π) W
+      ];
+    }
+
+  -- "Every other live frame has a live parent"
+  parent-lives : (k : ℕ) (p : Name) → g .name ≡ k ∷ p → (h : Frame) × In h R × (h .name ≡ p)
+  parent-lives k p z =
+      let x = tree .rooted g (old g (here refl)) k p z in
+      elim (In-cons (In-perm before (x .1))) [
+        | inl y ↦ absurd (omega (arith, ap length z, ap length (x .2), ap (λ (f : Frame). length (f .name)) y))
+        | inr i ↦ (x .0, i, x .2)
+      ]
+
+  pub frames-after : FramesAfter r g R fs′
+  frames-after = by-name (g .name) refl
+    where
+      by-name : (n : Name) → g .name ≡ n → FramesAfter r g R fs′
+      by-name [] z = main-after z
+      by-name (k ∷ p) z = let h = parent-lives k p z in child-after k p z (h .0) (h .1) (h .2)
+
+-- ---- the whole: ds and ss are the deques and the suspended frames afterwards, dsw the words of the deques
+
+pub record Left {P : Trees} {M : Machine} {c : Core} (r : Relates P M c) (R : List Frame) (ds : List (List Frame)) (ss : List Frame) (dsw : List ℕ) : Type 0 where
   pub workers : length ds ≡ length (M .deques)
   pub frames : List·Permᴰ (live (withFrames M ds ss)) R
-  pub formed : Formed t′ (r .at (q .name) ∷ r .gs)
-  pub freed : frameAt (t′ .frames) (r .at (q .name)) ≡ freePlace (c .head .numbers .«free_place»)
-  pub same-free : (p : ℕ) → 0 < count p (r .gs) → frameAt (t′ .frames) p ≡ frameAt (c .frames) p
-  pub same-root : (f : Frame) → In f R → rootOf (t′ .frames) (r .at) f ≡ rootOf (c .frames) (r .at) f
-  pub deques : (v : ℕ) → v < 8 → dequeList (t′ .deques) v ≡ placesOf (r .at) (getD ds v [])
-  pub running : (f : Frame) → In f (joined ds) → Recorded (t′ .frames) (r .at) (live (withFrames M ds ss)) 0 f
-  pub waiting : (f : Frame) → In f ss → Recorded (t′ .frames) (r .at) (live (withFrames M ds ss)) 1 f
+  pub shaped : Shaped dsw
+  pub deques : (v : ℕ) → v < 8 → dequeList dsw v ≡ placesOf (r .at) (getD ds v [])
+  pub running : (f : Frame) → In f (joined ds) → In f R × In f (joined (M .deques))
+  pub waiting : (f : Frame) → In f ss → In f R × In f (M .suspended)
 
--- the pool after the release of the tree at that root
-abbrev released : Core → ℕ → List ℕ × ℕ × ℕ
-released c root = release (c .head .height) (c .pool) (c .head .numbers .«free_node») (c .head .«free_count») root
+-- the core with other deques
+abbrev pub withDeques : Core → List ℕ → Core
+withDeques c ds = record { head = c .head; deques = ds; frames = c .frames; pool = c .pool }
 
-module _ {P : Trees} {M : Machine} {c : Core} (r : Relates P M c) (w : ℕ) (q : Frame) (d : List Frame) (lt : w < length (M .deques)) (e : deque M w ≡ q ∷ d)
-    (ds : List (List Frame)) (ss : List Frame) (X : Left r q (d ++ rest M w) ds ss (returnedTable c w)) where
-  abbrev others : List Frame
-  others = d ++ rest M w
-
+module _ {P : Trees} {M : Machine} {c : Core} (r : Relates P M c) (tree : FrameTree M) (g : Frame) (R : List Frame) (before : List·Permᴰ (live M) (g ∷ R))
+    (ds : List (List Frame)) (ss : List Frame) (dsw : List ℕ) (X : Left r R ds ss dsw) where
   abbrev M′ : Machine
   M′ = withFrames M ds ss
 
-  abbrev fs′ : List ℕ
-  fs′ = returnedTable c w .frames
+  A : FramesAfter r g R (fs′ r tree g R before)
+  A = frames-after r tree g R before
 
+  abbrev after-words : List ℕ
+  after-words = fs′ r tree g R before
+
+  -- the pool after the release of the tree of g
   abbrev pool′ : List ℕ × ℕ × ℕ
-  pool′ = released c (actingIn c w .root)
+  pool′ = release (c .head .height) (c .pool) (c .head .numbers .«free_node») (c .head .«free_count») (rootOf (c .frames) (r .at) g)
 
-  before : List·Permᴰ (live M) (q ∷ others)
-  before = live-at M w (q ∷ d) lt e
-
-  once-left : PlacedOnce (r .at) (r .at (q .name) ∷ r .gs) (live M′)
+  once-left : PlacedOnce (r .at) (r .at (g .name) ∷ r .gs) (live M′)
   once-left p b =
       let at : Frame → ℕ = λ f. r .at (f .name) in
-      omega (arith, r .once p b, count-perm p (Permᴰ·map at before), count-perm p (Permᴰ·map at (X .frames)), count-cons p (r .at (q .name)) (placesOf (r .at) others), count-cons p (r .at (q .name)) (r .gs))
+      omega (arith, r .once p b, count-perm p (Permᴰ·map at before), count-perm p (Permᴰ·map at (X .frames)), count-cons p (r .at (g .name)) (placesOf (r .at) R), count-cons p (r .at (g .name)) (r .gs))
 
-  vacant-left : (p : ℕ) → p < places → 0 < count p (r .at (q .name) ∷ r .gs) → (x : ℕ) × (frameAt fs′ p ≡ freePlace x)
+  vacant-left : (p : ℕ) → p < places → 0 < count p (r .at (g .name) ∷ r .gs) → (x : ℕ) × (frameAt after-words p ≡ freePlace x)
   vacant-left p b h =
-      elim (ℕ-discrete p (r .at (q .name))) [
-        | yes z ↦ (c .head .numbers .«free_place», ap (frameAt fs′) z ∙ X .freed)
-        | no z ↦ (let h′ : 0 < count p (r .gs) = omega (arith, h, count-cons p (r .at (q .name)) (r .gs), δ-other p (r .at (q .name)) z) in
-            let o = r .vacant p b h′ in (o .0, X .same-free p h′ ∙ o .1))
+      elim (ℕ-discrete p (r .at (g .name))) [
+        | yes z ↦ (c .head .numbers .«free_place», ap (frameAt after-words) z ∙ A .freed)
+        | no z ↦ (let h′ : 0 < count p (r .gs) = omega (arith, h, count-cons p (r .at (g .name)) (r .gs), δ-other p (r .at (g .name)) z) in
+            let o = r .vacant p b h′ in (o .0, A .same-free p h′ ∙ o .1))
       ]
 
-  roots-left : rootsOf fs′ (r .at) others ≡ rootsOf (c .frames) (r .at) others
-  roots-left =
-      map-cong (treeOf fs′ (r .at)) (treeOf (c .frames) (r .at)) others (λ f i. ap (λ (x : ℕ). (x, f .history)) (X .same-root f i))
+  roots-left : rootsOf after-words (r .at) R ≡ rootsOf (c .frames) (r .at) R
+  roots-left = map-cong (treeOf after-words (r .at)) (treeOf (c .frames) (r .at)) R (λ f i. ap (λ (x : ℕ). (x, f .history)) (A .same-root f i))
 
   module _ (laws : TreeLaws (c .head .numbers .nodes) (M .splitters) P) where
-    pool-left : P (pool′ .0) (pool′ .1) (pool′ .2) (rootsOf (c .frames) (r .at) others)
-        × Kept (height (M .splitters)) (M .splitters) (c .pool) (pool′ .0) (rootsOf (c .frames) (r .at) others)
+    pool-left : P (pool′ .0) (pool′ .1) (pool′ .2) (rootsOf (c .frames) (r .at) R)
+        × Kept (height (M .splitters)) (M .splitters) (c .pool) (pool′ .0) (rootsOf (c .frames) (r .at) R)
     pool-left =
-        rw (acting-frame r w q d lt e, r .numbers .height-is)
-        (laws .return (c .pool) (c .head .numbers .«free_node») (c .head .«free_count») (treeOf (c .frames) (r .at) q) (rootsOf (c .frames) (r .at) others)
-        (laws .perm (c .pool) (c .head .numbers .«free_node») (c .head .«free_count») (rootsOf (c .frames) (r .at) (live M)) (rootsOf (c .frames) (r .at) (q ∷ others))
+        rw (r .numbers .height-is)
+        (laws .return (c .pool) (c .head .numbers .«free_node») (c .head .«free_count») (treeOf (c .frames) (r .at) g) (rootsOf (c .frames) (r .at) R)
+        (laws .perm (c .pool) (c .head .numbers .«free_node») (c .head .«free_count») (rootsOf (c .frames) (r .at) (live M)) (rootsOf (c .frames) (r .at) (g ∷ R))
         (Permᴰ·map (treeOf (c .frames) (r .at)) before) (r .trees)))
 
-    trees-left : P (pool′ .0) (pool′ .1) (pool′ .2) (rootsOf fs′ (r .at) (live M′))
+    trees-left : P (pool′ .0) (pool′ .1) (pool′ .2) (rootsOf after-words (r .at) (live M′))
     trees-left =
         laws .perm (pool′ .0) (pool′ .1) (pool′ .2)
-        (rootsOf fs′ (r .at) others) (rootsOf fs′ (r .at) (live M′))
-        (Permᴰ·map (treeOf fs′ (r .at)) (Permᴰ·symm (X .frames)))
+        (rootsOf after-words (r .at) R) (rootsOf after-words (r .at) (live M′))
+        (Permᴰ·map (treeOf after-words (r .at)) (Permᴰ·symm (X .frames)))
         (subst (P (pool′ .0) (pool′ .1) (pool′ .2)) (sym roots-left) (pool-left .0))
 
     values-left : (f : Frame) → In f (live M′) → (x : ℕ) → x < M .splitters
-        → readAt (height (M .splitters)) (pool′ .0) (rootOf fs′ (r .at) f) x ≡ getD (f .values) x 0
+        → readAt (height (M .splitters)) (pool′ .0) (rootOf after-words (r .at) f) x ≡ getD (f .values) x 0
     values-left f m x b =
         let i = In-perm (X .frames) m in
-        ap (λ (z : ℕ). readAt (height (M .splitters)) (pool′ .0) z x) (X .same-root f i)
+        ap (λ (z : ℕ). readAt (height (M .splitters)) (pool′ .0) z x) (A .same-root f i)
         ∙ pool-left .1 (treeOf (c .frames) (r .at) f) (In-map (treeOf (c .frames) (r .at)) i) x b
         ∙ r .values f (In-perm (Permᴰ·symm before) (there i)) x b
 
-    pub left-relates : Relates P (withFrames M ds ss) (returnOn c w .core)
-    unfolding returnOn
-    left-relates = record {
+    relates-left : Relates P (withFrames M ds ss) (endAt (withDeques c dsw) (r .at (g .name)))
+    unfolding endAt
+    relates-left = record {
       at = r .at;
-      gs = r .at (q .name) ∷ r .gs;
-      numbers = same-numbers M c (returnOn c w .core) ds ss (X .workers) (r .numbers) refl refl refl refl;
-      formed = X .formed;
+      gs = r .at (g .name) ∷ r .gs;
+      numbers = same-numbers M c (endAt (withDeques c dsw) (r .at (g .name))) ds ss (X .workers) (r .numbers) refl refl refl refl;
+      formed = record { shaped = X .shaped; long = A .long; places = A .places };
       deques = X .deques;
-      running = X .running;
-      waiting = X .waiting;
+      running = λ f m. (let x = X .running f m in A .kept (live M′) (X .frames) f (x .0) 0 (r .running f (x .1)));
+      waiting = λ f m. (let x = X .waiting f m in A .kept (live M′) (X .frames) f (x .0) 1 (r .waiting f (x .1)));
       once = once-left;
       vacant = vacant-left;
       trees = trees-left;
       values = values-left;
     }
+
+    -- the frames that are left keep their places
+    pub end-relates : (r′ : Relates P (withFrames M ds ss) (endAt (withDeques c dsw) (r .at (g .name)))) × (r′ .at ≡ r .at)
+    unfolding relates-left
+    end-relates = (relates-left, refl)

@@ -1,13 +1,15 @@
 -- A sound state and pool, however obtained, relate to a plain machine that has what a run's machines have.
 use mathlib.Core.Path.{_≡_, refl, sym, ap, _∙_, subst}
-use mathlib.Core.Logic.{inl, inr}
+use mathlib.Core.Logic.{_⊎_, inl, inr}
 use mathlib.Core.List.{List·Memᴰ as In, List·Memᴰ·head as here, List·Memᴰ·not-nil as not-in-nil, List·Memᴰ·eq-of-singleton as In-one, Memᴰ·map as In-map, Memᴰ·of-map as In-unmap}
 use mathlib.Core.List.{List, [], _∷_, _++_, map}
-use mathlib.Core.Bool.{true}
+use mathlib.Core.Bool.{true, false}
 use Prim.Native.Nat.{ℕ, zero, suc, _+_, _≤_, _<_}
 use native.Mathlib.Omega.{arith}
 use native.Mathlib.Decide.{decLt}
 use lib.ListN.{length, getD, length-map, List·getD-map, List·getD-eq-default}
+use lib.Dec.{eqb}
+use borrow.Author.Tests.{eq-eqb, ne-eqb}
 use Rattle.words.specs.Basics.{joined, count}
 use Rattle.words.specs.Counting.{range}
 use Rattle.sizes.specs.Sizes.{height, treeNodes}
@@ -28,7 +30,8 @@ use Rattle.model.specs.Theory.Histories.{inUse-within, inUse-none}
 use Rattle.model.specs.Theory.PoolBound.{inUse-main}
 use Rattle.semantics.specs.Core.{Core}
 use Rattle.semantics.specs.Entries.{headOf}
-use Rattle.semantics.specs.Theory.Relation.{childCount, rootsOf, placesOf, Recorded, Relates}
+use Rattle.semantics.specs.Theory.Relation.{childCount, rootsOf, placesOf, bit, Recorded, Relates}
+use Rattle.semantics.specs.Theory.Places.{in-deque}
 use Rattle.semantics.specs.Theory.Pools.{LiveTrees}
 use Rattle.soundness.specs.Theory.Sentences.{Lives, FramesFacts, SoundFacts, sound-facts}
 use Rattle.semantics.specs.Theory.PoolSentences.{pool-live}
@@ -57,6 +60,12 @@ map-append h (x ∷ l) m = ap (λ z. h x ∷ z) (map-append h l m)
 joined-map : {A B : Type 0} (h : A → B) (ls : List (List A)) → joined (map (map h) ls) ≡ map h (joined ls)
 joined-map h [] = refl
 joined-map h (l ∷ ls) = ap (λ z. map h l ++ z) (joined-map h ls) ∙ sym (map-append h l (joined ls))
+
+-- ---- a word that is 0 or 1
+
+word-bit : (x : ℕ) → (x ≡ 0) ⊎ (x ≡ 1) → x ≡ bit (eqb x 1)
+word-bit x (inl e) = e ∙ ap bit (sym (ne-eqb x 1 (λ d. omega arith)))
+word-bit x (inr e) = e ∙ ap bit (sym (eq-eqb x 1 e))
 
 -- ---- the core of numbers and words, with the free nodes counted
 
@@ -119,6 +128,7 @@ module _ (s : Numbers) (ds fs ws : List ℕ) where
               ap (λ k. frameAt fs k .outstanding) q ∙ F .outstanding p b l
               ∙ sym (ap (childCount (nameOf fs p)) live-frames ∙ children-frames (s .splitters) fs ws R L live-there p b l ∙ live-children F few p);
           suspended = ap (λ k. frameAt fs k .suspended) q ∙ e;
+          returning = ap (λ k. frameAt fs k .returning) q ∙ word-bit (frameAt fs p .returning) (elim (F .returning p b l) [ inl r ↦ inl r | inr r ↦ inr (r .0) ]);
         }
 
     running-recorded : (f : Frame) → In f (joined (M .deques)) → Recorded fs at (live M) 0 f
@@ -199,9 +209,19 @@ module _ (s : Numbers) (ds fs ws : List ℕ) where
       | no h ↦ subst (DequeShape (live M)) (sym (deque-none v (omega arith))) (tt, tt)
     ]
 
+    -- a frame in a deque is not suspended, so that it is not returning
+    active-there : (v : ℕ) (f : Frame) → In f (deque M v) → f .returning ≡ false
+    active-there v f m =
+        let i = subst (In f) (joined-map framed (runningPlaces (s .workers) ds)) (in-deque (M .deques) v m) in
+        let x = In-unmap framed (joined (runningPlaces (s .workers) ds)) i in
+        let l = running-of F few (x .0) (x .1) in
+        let z : frameAt fs (x .0) .suspended ≡ 0 = elim (F .placed (x .0) (l .0) (l .1)) [ inl r ↦ r .1 | inr r ↦ absurd (omega (arith, l .2, r .0)) ] in
+        ap (λ (g : Frame). g .returning) (sym (x .2)) ∙ ne-eqb (frameAt fs (x .0) .returning) 1 (λ e. elim (F .returning (x .0) (l .0) (l .1)) [ inl r ↦ omega arith | inr r ↦ omega (arith, r .1) ])
+
     deques-there : DequeInvariant M
     deques-there = record {
       shape = shape-there;
+      active = active-there;
       waits = λ f m.
           let x = In-unmap framed (waitingPlaces ds fs) m in
           let l = waiting-of ds fs (x .0) (x .1) in

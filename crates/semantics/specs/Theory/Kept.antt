@@ -45,7 +45,7 @@ kept-start s ds fs ws ks free dlen flen e =
 -- ---- every step keeps it
 
 -- the core is that of its numbers and words, with the free nodes counted
-core-counted : (c : Core) → Kept c → countedCore (c .head .numbers) (c .deques) (c .frames) (c .pool) ≡ c
+pub core-counted : (c : Core) → Kept c → countedCore (c .head .numbers) (c .deques) (c .frames) (c .pool) ≡ c
 core-counted c K = ap₂ at (sym (K .height-is)) (sym (K .counted))
   where
     at : ℕ → ℕ → Core

@@ -6,14 +6,16 @@ use mathlib.Core.List.{List, [], _∷_}
 use Prim.Native.Nat.{ℕ, zero, suc, _+_, _-_}
 use lib.ListN.{length, replicate, length-replicate}
 use lib.Dec.{eqb, ltb}
-use Rattle.words.specs.Basics.{none}
+use Rattle.words.specs.Basics.{none, plus}
 use Rattle.words.specs.Tests.{decided}
 use Rattle.sizes.specs.Sizes.{treeNodes}
+use Rattle.pool.specs.Pool.{refcount, left, right, freed, release}
+use Rattle.pool.specs.Theory.Nodes.{length-setNode, length-setRefcount}
 use Rattle.frames.specs.declared.Frame.{Frame}
 use Rattle.frames.specs.Widths.{frameWords, dequeWords}
-use Rattle.frames.specs.Frames.{setFrame, withSuspended}
+use Rattle.frames.specs.Frames.{frameAt, setFrame, freePlace}
 use Rattle.frames.specs.Deques.{size, setPlace, bottom, push, pop, shiftUp, dropTop, initDeques}
-use Rattle.frames.specs.Steps.{Table, acting, resumes, spawn, ended, parentAfter, parentPlace, parentFrame, return, steal, sync}
+use Rattle.frames.specs.Steps.{Table, acting, spawn, suspend, endFrame, endsToo, resumes, goOn, steal, sync}
 use Rattle.frames.specs.Theory.Records.{length-setFrame}
 use Rattle.frames.specs.Theory.Cells.{length-setSize, length-setPlace}
 use Rattle.frames.specs.Theory.Start.{length-init}
@@ -25,7 +27,7 @@ use Rattle.model.specs.declared.Decoded.{Decoded}
 use Rattle.model.specs.declared.Decoded.the-variants.{Valid, Invalid}
 use Rattle.model.specs.Record.{recordOf}
 use Rattle.semantics.specs.declared.Refusal.{Refusal}
-use Rattle.semantics.specs.Core.{Core, StepResult, tableOf, judged, testsOf, spawnOn, returnOn, stealOn, syncOn, readOn, writeOn, doneBy, stepOn}
+use Rattle.semantics.specs.Core.{Core, StepResult, tableOf, actingIn, withTable, judged, testsOf, spawnOn, endAt, upward, popped, endBottom, returnOn, stealOn, syncOn, readOn, writeOn, doneBy, stepOn}
 use Rattle.semantics.specs.Entries.{State, coreOf, stateOf, checkedState, zeros, StartResult, wholeNodes, firstState, startWith, startOn, outsideChecked, outsideWith, outsideOn, recordOn, recordsResult, runOn, recordsOf, unfitTape, tapeChecked, tapeWith, tapeOn}
 use Rattle.semantics.specs.Promises.{Fits}
 use Rattle.semantics.specs.Calls.{HostCall, outside, tape, StateAndPool, afterCall}
@@ -77,14 +79,13 @@ module _ (t : Table) (w : ℕ) where
     frames = length-setFrame (setFrame (t .frames) (bottom (t .deques) w) _) (t .«free_place») _ ∙ length-setFrame (t .frames) (bottom (t .deques) w) _;
   }
 
-  ended-long : AsLong t (ended t w)
-  ended-long = record { deques = length-pop (t .deques) w; frames = length-setFrame (t .frames) (bottom (t .deques) w) _ }
+  suspend-long : (f : Frame) → AsLong t (suspend t w f)
+  suspend-long f = record { deques = length-pop (t .deques) w; frames = length-setFrame (t .frames) (bottom (t .deques) w) f }
 
-  parent-long : (q : ℕ) (f : Frame) → AsLong t (parentAfter t w q f)
-  parent-long q f =
-      either (resumes (size (t .deques) w) f)
-      (record { deques = length-push (t .deques) w q; frames = length-setFrame (t .frames) q (withSuspended f 0) })
-      (record { deques = refl; frames = length-setFrame (t .frames) q f })
+  goOn-long : (q : ℕ) → AsLong t (goOn t w q)
+  unfolding goOn
+  goOn-long q =
+      either (resumes (frameAt (t .frames) q)) (record { deques = length-push (t .deques) w q; frames = length-setFrame (t .frames) q _ }) (as-long-refl t)
 
   steal-long : (v : ℕ) → AsLong t (steal t w v)
   unfolding steal
@@ -93,20 +94,91 @@ module _ (t : Table) (w : ℕ) where
   sync-long : AsLong t (sync t w)
   unfolding sync
   sync-long =
-      either (eqb (acting t w .outstanding) 0) (as-long-refl t)
-      (record { deques = length-pop (t .deques) w; frames = length-setFrame (t .frames) (bottom (t .deques) w) _ })
+      either (eqb (acting t w .outstanding) 0) (as-long-refl t) (suspend-long _)
 
-return-long : (t : Table) (w : ℕ) → AsLong t (return t w)
-unfolding return
-return-long t w =
-    either (eqb (parentPlace t w) none) (ended-long t w)
-    (as-long-trans (ended-long t w) (parent-long (ended t w) w (parentPlace t w) (parentFrame t w)))
+length-endFrame : (fs : List ℕ) (free p : ℕ) → length (endFrame fs free p) ≡ length fs
+unfolding endFrame
+length-endFrame fs free p = elim (decided (eqb (frameAt fs p .parent) none)) [
+  | inl e ↦ rw e (length-setFrame fs p (freePlace free))
+  | inr e ↦ rw e (length-setFrame (setFrame fs p (freePlace free)) (frameAt fs p .parent) _ ∙ length-setFrame fs p (freePlace free))
+]
+
+length-release : (l : ℕ) (ws : List ℕ) (free k i : ℕ) → length (release l ws free k i .0) ≡ length ws
+unfolding release
+length-release zero ws free k i = elim (decided (eqb i none)) [
+  | inl e ↦ rw (e, release) refl
+  | inr e ↦ elim (decided (eqb (refcount ws i - 1) 0)) [
+    | inl d ↦ rw (e, d, release) (length-setNode ws i 0 free 0 0)
+    | inr d ↦ rw (e, d, release) (length-setRefcount ws i (refcount ws i - 1))
+  ]
+]
+length-release (suc l) ws free k i =
+    let p : List ℕ × ℕ × ℕ = release l (freed ws free i) i (plus k 1) (left ws i) in
+    let first : length (p .0) ≡ length ws = length-release l (freed ws free i) i (plus k 1) (left ws i) ∙ length-setNode ws i 0 free 0 0 in
+    let both : length (release l (p .0) (p .1) (p .2) (right ws i) .0) ≡ length ws = length-release l (p .0) (p .1) (p .2) (right ws i) ∙ first in
+    elim (decided (eqb i none)) [
+      | inl e ↦ rw (e, release) refl
+      | inr e ↦ elim (decided (eqb (refcount ws i - 1) 0)) [
+        | inl d ↦ rw (e, d, release) both
+        | inr d ↦ rw (e, d, release) (length-setRefcount ws i (refcount ws i - 1))
+      ]
+    ]
+
+-- ---- a return
+
+-- a core's table and pool are as long as before
+record CoreAsLong (c c′ : Core) : Type 0 where
+  table : AsLong (tableOf c) (tableOf c′)
+  pool : length (c′ .pool) ≡ length (c .pool)
+
+core-long-trans : {c d e : Core} → CoreAsLong c d → CoreAsLong d e → CoreAsLong c e
+core-long-trans a b = record { table = as-long-trans (a .table) (b .table); pool = b .pool ∙ a .pool }
+
+-- the one result or the other
+either-result : (b : Bool) (c : Core) (x y : StepResult) → CoreAsLong c (x .core) → CoreAsLong c (y .core) → CoreAsLong c (cond b x y .core)
+either-result b c x y h k = elim (decided b) [ inl e ↦ rw e h | inr e ↦ rw e k ]
+
+-- another table
+table-long : (c : Core) (t : Table) → AsLong (tableOf c) t → CoreAsLong c (withTable c t)
+table-long c t h = record { table = record { deques = h .deques; frames = h .frames }; pool = refl }
+
+endAt-long : (c : Core) (p : ℕ) → CoreAsLong c (endAt c p)
+unfolding endAt
+endAt-long c p = record {
+  table = record { deques = refl; frames = length-endFrame (c .frames) (c .head .numbers .«free_place») p };
+  pool = length-release (c .head .height) (c .pool) (c .head .numbers .«free_node») (c .head .«free_count») (frameAt (c .frames) p .root);
+}
+
+upward-long : (d : ℕ) (c : Core) (w q : ℕ) → CoreAsLong c (upward d c w q .core)
+unfolding upward
+upward-long zero c w q = record { table = as-long-refl (tableOf c); pool = refl }
+upward-long (suc d) c w q =
+    either-result (endsToo (frameAt (c .frames) q)) c _ _ (core-long-trans (endAt-long c q) (upward-long d (endAt c q) w (frameAt (c .frames) q .parent)))
+    (table-long c _ (goOn-long (tableOf c) w q))
+
+endBottom-long : (c : Core) (w : ℕ) → CoreAsLong c (endBottom c w .core)
+unfolding endBottom
+endBottom-long c w =
+    let p : ℕ = bottom (c .deques) w in
+    let c′ : Core = endAt (popped c w) p in
+    let P : CoreAsLong c (popped c w) = record { table = record { deques = length-pop (c .deques) w; frames = refl }; pool = refl } in
+    let E : CoreAsLong c c′ = core-long-trans P (endAt-long (popped c w) p) in
+    either-result (eqb (size (c′ .deques) w) 0) c _ _ (core-long-trans E (upward-long (actingIn c w .depth) c′ w (actingIn c w .parent))) E
+
+return-long : (c : Core) (w : ℕ) → CoreAsLong c (returnOn c w .core)
+unfolding returnOn
+return-long c w =
+    either-result (eqb (actingIn c w .outstanding) 0) c _ _ (endBottom-long c w) (table-long c _ (suspend-long (tableOf c) w _))
+
+-- the pool is as long as before
+pub return-pool : (c : Core) (w : ℕ) → length (returnOn c w .core .pool) ≡ length (c .pool)
+return-pool c w = return-long c w .pool
 
 -- ---- a step
 
 done-long : (c : Core) (st : Step) → AsLong (tableOf c) (tableOf (doneBy c st .core))
 done-long c (Spawn w) = let L = spawn-long (tableOf c) w in unfold spawnOn in record { deques = L .deques; frames = L .frames }
-done-long c (Return w) = let L = return-long (tableOf c) w in unfold returnOn in record { deques = L .deques; frames = L .frames }
+done-long c (Return w) = return-long c w .table
 done-long c (Steal w v) = unfold stealOn in record { deques = steal-long (tableOf c) w v .deques; frames = refl }
 done-long c (Sync w) = let L = sync-long (tableOf c) w in unfold syncOn in record { deques = L .deques; frames = L .frames }
 done-long c (Read w x) = unfold readOn in record { deques = refl; frames = refl }

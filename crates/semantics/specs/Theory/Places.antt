@@ -1,7 +1,7 @@
 -- Facts about the relation: frames under permutation, one live frame to a place, children counted, records built anew.
 use mathlib.Core.Path.{_≡_, refl, sym, ap, ap₂, _∙_, subst}
 use mathlib.Core.Logic.{_≢_, inl, inr}
-use mathlib.Core.Bool.{false, cond, not}
+use mathlib.Core.Bool.{Bool, true, false, cond, not}
 use mathlib.Core.List.{List·Memᴰ as In, List·Memᴰ·head as here, List·Memᴰ·tail as there, List·Memᴰ·not-nil as not-in-nil, List·Memᴰ·eq-of-singleton as In-one, List·Memᴰ·cases-cons as In-cons, List·Memᴰ·append-cases as In-cases, Memᴰ·append-left as In-left, Memᴰ·append-right as In-right, Memᴰ·cast, Memᴰ·map as In-map, Memᴰ·of-map as In-unmap}
 use mathlib.Core.List.{List, [], _∷_, _++_, map, List·Permᴰ, List·Permᴰ·nil, List·Permᴰ·cons, List·Permᴰ·swap, List·Permᴰ·trans, Permᴰ·symm}
 use Prim.Native.Nat.{ℕ, zero, suc, _+_, _*_, _≤_, _<_}
@@ -11,10 +11,9 @@ use lib.ListN.{length, getD, set, length-map}
 use lib.Seq.{set-getD}
 use lib.Dec.{eqb}
 use borrow.Author.Tests.{eq-eqb, ne-eqb}
-use Rattle.words.specs.Basics.{sum, joined, same}
+use Rattle.words.specs.Basics.{sum, joined}
 use Rattle.words.specs.Lists.{In-perm, joined-set}
 use Rattle.words.specs.Tests.{decided, true≢false}
-use Rattle.words.specs.Distinct.{same-eq, same-of}
 use Rattle.words.specs.NoDup.{NoDup, length-le}
 use Rattle.words.specs.Counting.{δ, δ-same, δ-other, count, count-nil, count-cons, sum-cong, sum-add, sum-zero, sum-one, sum-const, miss, hit-le}
 use Rattle.sizes.specs.Sizes.{treeNodes}
@@ -24,11 +23,11 @@ use Rattle.frames.specs.Frames.{frameAt}
 use Rattle.frames.specs.Deques.{bottom, dequeList}
 use Rattle.frames.specs.Theory.Lists.{list-head}
 use Rattle.model.specs.History.{History}
-use Rattle.model.specs.Machine.{Name, Frame, Machine, live, deque, isChild, hasChild, named}
+use Rattle.model.specs.Machine.{Name, Frame, Machine, live, deque, isChild, hasChild, those, others}
 use Rattle.model.specs.Theory.LiveRun.{Disjoint}
 use Rattle.model.specs.Theory.FrameTree.{Rooted, names-apart}
 use Rattle.semantics.specs.Core.{Core, actingIn}
-use Rattle.semantics.specs.Theory.Relation.{Trees, Relates, Recorded, SameNumbers, parentPlace, childCount, placesOf, rootOf}
+use Rattle.semantics.specs.Theory.Relation.{Trees, Relates, Recorded, SameNumbers, bit, parentPlace, childCount, placesOf, rootOf}
 
 -- ---- permutations
 
@@ -189,38 +188,37 @@ pub depth-few : (L : List Frame) → Rooted L → (f : Frame) → In f L → len
 depth-few L rooted f m =
     omega (arith, suffixes-length (f .name), length-map L (λ (g : Frame). g .name), length-le (suffixes (f .name)) (names L) (suffixes-nodup (f .name)) (suffixes-live L rooted (f .name) f m refl))
 
-pub in-named : (p : Name) (l : List Frame) (f : Frame) → In f (named p l) → In f l × (f .name ≡ p)
-in-named p [] f m = absurd (not-in-nil m)
-in-named p (g ∷ l) f m =
-    elim (decided (same (g .name) p)) [
-      | inl s ↦ elim (In-cons (rw s at m)) [ inl e ↦ (here e, ap (λ (z : Frame). z .name) e ∙ same-eq (g .name) p s) | inr i ↦ (let r = in-named p l f i in (there (r .0), r .1)) ]
-      | inr s ↦ (let r = in-named p l f (rw s at m) in (there (r .0), r .1))
-    ]
+-- no frame passes the test
+module _ (t : Frame → Bool) where
+  pub those-none : (l : List Frame) → ((f : Frame) → In f l → t f ≡ false) → those t l ≡ []
+  those-none [] h = refl
+  those-none (f ∷ l) h = rw (h f (here refl)) (those-none l (λ g m. h g (there m)))
 
--- no frame has the name
-pub named-none : (p : Name) (l : List Frame) → ((f : Frame) → In f l → f .name ≢ p) → named p l ≡ []
-named-none p [] h = refl
-named-none p (f ∷ l) h =
-    elim (decided (same (f .name) p)) [ inl s ↦ absurd (h f (here refl) (same-eq (f .name) p s)) | inr s ↦ rw s (named-none p l (λ g m. h g (there m))) ]
+  pub others-all : (l : List Frame) → ((f : Frame) → In f l → t f ≡ false) → others t l ≡ l
+  others-all [] h = refl
+  others-all (f ∷ l) h = rw (h f (here refl)) (ap (λ (z : List Frame). f ∷ z) (others-all l (λ g m. h g (there m))))
 
--- just one has it
-pub named-one : (p : Name) (l : List Frame) (f : Frame) → Disjoint l → In f l → f .name ≡ p → named p l ≡ f ∷ []
-named-one p [] f c m e = absurd (not-in-nil m)
-named-one p (g ∷ l) f c m e =
-    elim (In-cons m) [
-      | inl d ↦ (let gp : g .name ≡ p = ap (λ (z : Frame). z .name) (sym d) ∙ e in rw (same-of gp) (ap₂ _∷_ (sym d) (named-none p l (λ h i z. names-apart g h l c i (gp ∙ sym z)))))
-      | inr i ↦ elim (decided (same (g .name) p)) [
-        | inl s ↦ absurd (names-apart g f l c i (same-eq (g .name) p s ∙ sym e))
-        | inr s ↦ rw s (named-one p l f (c .1) i e)
+  -- just one does
+  pub those-one : (l : List Frame) (f : Frame) → Disjoint l → In f l → t f ≡ true → ((g : Frame) → t g ≡ true → g .name ≡ f .name) → those t l ≡ f ∷ []
+  those-one [] f c m e one = absurd (not-in-nil m)
+  those-one (g ∷ l) f c m e one =
+      elim (In-cons m) [
+        | inl d ↦ rw (ap t (sym d) ∙ e) (ap₂ _∷_ (sym d) (those-none l (λ h i. elim (decided (t h)) [
+          | inl s ↦ absurd (names-apart g h l c i (ap (λ (z : Frame). z .name) (sym d) ∙ sym (one h s)))
+          | inr s ↦ s
+        ])))
+        | inr i ↦ elim (decided (t g)) [
+          | inl s ↦ absurd (names-apart g f l c i (one g s))
+          | inr s ↦ rw s (those-one l f (c .1) i e one)
+        ]
       ]
-    ]
 
 -- ---- records
 
 -- the frame's place and its record there
 pub recorded-as : (fs : List ℕ) (at : Name → ℕ) (L : List Frame) (s : ℕ) (f : Frame) (p : ℕ) (F : FrameWords) → at (f .name) ≡ p → frameAt fs p ≡ F → p < places
-    → F .live ≡ 1 → F .parent ≡ parentPlace at (f .name) → F .depth ≡ length (f .name) → F .outstanding ≡ childCount (f .name) L → F .suspended ≡ s → Recorded fs at L s f
-recorded-as fs at L s f p F ep eF b h₁ h₂ h₃ h₄ h₅ =
+    → F .live ≡ 1 → F .parent ≡ parentPlace at (f .name) → F .depth ≡ length (f .name) → F .outstanding ≡ childCount (f .name) L → F .suspended ≡ s → F .returning ≡ bit (f .returning) → Recorded fs at L s f
+recorded-as fs at L s f p F ep eF b h₁ h₂ h₃ h₄ h₅ h₆ =
     let e : frameAt fs (at (f .name)) ≡ F = ap (frameAt fs) ep ∙ eF in
     record {
       inside = subst (λ (x : ℕ). x < places) (sym ep) b;
@@ -229,6 +227,7 @@ recorded-as fs at L s f p F ep eF b h₁ h₂ h₃ h₄ h₅ =
       depth = ap (λ (G : FrameWords). G .depth) e ∙ h₃;
       outstanding = ap (λ (G : FrameWords). G .outstanding) e ∙ h₄;
       suspended = ap (λ (G : FrameWords). G .suspended) e ∙ h₅;
+      returning = ap (λ (G : FrameWords). G .returning) e ∙ h₆;
     }
 
 -- it stays where it was, as it was
@@ -236,7 +235,7 @@ pub recorded-kept : (fs fs′ : List ℕ) (at at′ : Name → ℕ) (L L′ : Li
     → frameAt fs′ (at (f .name)) ≡ frameAt fs (at (f .name)) → parentPlace at′ (f .name) ≡ parentPlace at (f .name) → childCount (f .name) L′ ≡ childCount (f .name) L
     → Recorded fs at L s f → Recorded fs′ at′ L′ s f
 recorded-kept fs fs′ at at′ L L′ s f ea eF ep ec R =
-    recorded-as fs′ at′ L′ s f (at (f .name)) (frameAt fs (at (f .name))) ea eF (R .inside) (R .live) (R .parent ∙ sym ep) (R .depth) (R .outstanding ∙ sym ec) (R .suspended)
+    recorded-as fs′ at′ L′ s f (at (f .name)) (frameAt fs (at (f .name))) ea eF (R .inside) (R .live) (R .parent ∙ sym ep) (R .depth) (R .outstanding ∙ sym ec) (R .suspended) (R .returning)
 
 -- ---- a live frame's place
 

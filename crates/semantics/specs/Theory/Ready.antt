@@ -28,14 +28,20 @@ use Rattle.frames.specs.Ranges.{ParentOf, ParentCounts}
 use Rattle.frames.specs.Theory.Lists.{list-length}
 use Rattle.frames.specs.Theory.Places.{nextFree}
 use Rattle.soundness.specs.Soundness.{lives, isChild, rootsBelow, liveRoots, freeNodes}
-use Rattle.semantics.specs.Core.{Core, actingIn}
+use Rattle.semantics.specs.Core.{Core, actingIn, popped, endAt}
 use Rattle.semantics.specs.Entries.{numbersOf, stateOf}
 use Rattle.soundness.specs.Theory.FreeLists.{once-short}
 use Rattle.soundness.specs.Theory.Facts.{Lives, FramesFacts, SoundFacts}
 use Rattle.soundness.specs.Theory.Sentences.{sound-facts}
 use Rattle.soundness.specs.Theory.PoolSentences.{pool-fact}
 use Rattle.semantics.specs.Theory.FromSoundPlaces.{count-In, below-of, roots-below, deque-live}
-use Rattle.semantics.specs.Ranges.{Kept, Ready}
+use Rattle.semantics.specs.SoundMachine.{machineOf}
+use Rattle.semantics.specs.Theory.Pools.{live-laws}
+use Rattle.semantics.specs.Theory.EndsUpward.{ends-upward}
+use Rattle.semantics.specs.Theory.FromSoundRelates.{countedCore}
+use Rattle.semantics.specs.Theory.SoundSteps.{sound-carried}
+use Rattle.semantics.specs.Theory.Kept.{core-counted}
+use Rattle.semantics.specs.Ranges.{EndsUpward, Kept, Ready}
 
 -- a tree has a node
 tree-positive : (n : ℕ) → 0 < n → 0 < treeNodes n
@@ -88,8 +94,8 @@ module _ {workers first : ℕ} {ds fs : List ℕ} (F : FramesFacts workers first
 
   live-parent : (p : ℕ) → p < places → Lives fs p → ParentOf p (frameAt fs p)
   live-parent p b l = elim (ℕ-discrete (frameAt fs p .depth) 0) [
-    | yes e ↦ elim (F .one-main) [ inl h ↦ absurd (h .0 p b l) | inr m ↦ inr (ap (λ q. frameAt fs q .parent) (m .only p b l e) ∙ m .orphan) ]
-    | no e ↦ inl (F .parents p b l e .0, λ q. omega (arith, F .parents p b l e .2, ap (λ z. frameAt fs z .depth) q))
+    | yes e ↦ elim (F .one-main) [ inl h ↦ absurd (h .0 p b l) | inr m ↦ inr (e, ap (λ q. frameAt fs q .parent) (m .only p b l e) ∙ m .orphan) ]
+    | no e ↦ inl (omega arith, F .parents p b l e .0, λ q. omega (arith, F .parents p b l e .2, ap (λ z. frameAt fs z .depth) q))
   ]
 
   -- the parent of a live frame lives, and has it as a child
@@ -136,6 +142,17 @@ module _ (c : Core) (K : Kept c) where
   acting-root : (w : ℕ) → w < 8 → 0 < size (c .deques) w → 0 < count (actingIn c w .root) (liveRoots (c .frames))
   acting-root w b h = (let r = bottom-lives (S .frames) (S .numbers .workers-le) w b h in root-counted (c .frames) places (bottom (c .deques) w) (r .0) (r .1))
 
+  -- the ends upward, by the plain machine that follows the core
+  upward-ready : (w : ℕ) → 0 < size (c .deques) w → actingIn c w .outstanding ≡ 0 → EndsUpward (actingIn c w .depth) (endAt (popped c w) (bottom (c .deques) w)) (actingIn c w .parent)
+  upward-ready =
+      let s = c .head .numbers in
+      let M = machineOf s (c .deques) (c .frames) (c .pool) in
+      let c₀ = countedCore s (c .deques) (c .frames) (c .pool) in
+      let C = sound-carried s (c .deques) (c .frames) (c .pool) (K .long-deques) (K .long-frames) (K .is-sound) in
+      let N = C .related .numbers in
+      subst (λ (x : Core). (w : ℕ) → 0 < size (x .deques) w → actingIn x w .outstanding ≡ 0 → EndsUpward (actingIn x w .depth) (endAt (popped x w) (bottom (x .deques) w)) (actingIn x w .parent)) (core-counted c K)
+      (λ w h z. ends-upward (s .nodes) (M .splitters) (N .nodes-le) (N .splitters-positive) M c₀ (C .related) (live-laws (s .nodes) (M .splitters) (N .nodes-le) (N .splitters-positive)) (C .tree) refl w h z)
+
   pub kept-ready : Ready c
   kept-ready =
       let n = c .head .numbers .splitters in
@@ -159,6 +176,7 @@ module _ (c : Core) (K : Kept c) where
         root = λ w b h. trees .roots (actingIn c w .root) (acting-root w b h) .inside;
         parent = λ w b h. (let r = bottom-lives F few w b h in live-parent F few (bottom (c .deques) w) (r .0) (r .1));
         counts = λ w b h. (let r = bottom-lives F few w b h in live-counts F few (bottom (c .deques) w) (r .0) (r .1));
+        upward = λ w b h z. upward-ready w h z;
         path = λ w x b h i.
             subst (λ (t : ℕ). PathIn N (c .pool) t (actingIn c w .root) x) (sym (K .height-is))
             (live-path N (height n) n small (height-covers n) trees (actingIn c w .root) x (acting-root w b h) i);

@@ -31,7 +31,7 @@ use Rattle.model.specs.Theory.DequeShape.{DequeInvariant}
 use Rattle.model.specs.Theory.Effects.{Passes, acts, live-with, isEmpty-nil, there-is-worker}
 use Rattle.model.specs.Theory.Histories.{inUse-perm}
 use Rattle.semantics.specs.declared.Refusal.{Refusal}
-use Rattle.semantics.specs.declared.Refusal.the-variants.{Values, Workers, Nodes, Tape, Work, Unsound, Record, NoWorker, MainReturned, WorkerIdle, ThiefBusy, NoVictim, FramesFull, ChildLives, NoSplitter, PoolFull, Blocks, BlockCheck, Target, Lengths}
+use Rattle.semantics.specs.declared.Refusal.the-variants.{Values, Workers, Nodes, Tape, Work, Unsound, Record, NoWorker, MainReturned, WorkerIdle, ThiefBusy, NoVictim, FramesFull, NoSplitter, PoolFull, Blocks, BlockCheck, Target, Lengths}
 use Rattle.semantics.specs.declared.Answer.the-variants.{Refused}
 use Rattle.semantics.specs.Answers.{refusalNumber}
 use Rattle.semantics.specs.Core.{Core, StepResult, actingIn, idle, noWorker, allIdle, judged, actingTests, stepOn, testsOf, doneBy, kindTests}
@@ -75,7 +75,6 @@ number-range WorkerIdle = omega arith
 number-range ThiefBusy = omega arith
 number-range NoVictim = omega arith
 number-range FramesFull = omega arith
-number-range ChildLives = omega arith
 number-range NoSplitter = omega arith
 number-range PoolFull = omega arith
 number-range Blocks = omega arith
@@ -146,10 +145,6 @@ module _ {P : Trees} {M : Machine} {c : Core} (r : Relates P M c) where
 
   pub victim-same : (v : ℕ) → noWorker c v || ltb (size (c .deques) v) 2 ≡ missing M v || ltb (length (deque M v)) 2
   victim-same v = ap₂ _||_ (worker-same v) (ap (λ (n : ℕ). ltb n 2) (size-same v))
-
-  pub child-same : (w : ℕ) (q : Frame) (d : List Frame) → w < length (M .deques) → deque M w ≡ q ∷ d → not (eqb (actingIn c w .outstanding) 0) ≡ hasChild (q .name) (live M)
-  child-same w q d lt e =
-      rw (acting-frame r w q d lt e, acting-record r w q d lt e .outstanding, childCount-test (q .name) (live M)) (not-not (hasChild (q .name) (live M)))
 
   -- ---- 64 frames live
 
@@ -233,7 +228,7 @@ step-judged c st = refl
 module _ {P : Trees} {M : Machine} {c : Core} (r : Relates P M c) (tree : FrameTree M) (shape : DequeInvariant M) where
   alike : (st : Step) → SameRoom M c st → Alike (testsOf c st) (turnTests M (turnOf st))
   alike (Spawn w) same = acting-alike r tree shape w spawn (kindTests c (Spawn w)) (λ q d lt e. (vacant-same r, refl, λ x. tt))
-  alike (Return w) same = acting-alike r tree shape w return (kindTests c (Return w)) (λ q d lt e. (child-same r w q d lt e, refl, λ x. tt))
+  alike (Return w) same = acting-alike r tree shape w return [] (λ q d lt e. tt)
   alike (Steal w v) same = (worker-same r w, refl, λ x. (ended-same r tree shape, refl, λ y. (ap not (idle-same r w), refl, λ z. (victim-same r v, refl, λ u. tt))))
   alike (Sync w) same = acting-alike r tree shape w sync [] (λ q d lt e. tt)
   alike (Read w x) same = acting-alike r tree shape w (read x) (kindTests c (Read w x)) (λ q d lt e. (splitter-same r x, refl, λ y. tt))

@@ -3,7 +3,7 @@
 -- a start.
 use mathlib.Core.Path.{_≡_}
 use mathlib.Core.Logic.{_≢_}
-use mathlib.Core.Bool.{cond}
+use mathlib.Core.Bool.{Bool, cond}
 use mathlib.Core.List.{List·Memᴰ as In, List·Permᴰ}
 use mathlib.Core.List.{List, [], _∷_, map}
 use Prim.Native.Nat.{ℕ, _+_, _≤_, _<_}
@@ -73,6 +73,10 @@ rootOf fs at f = frameAt fs (at (f .name)) .root
 abbrev pub rootsOf : List ℕ → (Name → ℕ) → List Frame → List (ℕ × History)
 rootsOf fs at L = map (λ f. (rootOf fs at f, f .history)) L
 
+-- 1 if so, else 0
+abbrev pub bit : Bool → ℕ
+bit b = cond b 1 0
+
 -- the record of the frame f, one of the live frames L: suspended (s is 1) or not (0)
 pub record Recorded (fs : List ℕ) (at : Name → ℕ) (L : List Frame) (s : ℕ) (f : Frame) : Type 0 where
   pub inside : at (f .name) < places
@@ -81,6 +85,7 @@ pub record Recorded (fs : List ℕ) (at : Name → ℕ) (L : List Frame) (s : �
   pub depth : frameAt fs (at (f .name)) .depth ≡ length (f .name)
   pub outstanding : frameAt fs (at (f .name)) .outstanding ≡ childCount (f .name) L
   pub suspended : frameAt fs (at (f .name)) .suspended ≡ s
+  pub returning : frameAt fs (at (f .name)) .returning ≡ bit (f .returning)
 
 -- the numbers that no step changes
 pub record SameNumbers (M : Machine) (c : Core) : Type 0 where

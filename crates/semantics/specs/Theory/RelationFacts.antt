@@ -20,7 +20,7 @@ use Rattle.frames.specs.declared.Frame.{Frame as Words}
 use Rattle.frames.specs.Frames.{frameAt}
 use Rattle.model.specs.Machine.{Name, Frame, Machine, live, deque, hasChild}
 use Rattle.semantics.specs.Core.{Core}
-use Rattle.semantics.specs.Theory.Relation.{Trees, TreeLaws, childCount, placesOf, rootOf, rootsOf, Recorded, Relates}
+use Rattle.semantics.specs.Theory.Relation.{Trees, TreeLaws, bit, childCount, placesOf, rootOf, rootsOf, Recorded, Relates}
 use Rattle.semantics.specs.Theory.Places.{count-perm, map-cong, in-deque, count-place, childCount-test, placed-inside, recorded-as, treeOf}
 
 -- ---- trees
@@ -56,16 +56,16 @@ lists-with at ds Ds w D lt e o v h = elim (ℕ-discrete v w) [
 pub parent-count : (p : Name) (L : List Frame) → hasChild p L ≡ true → childCount p L ≢ 0
 parent-count p L h e = true≢false (sym (eq-eqb (childCount p L) 0 e) ∙ childCount-test p L ∙ ap not h)
 
--- a record stored anew but for its suspension and its tree
-abbrev pub stored : Words → ℕ → ℕ → Words
-stored F s t = record { live = F .live; parent = F .parent; depth = F .depth; outstanding = F .outstanding; suspended = s; root = t }
+-- a record stored anew but for its suspension, its tree and whether it is returning
+abbrev pub stored : Words → ℕ → ℕ → ℕ → Words
+stored F s t b = record { live = F .live; parent = F .parent; depth = F .depth; outstanding = F .outstanding; suspended = s; root = t; returning = b }
 
 -- f became g, of the same name
-pub recorded-stored : {fs : List ℕ} (fs′ : List ℕ) {at : Name → ℕ} {L : List Frame} (L′ : List Frame) {s : ℕ} (s′ t : ℕ) {f : Frame} (g : Frame) → g .name ≡ f .name
-    → frameAt fs′ (at (f .name)) ≡ stored (frameAt fs (at (f .name))) s′ t → childCount (f .name) L ≡ childCount (f .name) L′ → Recorded fs at L s f → Recorded fs′ at L′ s′ g
-recorded-stored {fs} fs′ {at} L′ s′ t {f} g n e k r =
-    let F = stored (frameAt fs (at (f .name))) s′ t in
-    recorded-as fs′ at L′ s′ g (at (f .name)) F (ap at n) e (r .inside) (r .live) (rw n (r .parent)) (rw n (r .depth)) (rw n (r .outstanding ∙ k)) refl
+pub recorded-stored : {fs : List ℕ} (fs′ : List ℕ) {at : Name → ℕ} {L : List Frame} (L′ : List Frame) {s : ℕ} (s′ t b : ℕ) {f : Frame} (g : Frame) → g .name ≡ f .name
+    → b ≡ bit (g .returning) → frameAt fs′ (at (f .name)) ≡ stored (frameAt fs (at (f .name))) s′ t b → childCount (f .name) L ≡ childCount (f .name) L′ → Recorded fs at L s f → Recorded fs′ at L′ s′ g
+recorded-stored {fs} fs′ {at} L′ s′ t b {f} g n m e k r =
+    let F = stored (frameAt fs (at (f .name))) s′ t b in
+    recorded-as fs′ at L′ s′ g (at (f .name)) F (ap at n) e (r .inside) (r .live) (rw n (r .parent)) (rw n (r .depth)) (rw n (r .outstanding ∙ k)) refl m
 
 -- ---- places
 

@@ -1,389 +1,430 @@
--- An accepted return of the plain machine is matched by the engine's words.
+-- An accepted return of the plain machine is matched by the engine's words: the frame waits, or it ends, and upward from it the frames
+-- that waited in their returns.
 use mathlib.Core.Path.{_≡_, refl, sym, ap, ap₂, _∙_, subst}
 use mathlib.Core.Logic.{_≢_, inl, inr}
 use mathlib.Core.Bool.{Bool, true, false, cond, not, _&&_}
 use mathlib.Core.List.{List·Memᴰ as In, List·Memᴰ·head as here, List·Memᴰ·tail as there, List·Memᴰ·cases-cons as In-cons, List·Memᴰ·append-cases as In-cases, Memᴰ·append-left as In-left, Memᴰ·append-right as In-right}
-use mathlib.Core.List.{List, [], _∷_, _++_, tail, List·Permᴰ, Permᴰ·symm}
-use Prim.Native.Nat.{ℕ, suc, _+_, _<_}
+use mathlib.Core.List.{List, [], _∷_, _++_, tail, List·Permᴰ, Permᴰ·refl, Permᴰ·symm}
+use Prim.Native.Nat.{ℕ, zero, suc, _<_}
 use native.Mathlib.Omega.{arith}
-use native.Mathlib.Decide.{ℕ-discrete}
-use lib.ListN.{length, getD, set, length-set}
-use lib.Seq.{getD-set-same, getD-set-other, set-set}
+use lib.ListN.{length, set, length-set, length-map}
+use lib.Seq.{getD-set-same, set-getD}
 use lib.Dec.{eqb, eqb→eq}
 use borrow.Author.Tests.{eq-eqb, ne-eqb}
 use Rattle.words.specs.Basics.{joined, same}
 use Rattle.words.specs.Tests.{decided, both, true→T, true≢false}
 use Rattle.words.specs.Lists.{In-perm, joined-set}
-use Rattle.words.specs.Distinct.{same-eq, same-ne, same-refl, same-differ}
-use Rattle.words.specs.Counting.{δ-other, count, count-cons, hit, miss}
-use Rattle.frames.specs.Widths.{places}
-use Rattle.frames.specs.Deques.{dequeList}
+use Rattle.words.specs.Distinct.{same-eq, same-refl}
 use Rattle.frames.specs.declared.Frame.{Frame as FrameWords}
-use Rattle.frames.specs.declared.Returned.{Returned}
-use Rattle.frames.specs.declared.Returned.the-variants.{Continued, Idle, Resumed}
-use Rattle.frames.specs.Frames.{frameAt, withoutChild, withSuspended}
-use Rattle.frames.specs.Steps.{Table, resumes, returned, returnedNumber}
-use Rattle.frames.specs.Theory.Tables.{After}
-use Rattle.frames.specs.Theory.Summary.{Finishes, Returns, return-finishes as finishes, return-stays as returns, return-resumes as resumes-parent}
-use Rattle.model.specs.Machine.{Name, Frame, Machine, live, deque, withDeque, isEmpty, isChild, hasChild, named, notNamed}
-use Rattle.model.specs.Steps.{return, acting, parentResumes, resume, afterAction, afterTurn, returnOutcome, actionAnswer, turnAnswer}
-use Rattle.model.specs.Theory.LiveRun.{disjoint-perm}
-use Rattle.model.specs.Theory.Effects.{Passes, acts, rest, live-at, live-with, action-live, resumes-empty}
-use Rattle.model.specs.Theory.FrameTree.{FrameTree, names-apart}
-use Rattle.model.specs.Theory.DequeShape.{disjoint-left, disjoint-apart, in-notNamed}
+use Rattle.frames.specs.declared.Returned.the-variants.{Continued, Idle, Resumed, Finished, Waiting}
+use Rattle.frames.specs.Frames.{frameAt}
+use Rattle.frames.specs.Deques.{size, pop, dequeList}
+use Rattle.frames.specs.Steps.{waitsNoMore, endsToo, resumes, goOn, wentOn}
+use Rattle.frames.specs.Steps.{resume as resumeTable}
+use Rattle.frames.specs.Theory.Lists.{list-length, list-elsewhere, pop-elsewhere, pop-shaped, pop-list}
+use Rattle.model.specs.Machine.{Name, Frame, Machine, live, deque, withDeque, withFrames, isEmpty, hasChild, hasFrame, those, others}
+use Rattle.model.specs.Steps.{return, acting, waitsInReturn, waitsAtSync, leave, resume, upward, afterEnd, afterAction, afterTurn, endOutcome, actionAnswer, turnAnswer}
+use Rattle.model.specs.Theory.LiveRun.{Disjoint, disjoint-perm}
+use Rattle.model.specs.Theory.Children.{hasChild-perm}
+use Rattle.model.specs.Theory.Effects.{Passes, acts, rest, live-at, live-with, perm-those}
+use Rattle.model.specs.Theory.FrameTree.{FrameTree, names-apart, rooted-perm, rooted-without}
+use Rattle.model.specs.Theory.DequeShape.{disjoint-left, disjoint-right, disjoint-apart, one-named, in-others}
+use Rattle.model.specs.Theory.MainEnds.{In-hasFrame, hasFrame-In}
+use Rattle.model.specs.Theory.Outcomes.{outcomeUpward, Above, main-there, rooted-leave, above-leave, outcome-upward}
 use Rattle.semantics.specs.Answers.{answerWords}
-use Rattle.semantics.specs.Core.{Core, tableOf, returnOn}
-use Rattle.semantics.specs.Theory.Relation.{Trees, TreeLaws, parentPlace, childCount, placesOf, rootOf, Recorded, Relates}
-use Rattle.semantics.specs.Theory.Places.{childCount-perm, joined-at, childCount-test, in-named, named-none, named-one, recorded, recorded-as, recorded-kept, placed-inside, placed-taken, placed-apart, worker-few, acting-deque, acting-record}
-use Rattle.semantics.specs.Theory.EndedFrame.{returnedTable, Left, left-relates}
+use Rattle.semantics.specs.Core.{Core, StepResult, tableOf, withTable, actingIn, returned, endAt, popped, endBottom, returnOn}
+use Rattle.semantics.specs.Core.{upward as upwardOn}
+use Rattle.semantics.specs.Theory.Relation.{Trees, TreeLaws, bit, parentPlace, childCount, placesOf, Recorded, Relates}
+use Rattle.semantics.specs.Theory.Places.{childCount-test, childless-count, those-none, those-one, others-all, recorded, worker-few, acting-deque, acting-place, acting-frame, acting-record}
+use Rattle.semantics.specs.Theory.RelationFacts.{in-set, in-rest, lists-with, parent-count, workers-le, above-runs}
+use Rattle.semantics.specs.Theory.Suspended.{suspends}
+use Rattle.semantics.specs.Theory.Resumed.{resumes-frame}
+use Rattle.semantics.specs.Theory.EndedFrame.{Left, withDeques, end-relates}
 
--- ---- the frames that are left
+-- ---- one turn of the ends upward, by what the parent's record says
 
-module _ {P : Trees} {M : Machine} {c : Core} (r : Relates P M c) (tree : FrameTree M) (w : ℕ) (q : Frame) (d : List Frame) (lt : w < length (M .deques)) (e : deque M w ≡ q ∷ d) where
-  abbrev others : List Frame
-  others = d ++ rest M w
+module _ (d : ℕ) (c : Core) (w q : ℕ) where
+  abbrev parent : FrameWords
+  parent = frameAt (c .frames) q
 
-  abbrev t′ : Table
-  t′ = returnedTable c w
+  up-ends : endsToo parent ≡ true → upwardOn (suc d) c w q ≡ upwardOn d (endAt c q) w (parent .parent)
+  unfolding upwardOn
+  up-ends e = rw e
 
-  -- q's place and its parent's
-  abbrev own : ℕ
-  own = r .at (q .name)
+  up-stays : waitsNoMore parent ≡ false → upwardOn (suc d) c w q ≡ returned c Idle
+  unfolding upwardOn goOn wentOn
+  up-stays e = rw e
 
-  abbrev parentName : Name
-  parentName = tail (q .name)
+  up-resumes : waitsNoMore parent ≡ true → eqb (parent .returning) 1 ≡ false → upwardOn (suc d) c w q ≡ returned (withTable c (resumeTable (tableOf c) w q)) Resumed
+  unfolding upwardOn goOn wentOn
+  up-resumes e n = rw (e, n)
 
-  abbrev upper : ℕ
-  upper = r .at parentName
+-- an end changes no number of nodes
+end-laws : {P : Trees} {n : ℕ} (c : Core) (q : ℕ) → TreeLaws (c .head .numbers .nodes) n P → TreeLaws (endAt c q .head .numbers .nodes) n P
+unfolding endAt
+end-laws c q laws = laws
 
-  -- if the parent does not resume, and if it does
-  abbrev M₁ : Machine
-  M₁ = withDeque M w d
+-- ---- the ends upward
 
-  abbrev M₂ : Machine
-  M₂ = resume M₁ w parentName
+-- a frame of the name n has ended on worker w, whose deque is empty
+pub record Went (P : Trees) (M : Machine) (w : ℕ) (n : Name) (s : StepResult) : Type 0 where
+  pub related : Relates P (upward M w n) (s .core)
+  pub answered : answerWords (s .answer) ≡ (102, outcomeUpward M n)
 
-  before : List·Permᴰ (live M) (q ∷ others)
-  before = live-at M w (q ∷ d) lt e
+-- g has ended, a frame that waited in its return
+record Leaves {P : Trees} {M : Machine} {c : Core} (r : Relates P M c) (g : Frame) : Type 0 where
+  some : isEmpty (those (waitsInReturn (g .name)) (M .suspended)) ≡ false
+  related : Relates P (leave M (g .name)) (endAt c (r .at (g .name)))
+  same-places : related .at ≡ r .at
+  tree : FrameTree (leave M (g .name))
+  above : Above (live (leave M (g .name))) (g .name)
 
-  old : (f : Frame) → In f (q ∷ others) → In f (live M)
-  old f m = In-perm (Permᴰ·symm before) m
+module _ {P : Trees} {M : Machine} {c : Core} (r : Relates P M c) (laws : TreeLaws (c .head .numbers .nodes) (M .splitters) P) (tree : FrameTree M) (g : Frame) (lives : In g (live M)) where
+  abbrev p : Name
+  p = g .name
 
-  taken : (f : Frame) → In f (q ∷ others) → count (r .at (f .name)) (r .gs) ≡ 0
-  taken f m = placed-taken r f (old f m)
+  abbrev F : FrameWords
+  F = frameAt (c .frames) (r .at p)
 
-  differ : (f g : Frame) → In f (q ∷ others) → In g (q ∷ others) → f .name ≢ g .name → r .at (f .name) ≢ r .at (g .name)
-  differ f g mf mg = placed-apart r f g (old f mf) (old g mg)
+  -- "has no live child left"
+  childless : eqb (F .outstanding) 0 ≡ not (hasChild p (live M))
+  childless = ap (λ (x : ℕ). eqb x 0) (recorded r g lives .1 .outstanding) ∙ childCount-test p (live M)
 
-  apart : (f : Frame) → In f others → f .name ≢ q .name
-  apart f i z = names-apart q f others (disjoint-perm before (tree .disjoint)) i (sym z)
+  disjoint-waiting : Disjoint (M .suspended)
+  disjoint-waiting = disjoint-left (M .suspended) (joined (M .deques)) (tree .disjoint)
 
-  -- a frame of another deque, or above q
-  running-others : (f : Frame) → In f (d ++ joined (set (M .deques) w [])) → In f others
-  running-others f m = elim (In-cases d m) [ inl i ↦ In-left (rest M w) i | inr i ↦ In-right d (In-right (M .suspended) i) ]
+  -- ---- it waits, and has no live child left
 
-  suspended-others : (f : Frame) → In f (M .suspended) → In f others
-  suspended-others f m = In-right d (In-left (joined (set (M .deques) w [])) m)
+  module _ (h : hasChild p (live M) ≡ false) (i : In g (M .suspended)) where
+    waits-no-more : waitsNoMore F ≡ true
+    waits-no-more = rw (eq-eqb (F .suspended) 1 (r .waiting g i .suspended), childless, h)
 
-  counts : (n : Name) (L′ : List Frame) → List·Permᴰ L′ others → childCount n (live M) ≡ cond (isChild n (q .name)) 1 0 + childCount n L′
-  counts n L′ π = omega (arith, childCount-perm n before, childCount-perm n π)
+    module _ (n : g .returning ≡ true) where
+      one-leaves : those (waitsInReturn p) (M .suspended) ≡ g ∷ []
+      one-leaves = those-one (waitsInReturn p) (M .suspended) g disjoint-waiting i (rw (same-refl p, n)) (λ f s. same-eq (f .name) p (both _ _ s .0))
 
-  -- no parent resumes: only w's deque is another
-  stays : (gs ps : List ℕ) (A : After (tableOf c) t′ w (placesOf (r .at) d) gs ps) (v : ℕ) → v < 8 → dequeList (t′ .deques) v ≡ placesOf (r .at) (deque M₁ v)
-  stays gs ps A v b =
-      elim (ℕ-discrete v w) [
-        | yes x ↦ rw (x, getD-set-same (M .deques) w d [] lt) (A .deque)
-        | no x ↦ rw (getD-set-other (M .deques) w v d [] x) (A .deques v b x ∙ r .deques v b)
-      ]
+      split : List·Permᴰ (live M) (those (waitsInReturn p) (M .suspended) ++ live (leave M p))
+      split = perm-those (waitsInReturn p) (M .suspended) (joined (M .deques))
 
-  module _ (kept : (f : Frame) → In f others → (s : ℕ) → Recorded (c .frames) (r .at) (live M) s f → Recorded (t′ .frames) (r .at) (live M₁) s f) where
-    running-kept : (f : Frame) → In f (joined (set (M .deques) w d)) → Recorded (t′ .frames) (r .at) (live M₁) 0 f
-    running-kept f m =
-        let i = In-perm (joined-set (M .deques) w d lt) m in
-        kept f (running-others f i) 0 (r .running f (In-perm (Permᴰ·symm (joined-at (M .deques) w (q ∷ d) lt e)) (there i)))
+      with-it : List·Permᴰ (live M) (g ∷ live (leave M p))
+      with-it = subst (λ (z : List Frame). List·Permᴰ (live M) (z ++ live (leave M p))) one-leaves split
 
-    waiting-kept : (f : Frame) → In f (M .suspended) → Recorded (t′ .frames) (r .at) (live M₁) 1 f
-    waiting-kept f m = kept f (suspended-others f m) 1 (r .waiting f m)
-
-  -- ---- the end of Main
-
-  module _ (main : q .name ≡ []) where
-    F : Finishes (tableOf c) t′ w own (placesOf (r .at) d) (r .gs)
-    F =
-        finishes (tableOf c) w own (placesOf (r .at) d) (r .gs) (r .formed) (worker-few r w q d lt e) (acting-deque r w q d lt e)
-        (placed-inside r q (old q (here refl))) (taken q (here refl)) (acting-record r w q d lt e .parent ∙ ap (parentPlace (r .at)) main)
-
-    main-same : (f : Frame) → In f others → frameAt (t′ .frames) (r .at (f .name)) ≡ frameAt (c .frames) (r .at (f .name))
-    main-same f i = F .after .records (r .at (f .name)) (differ f q (there i) (here refl) (apart f i), tt)
-
-    main-kept : (f : Frame) → In f others → (s : ℕ) → Recorded (c .frames) (r .at) (live M) s f → Recorded (t′ .frames) (r .at) (live M₁) s f
-    main-kept f i s =
-        recorded-kept (c .frames) (t′ .frames) (r .at) (r .at) (live M) (live M₁) s f refl (main-same f i) refl
-        (omega (arith, counts (f .name) (live M₁) (live-with M w d lt), miss {b = isChild (f .name) (q .name)} (ap (isChild (f .name)) main)))
-
-    main-left : Left r q others (set (M .deques) w d) (M .suspended) t′
-    main-left = record {
-      workers = length-set (M .deques) w d;
-      frames = live-with M w d lt;
-      formed = F .after .formed;
-      freed = F .freed;
-      same-free = λ p h. F .after .records p ((λ z. omega (arith, h, taken q (here refl), ap (λ (x : ℕ). count x (r .gs)) z)), tt);
-      same-root = λ f i. ap (λ (G : FrameWords). G .root) (main-same f i);
-      deques = stays (own ∷ r .gs) (own ∷ []) (F .after);
-      running = running-kept main-kept;
-      waiting = waiting-kept main-kept;
-    }
-
-  -- ---- the end of a child: g is the parent
-
-  module _ (k : ℕ) (eq : q .name ≡ k ∷ parentName) (g : Frame) (mg : In g others) (eg : g .name ≡ parentName) where
-    parent-inside : upper < places
-    parent-inside = subst (λ (n : Name). r .at n < places) eg (placed-inside r g (old g (there mg)))
-
-    parent-is : frameAt (c .frames) own .parent ≡ upper
-    parent-is = acting-record r w q d lt e .parent ∙ ap (parentPlace (r .at)) eq
-
-    parent-taken : count upper (own ∷ r .gs) ≡ 0
-    parent-taken =
-        subst (λ (n : Name). count (r .at n) (own ∷ r .gs) ≡ 0) eg
-        (omega (arith, count-cons (r .at (g .name)) own (r .gs), taken g (there mg), δ-other (r .at (g .name)) own (differ g q (there mg) (here refl) (apart g mg))))
-
-    -- the parent's record without this child
-    abbrev less : FrameWords
-    less = withoutChild (frameAt (c .frames) upper)
-
-    counts-parent : (L′ : List Frame) → List·Permᴰ L′ others → childCount parentName (live M) ≡ 1 + childCount parentName L′
-    counts-parent L′ π =
-        omega (arith, counts parentName L′ π, hit {b = isChild parentName (q .name)} (ap (isChild parentName) eq ∙ same-refl parentName))
-
-    counts-other : (n : Name) → n ≢ parentName → (L′ : List Frame) → List·Permᴰ L′ others → childCount n L′ ≡ childCount n (live M)
-    counts-other n ne L′ π =
-        omega (arith, counts n L′ π, miss {b = isChild n (q .name)} (ap (isChild n) eq ∙ same-differ (λ z. ne (sym z))))
-
-    -- afterwards the deque is D, and the parent suspended or not
-    module _ (D : List ℕ) (s′ : ℕ) (o : Returned) (X : Returns (tableOf c) t′ w own upper D (r .gs) (withSuspended less s′) o) where
-      child-same : (f : Frame) → In f others → f .name ≢ parentName → frameAt (t′ .frames) (r .at (f .name)) ≡ frameAt (c .frames) (r .at (f .name))
-      child-same f i ne =
-          X .after .records (r .at (f .name))
-          (subst (λ (n : Name). r .at (f .name) ≢ r .at n) eg (differ f g (there i) (there mg) (λ z. ne (z ∙ eg))), (differ f q (there i) (here refl) (apart f i), tt))
-
-      child-free : (p : ℕ) → 0 < count p (r .gs) → frameAt (t′ .frames) p ≡ frameAt (c .frames) p
-      child-free p h =
-          X .after .records p (
-            (λ z. omega (arith, h, parent-taken, count-cons upper own (r .gs), ap (λ (x : ℕ). count x (r .gs)) z)),
-            ((λ z. omega (arith, h, taken q (here refl), ap (λ (x : ℕ). count x (r .gs)) z)), tt),
-          )
-
-      child-root : (f : Frame) → In f others → rootOf (t′ .frames) (r .at) f ≡ rootOf (c .frames) (r .at) f
-      child-root f i =
-          elim (decided (same (f .name) parentName)) [
-            | inl z ↦ subst (λ (n : Name). frameAt (t′ .frames) (r .at n) .root ≡ frameAt (c .frames) (r .at n) .root) (sym (same-eq (f .name) parentName z)) (ap (λ (G : FrameWords). G .root) (X .parent))
-            | inr z ↦ ap (λ (G : FrameWords). G .root) (child-same f i (same-ne z))
-          ]
-
-      other-kept : (L′ : List Frame) → List·Permᴰ L′ others → (f : Frame) → In f others → f .name ≢ parentName → (s : ℕ)
-          → Recorded (c .frames) (r .at) (live M) s f → Recorded (t′ .frames) (r .at) L′ s f
-      other-kept L′ π f i ne s = recorded-kept (c .frames) (t′ .frames) (r .at) (r .at) (live M) L′ s f refl (child-same f i ne) refl (counts-other (f .name) ne L′ π)
-
-      parent-kept : (L′ : List Frame) → List·Permᴰ L′ others → (f : Frame) → f .name ≡ parentName → (s : ℕ)
-          → Recorded (c .frames) (r .at) (live M) s f → Recorded (t′ .frames) (r .at) L′ s′ f
-      parent-kept L′ π f z s R =
-          recorded-as (t′ .frames) (r .at) L′ s′ f (r .at (f .name)) (withSuspended (withoutChild (frameAt (c .frames) (r .at (f .name)))) s′) refl
-          (subst (λ (n : Name). frameAt (t′ .frames) (r .at n) ≡ withSuspended (withoutChild (frameAt (c .frames) (r .at n))) s′) (sym z) (X .parent))
-          (R .inside) (R .live) (R .parent) (R .depth)
-          (omega (arith, R .outstanding, subst (λ (n : Name). childCount n (live M) ≡ 1 + childCount n L′) (sym z) (counts-parent L′ π))) refl
-
-    -- ---- whether the parent resumes
-
-    waits-test : eqb (less .suspended) 1 ≡ not (isEmpty (named parentName (M .suspended)))
-    waits-test =
-        elim (In-cases (M .suspended) (old g (there mg))) [
-          | inl i ↦ rw (named-one parentName (M .suspended) g (disjoint-left (M .suspended) (joined (M .deques)) (tree .disjoint)) i eg)
-              (eq-eqb (less .suspended) 1 (word 1 (r .waiting g i .suspended)))
-          | inr i ↦ rw (named-none parentName (M .suspended) (λ f m z. disjoint-apart (M .suspended) (joined (M .deques)) (tree .disjoint) f g m i (z ∙ sym eg)))
-              (ne-eqb (less .suspended) 1 (λ z. omega (arith, z, word 0 (r .running g i .suspended))))
-        ]
-      where
-        word : (s : ℕ) → frameAt (c .frames) (r .at (g .name)) .suspended ≡ s → less .suspended ≡ s
-        word s z = subst (λ (n : Name). frameAt (c .frames) (r .at n) .suspended ≡ s) eg z
-
-    parent-outstanding : frameAt (c .frames) upper .outstanding ≡ childCount parentName (live M)
-    parent-outstanding =
-        subst (λ (n : Name). frameAt (c .frames) (r .at n) .outstanding ≡ childCount n (live M)) eg (recorded r g (old g (there mg)) .1 .outstanding)
-
-    childless-test : eqb (less .outstanding) 0 ≡ not (hasChild parentName (live M₁))
-    childless-test =
-        let z : less .outstanding ≡ childCount parentName (live M₁) = omega (arith, parent-outstanding, counts-parent (live M₁) (live-with M w d lt)) in
-        ap (λ (n : ℕ). eqb n 0) z ∙ childCount-test parentName (live M₁)
-
-    tests : resumes (length (placesOf (r .at) d)) less ≡ parentResumes M₁ (q .name) d
-    tests = go d ∙ sym (ap (λ (n : Name). parentResumes M₁ n d) eq)
-      where
-        go : (l : List Frame) → resumes (length (placesOf (r .at) l)) less ≡ parentResumes M₁ (k ∷ parentName) l
-        go [] = ap₂ _&&_ waits-test childless-test
-        go (x ∷ l) = rw (ne-eqb (suc (length (placesOf (r .at) l))) 0 (λ z. omega arith))
-
-    -- ---- the parent goes on, or the worker is idle
-
-    goes-on : parentResumes M₁ (q .name) d ≡ false
-        → Returns (tableOf c) t′ w own upper (placesOf (r .at) d) (r .gs) less (cond (eqb (length (placesOf (r .at) d)) 0) Idle Continued)
-    goes-on s =
-        returns (tableOf c) w own (placesOf (r .at) d) (r .gs) (r .formed) (worker-few r w q d lt e) (acting-deque r w q d lt e) (placed-inside r q (old q (here refl)))
-        (taken q (here refl)) upper parent-is (λ z. omega (arith, parent-inside, z)) parent-inside parent-taken (tests ∙ s)
-
-    child-left : parentResumes M₁ (q .name) d ≡ false → Left r q others (set (M .deques) w d) (M .suspended) t′
-    child-left s = record {
-      workers = length-set (M .deques) w d;
-      frames = live-with M w d lt;
-      formed = X .after .formed;
-      freed = X .freed;
-      same-free = child-free (placesOf (r .at) d) (less .suspended) o X;
-      same-root = child-root (placesOf (r .at) d) (less .suspended) o X;
-      deques = stays (own ∷ r .gs) (upper ∷ own ∷ []) (X .after);
-      running = running-kept kept;
-      waiting = waiting-kept kept;
-    }
-      where
-        o : Returned
-        o = cond (eqb (length (placesOf (r .at) d)) 0) Idle Continued
-
-        X : Returns (tableOf c) t′ w own upper (placesOf (r .at) d) (r .gs) less o
-        X = goes-on s
-
-        kept : (f : Frame) → In f others → (s : ℕ) → Recorded (c .frames) (r .at) (live M) s f → Recorded (t′ .frames) (r .at) (live M₁) s f
-        kept f i s R =
-            elim (decided (same (f .name) parentName)) [
-              | inl z ↦ (let z′ = same-eq (f .name) parentName z in
-                  subst (λ (y : ℕ). Recorded (t′ .frames) (r .at) (live M₁) y f)
-                  (subst (λ (n : Name). frameAt (c .frames) (r .at n) .suspended ≡ s) z′ (R .suspended))
-                  (parent-kept (placesOf (r .at) d) (less .suspended) o X (live M₁) (live-with M w d lt) f z′ s R))
-              | inr z ↦ other-kept (placesOf (r .at) d) (less .suspended) o X (live M₁) (live-with M w d lt) f i (same-ne z) s R
-            ]
-
-    -- ---- "the parent resumes on this worker, past its sync"
-
-    module _ (s : parentResumes M₁ (q .name) d ≡ true) where
-      X : Returns (tableOf c) t′ w own upper (upper ∷ placesOf (r .at) d) (r .gs) (withSuspended less 0) Resumed
-      X =
-          resumes-parent (tableOf c) w own (placesOf (r .at) d) (r .gs) (r .formed) (worker-few r w q d lt e) (acting-deque r w q d lt e) (placed-inside r q (old q (here refl)))
-          (taken q (here refl)) upper parent-is (λ z. omega (arith, parent-inside, z)) parent-inside parent-taken (tests ∙ s)
-
-      abbrev resumed : List Frame
-      resumed = named parentName (M .suspended)
-
-      -- the parent is the one suspended frame of its name
-      g-waits : In g (M .suspended)
-      g-waits =
-          elim (In-cases (M .suspended) (old g (there mg))) [
-            | inl i ↦ i
-            | inr i ↦ absurd (omega (arith, subst (λ (n : Name). frameAt (c .frames) (r .at n) .suspended ≡ 0) eg (r .running g i .suspended), one))
-          ]
-        where
-          one : less .suspended ≡ 1
-          one = eqb→eq (less .suspended) 1 (true→T (both (eqb (less .suspended) 1) _ (both (eqb (length (placesOf (r .at) d)) 0) _ (tests ∙ s) .1) .0))
-
-      one-resumed : resumed ≡ g ∷ []
-      one-resumed = named-one parentName (M .suspended) g (disjoint-left (M .suspended) (joined (M .deques)) (tree .disjoint)) g-waits eg
-
-      frames-resumed : List·Permᴰ (live M₂) others
-      frames-resumed = subst (λ (z : Machine). List·Permᴰ (live z) others) is (action-live M w q d return lt e)
-        where
-          is : afterAction M w (q ∷ d) return ≡ M₂
-          is = rw s
-
-      deques-resumed : (v : ℕ) → v < 8 → dequeList (t′ .deques) v ≡ placesOf (r .at) (getD (set (set (M .deques) w d) w resumed) v [])
-      deques-resumed v b =
-          elim (ℕ-discrete v w) [
-            | yes x ↦ rw (x, getD-set-same (set (M .deques) w d) w resumed [] (rw (length-set (M .deques) w d) lt), one-resumed, eg)
-                (X .after .deque ∙ ap (λ (l : List Frame). upper ∷ placesOf (r .at) l) (resumes-empty M₁ (q .name) d s))
-            | no x ↦ rw (getD-set-other (set (M .deques) w d) w v resumed [] x, getD-set-other (M .deques) w v d [] x) (X .after .deques v b x ∙ r .deques v b)
-          ]
-
-      running-resumed : (f : Frame) → In f (joined (set (set (M .deques) w d) w resumed))
-          → Recorded (t′ .frames) (r .at) (live M₂) 0 f
-      running-resumed f m =
-          elim (In-cases resumed (In-perm (joined-set (M .deques) w resumed lt) (subst (λ (z : List (List Frame)). In f (joined z)) (set-set (M .deques) w d resumed) m))) [
-            | inl i ↦ (let y = in-named parentName (M .suspended) f i in
-                parent-kept (upper ∷ placesOf (r .at) d) 0 Resumed X (live M₂) frames-resumed f (y .1) 1 (r .waiting f (y .0)))
-            | inr i ↦ (let j = In-perm (Permᴰ·symm (joined-at (M .deques) w (q ∷ d) lt e)) (In-right (q ∷ d) i) in
-                other-kept (upper ∷ placesOf (r .at) d) 0 Resumed X (live M₂) frames-resumed f
-                (In-right d (In-right (M .suspended) i)) (λ z. disjoint-apart (M .suspended) (joined (M .deques)) (tree .disjoint) g f g-waits j (eg ∙ sym z)) 0 (r .running f j))
-          ]
-
-      resumed-left : Left r q others (set (set (M .deques) w d) w resumed) (notNamed parentName (M .suspended)) t′
-      resumed-left = record {
-        workers = length-set (set (M .deques) w d) w resumed ∙ length-set (M .deques) w d;
-        frames = frames-resumed;
-        formed = X .after .formed;
-        freed = X .freed;
-        same-free = child-free (upper ∷ placesOf (r .at) d) 0 Resumed X;
-        same-root = child-root (upper ∷ placesOf (r .at) d) 0 Resumed X;
-        deques = deques-resumed;
-        running = running-resumed;
-        waiting = λ f m. (let y = in-notNamed parentName (M .suspended) f m in
-            other-kept (upper ∷ placesOf (r .at) d) 0 Resumed X (live M₂) frames-resumed f
-            (suspended-others f (y .0)) (y .1) 1 (r .waiting f (y .0)));
+      left-of : Left r (live (leave M p)) (M .deques) (others (waitsInReturn p) (M .suspended)) (c .deques)
+      left-of = record {
+        workers = refl;
+        frames = Permᴰ·refl (live (leave M p));
+        shaped = r .formed .shaped;
+        deques = r .deques;
+        running = λ f m. (In-right (others (waitsInReturn p) (M .suspended)) m, m);
+        waiting = λ f m. (In-left (joined (M .deques)) m, in-others (waitsInReturn p) (M .suspended) f m .0);
       }
 
-    -- ---- the outcome
+      leaves : Leaves r g
+      leaves =
+          let E = end-relates r tree g (live (leave M p)) with-it (M .deques) (others (waitsInReturn p) (M .suspended)) (c .deques) left-of laws in
+          let some : isEmpty (those (waitsInReturn p) (M .suspended)) ≡ false = ap isEmpty one-leaves in
+          record {
+            some = some;
+            related = E .0;
+            same-places = E .1;
+            tree = record { disjoint = disjoint-right (those (waitsInReturn p) (M .suspended)) (live (leave M p)) (disjoint-perm split (tree .disjoint)); rooted = rooted-leave M p (tree .rooted) (tree .disjoint) h };
+            above = above-leave M p (tree .rooted) (tree .disjoint) h some (In-hasFrame p (live M) g lives refl);
+          }
 
-    child-outcome : returnedNumber (returned (tableOf c) w) ≡ returnOutcome M₁ (q .name) d
-    child-outcome =
-        elim (decided (parentResumes M₁ (q .name) d)) [
-          | inl s ↦ ap returnedNumber (X s .outcome) ∙ back d (subst (λ (n : Name). parentResumes M₁ n d ≡ true) eq s) ∙ to-name
-          | inr s ↦ ap returnedNumber (goes-on s .outcome) ∙ on d (subst (λ (n : Name). parentResumes M₁ n d ≡ false) eq s) ∙ to-name
-        ]
+      ends-test : endsToo F ≡ true
+      ends-test = rw (waits-no-more, eq-eqb (F .returning) 1 (r .waiting g i .returning ∙ ap bit n))
+
+    not-returning : g .returning ≡ false → (f : Frame) → In f (M .suspended) → waitsInReturn p f ≡ false
+    not-returning n f m = elim (decided (waitsInReturn p f)) [
+      | inl s ↦ (let x = both (same (f .name) p) (f .returning) s in
+          let one = one-named (M .suspended) disjoint-waiting f g m i (same-eq (f .name) p (x .0)) in
+          absurd (true≢false (sym (x .1) ∙ ap (λ (z : Frame). z .returning) one ∙ n)))
+      | inr s ↦ s
+    ]
+
+  -- ---- its child k has ended on worker w
+
+  module _ (w : ℕ) (lt : w < length (M .deques)) (idle : deque M w ≡ []) (k : ℕ) where
+    abbrev result : StepResult
+    result = upwardOn (suc (length p)) c w (r .at p)
+
+    stays : waitsNoMore F ≡ false → upward M w (k ∷ p) ≡ M → outcomeUpward M (k ∷ p) ≡ 1 → Went P M w (k ∷ p) result
+    stays e m o = record { related = rw (m, up-stays (length p) c w (r .at p) e) r; answered = rw (o, up-stays (length p) c w (r .at p) e) }
+
+    with-child : hasChild p (live M) ≡ true → Went P M w (k ∷ p) result
+    with-child h = stays (rw (childless, h) (and-false (eqb (F .suspended) 1))) (rw h) (rw h)
       where
-        to-name : returnOutcome M₁ (k ∷ parentName) d ≡ returnOutcome M₁ (q .name) d
-        to-name = ap (λ (n : Name). returnOutcome M₁ n d) (sym eq)
+        and-false : (b : Bool) → (b && false) ≡ false
+        and-false true = refl
+        and-false false = refl
 
-        back : (l : List Frame) → parentResumes M₁ (k ∷ parentName) l ≡ true → 2 ≡ returnOutcome M₁ (k ∷ parentName) l
-        back [] s = rw s
-        back (x ∷ l) s = absurd (true≢false (sym s))
+    -- it runs
+    runs : hasChild p (live M) ≡ false → In g (joined (M .deques)) → Went P M w (k ∷ p) result
+    runs h i =
+        let a = those-none (waitsInReturn p) (M .suspended) (none (waitsInReturn p) (λ f s. same-eq (f .name) p (both _ _ s .0))) in
+        let b = those-none (waitsAtSync p) (M .suspended) (none (waitsAtSync p) (λ f s. same-eq (f .name) p (both _ _ s .0))) in
+        let o = others-all (waitsAtSync p) (M .suspended) (none (waitsAtSync p) (λ f s. same-eq (f .name) p (both _ _ s .0))) in
+        let still : set (M .deques) w [] ≡ M .deques = ap (set (M .deques) w) (sym idle) ∙ set-getD (M .deques) w [] in
+        stays (rw (ne-eqb (F .suspended) 1 (λ z. omega (arith, z, r .running g i .suspended)))) (rw (h, a, b, o, still)) (rw (h, a, b))
+      where
+        none : (t : Frame → Bool) → ((f : Frame) → t f ≡ true → f .name ≡ p) → (f : Frame) → In f (M .suspended) → t f ≡ false
+        none t n f m = elim (decided (t f)) [ inl s ↦ absurd (disjoint-apart (M .suspended) (joined (M .deques)) (tree .disjoint) f g m i (n f s)) | inr s ↦ s ]
 
-        on : (l : List Frame) → parentResumes M₁ (k ∷ parentName) l ≡ false
-            → returnedNumber (cond (eqb (length (placesOf (r .at) l)) 0) Idle Continued) ≡ returnOutcome M₁ (k ∷ parentName) l
-        on [] s = rw s
-        on (x ∷ l) s = rw (ne-eqb (suc (length (placesOf (r .at) l))) 0 (λ z. omega arith))
+    -- it waits at its sync
+    at-sync : (h : hasChild p (live M) ≡ false) (i : In g (M .suspended)) → g .returning ≡ false → Went P M w (k ∷ p) result
+    at-sync h i n =
+        let one = those-one (waitsAtSync p) (M .suspended) g disjoint-waiting i (rw (same-refl p, n)) (λ f s. same-eq (f .name) p (both _ _ s .0)) in
+        let a = those-none (waitsInReturn p) (M .suspended) (not-returning h i n) in
+        let e = up-resumes (length p) c w (r .at p) (waits-no-more h i) (ne-eqb (F .returning) 1 (λ z. omega (arith, z, r .waiting g i .returning, ap bit n))) in
+        record {
+          related = rw (h, a, e) (resumes-frame r w lt idle g i one laws);
+          answered = rw (h, a, one, e);
+        }
 
-  -- ---- the return
+    -- it waits in its return, and ends
+    in-return : (h : hasChild p (live M) ≡ false) (i : In g (M .suspended)) → g .returning ≡ true
+        → ((M′ : Machine) (c′ : Core) (r′ : Relates P M′ c′) → TreeLaws (c′ .head .numbers .nodes) (M′ .splitters) P → FrameTree M′ → w < length (M′ .deques) → deque M′ w ≡ [] → Above (live M′) p
+        → Went P M′ w p (upwardOn (length p) c′ w (parentPlace (r′ .at) p)))
+        → Went P M w (k ∷ p) result
+    in-return h i n next =
+        let L = leaves h i n in
+        let some = L .some in
+        let W : Went P (leave M p) w p (upwardOn (length p) (endAt c (r .at p)) w (parentPlace (L .related .at) p)) =
+        next (leave M p) (endAt c (r .at p)) (L .related) (end-laws c (r .at p) laws) (L .tree) lt idle (L .above) in
+        let W′ = subst (λ (at : Name → ℕ). Went P (leave M p) w p (upwardOn (length p) (endAt c (r .at p)) w (parentPlace at p))) (L .same-places) W in
+        let e = up-ends (length p) c w (r .at p) (ends-test h i n) in
+        let up : F .parent ≡ parentPlace (r .at) p = r .waiting g i .parent in
+        record { related = rw (h, some, e, up) (W′ .related); answered = rw (h, some, e, up) (W′ .answered) }
 
-  -- "Every other live frame has a live parent"
-  parent-lives : (k : ℕ) (p : Name) → q .name ≡ k ∷ p → (g : Frame) × In g others × (g .name ≡ parentName)
-  parent-lives k p z =
-      let x = tree .rooted q (old q (here refl)) k p z in
-      elim (In-cons (In-perm before (x .1))) [
-        | inl y ↦ absurd (omega (arith, ap length z, ap length (x .2), ap (λ (f : Frame). length (f .name)) y))
-        | inr i ↦ (x .0, i, x .2 ∙ sym (ap tail z))
+pub upward-relates : (P : Trees) (n : Name) (M : Machine) (c : Core) (r : Relates P M c) → TreeLaws (c .head .numbers .nodes) (M .splitters) P → FrameTree M → (w : ℕ) → w < length (M .deques) → deque M w ≡ []
+    → Above (live M) n → Went P M w n (upwardOn (length n) c w (parentPlace (r .at) n))
+unfolding upwardOn
+upward-relates P [] M c r laws tree w lt idle a = record { related = r; answered = refl }
+upward-relates P (k ∷ p) M c r laws tree w lt idle a =
+    let x = hasFrame-In p (live M) a in
+    let g = x .0 in
+    subst (λ (z : Name). Went P M w (k ∷ z) (upwardOn (suc (length z)) c w (r .at z))) (x .2)
+    (elim (decided (hasChild (g .name) (live M))) [
+      | inl h ↦ with-child r laws tree g (x .1) w lt idle k h
+      | inr h ↦ elim (In-cases (M .suspended) (x .1)) [
+        | inl i ↦ elim (decided (g .returning)) [
+          | inl n ↦ in-return r laws tree g (x .1) w lt idle k h i n
+              (subst (λ (z : Name). (M′ : Machine) (c′ : Core) (r′ : Relates P M′ c′) → TreeLaws (c′ .head .numbers .nodes) (M′ .splitters) P → FrameTree M′ → w < length (M′ .deques) → deque M′ w ≡ [] → Above (live M′) z
+              → Went P M′ w z (upwardOn (length z) c′ w (parentPlace (r′ .at) z))) (sym (x .2))
+              (λ M′ c′ r′ laws′ tree′ lt′ idle′ a′. upward-relates P p M′ c′ r′ laws′ tree′ w lt′ idle′ a′))
+          | inr n ↦ at-sync r laws tree g (x .1) w lt idle k h i n
+        ]
+        | inr i ↦ runs r laws tree g (x .1) w lt idle k h i
       ]
+    ])
 
-  whole : (k : ℕ) (p : Name) → q .name ≡ k ∷ p → q .name ≡ k ∷ parentName
-  whole k p z = z ∙ ap (λ (n : Name). k ∷ n) (sym (ap tail z))
+-- a frame that ends too has no live child, is suspended and returning
+ends-facts : {P : Trees} {M : Machine} {c : Core} (r : Relates P M c) (g : Frame) → In g (live M) → endsToo (frameAt (c .frames) (r .at (g .name))) ≡ true
+    → (hasChild (g .name) (live M) ≡ false) × In g (M .suspended) × (g .returning ≡ true)
+ends-facts {P} {M} {c} r g m e =
+    let F = frameAt (c .frames) (r .at (g .name)) in
+    let x = both (waitsNoMore F) (eqb (F .returning) 1) e in
+    let y = both (eqb (F .suspended) 1) (eqb (F .outstanding) 0) (x .0) in
+    let word : (v k : ℕ) → eqb v k ≡ true → v ≡ k = λ v k t. eqb→eq v k (true→T t) in
+    let R = recorded r g m .1 in
+    let childless : hasChild (g .name) (live M) ≡ false =
+    elim (decided (hasChild (g .name) (live M))) [
+      | inl t ↦ absurd (parent-count (g .name) (live M) t (sym (R .outstanding) ∙ word (F .outstanding) 0 (y .1)))
+      | inr t ↦ t
+    ] in
+    let mark : g .returning ≡ true =
+    elim (decided (g .returning)) [
+      | inl t ↦ t
+      | inr t ↦ absurd (omega (arith, word (F .returning) 1 (x .1), R .returning, ap bit t))
+    ] in
+    let waits : In g (M .suspended) =
+    elim (In-cases (M .suspended) m) [
+      | inl i ↦ i
+      | inr i ↦ absurd (omega (arith, word (F .suspended) 1 (y .0), r .running g i .suspended))
+    ] in
+    (childless, waits, mark)
 
-  return-relates : TreeLaws (c .head .numbers .nodes) (M .splitters) P → (n : Name) → q .name ≡ n → Relates P (afterAction M w (q ∷ d) return) (returnOn c w .core)
-  return-relates laws [] z =
-      subst (λ (b : Bool). Relates P (cond b M₂ M₁) (returnOn c w .core)) (sym (ap (λ (m : Name). parentResumes M₁ m d) z))
-      (left-relates r w q d lt e (set (M .deques) w d) (M .suspended) (main-left z) laws)
-  return-relates laws (k ∷ p) z =
-      let g = parent-lives k p z in
-      elim (decided (parentResumes M₁ (q .name) d)) [
-        | inl s ↦ rw s
-            (left-relates r w q d lt e (set (set (M .deques) w d) w (named parentName (M .suspended))) (notNamed parentName (M .suspended))
-            (resumed-left k (whole k p z) (g .0) (g .1) (g .2) s) laws)
-        | inr s ↦ rw s (left-relates r w q d lt e (set (M .deques) w d) (M .suspended) (child-left k (whole k p z) (g .0) (g .1) (g .2) s) laws)
-      ]
+-- what holds at the end of Main, and of a frame if it holds at its parent, should this end too, holds of all ends upward
+module _ (P : Trees) (T : ℕ → Core → ℕ → Type 0) (stop : (c : Core) (q : ℕ) → T 0 c q)
+    (turn : (M : Machine) (c : Core) (r : Relates P M c) → TreeLaws (c .head .numbers .nodes) (M .splitters) P → FrameTree M → (g : Frame) → In g (live M)
+    → (endsToo (frameAt (c .frames) (r .at (g .name))) ≡ true → T (length (g .name)) (endAt c (r .at (g .name))) (parentPlace (r .at) (g .name)))
+    → T (suc (length (g .name))) c (r .at (g .name))) where
+  pub upward-by : (n : Name) (M : Machine) (c : Core) (r : Relates P M c) → TreeLaws (c .head .numbers .nodes) (M .splitters) P → FrameTree M → Above (live M) n → T (length n) c (parentPlace (r .at) n)
+  upward-by [] M c r laws tree a = stop c (parentPlace (r .at) [])
+  upward-by (k ∷ p) M c r laws tree a =
+      let x = hasFrame-In p (live M) a in
+      let g = x .0 in
+      subst (λ (z : Name). T (suc (length z)) c (r .at z)) (x .2)
+      (turn M c r laws tree g (x .1) (λ e.
+      let y = ends-facts r g (x .1) e in
+      let L = leaves r laws tree g (x .1) (y .0) (y .1) (y .2) in
+      subst (λ (at : Name → ℕ). T (length (g .name)) (endAt c (r .at (g .name))) (parentPlace at (g .name))) (L .same-places)
+      (subst (λ (z : Name). (M′ : Machine) (c′ : Core) (r′ : Relates P M′ c′) → TreeLaws (c′ .head .numbers .nodes) (M′ .splitters) P → FrameTree M′ → Above (live M′) z → T (length z) c′ (parentPlace (r′ .at) z)) (sym (x .2))
+      (λ M′ c′ r′ l′ t′ a′. upward-by p M′ c′ r′ l′ t′ a′)
+      (leave M (g .name)) (endAt c (r .at (g .name))) (L .related) (end-laws c (r .at (g .name)) laws) (L .tree) (L .above))))
 
-  return-outcome : (n : Name) → q .name ≡ n → returnedNumber (returned (tableOf c) w) ≡ returnOutcome M₁ (q .name) d
-  return-outcome [] z = ap returnedNumber (F z .outcome) ∙ sym (ap (λ (m : Name). returnOutcome M₁ m d) z)
-  return-outcome (k ∷ p) z = let g = parent-lives k p z in child-outcome k (whole k p z) (g .0) (g .1) (g .2)
+-- ---- the bottom frame q of worker w returns; above it is d
 
-  return-answer : answerWords (returnOn c w .answer) ≡ actionAnswer M w (q ∷ d) return
+module _ {P : Trees} {M : Machine} {c : Core} (r : Relates P M c) (laws : TreeLaws (c .head .numbers .nodes) (M .splitters) P) (tree : FrameTree M)
+    (w : ℕ) (q : Frame) (d : List Frame) (lt : w < length (M .deques)) (e : deque M w ≡ q ∷ d) where
+  own : Recorded (c .frames) (r .at) (live M) 0 q
+  own = acting-record r w q d lt e
+
+  abbrev R : List Frame
+  R = d ++ rest M w
+
+  before : List·Permᴰ (live M) (q ∷ R)
+  before = live-at M w (q ∷ d) lt e
+
+  abbrev Returns : StepResult → Type 0
+  Returns s = Relates P (afterAction M w (q ∷ d) return) (s .core) × (answerWords (s .answer) ≡ actionAnswer M w (q ∷ d) return)
+
+  outstanding-is : actingIn c w .outstanding ≡ childCount (q .name) (live M)
+  outstanding-is = ap (λ (f : FrameWords). f .outstanding) (acting-frame r w q d lt e) ∙ own .outstanding
+
+  -- "A return with a live child now suspends the frame as returning"
+  waits : hasChild (q .name) (live M) ≡ true → Returns (returnOn c w)
   unfolding returnOn
-  return-answer = ap (λ (n : ℕ). (102, n)) (return-outcome (q .name) refl)
+  waits h =
+      let t = ne-eqb (actingIn c w .outstanding) 0 (λ z. parent-count (q .name) (live M) h (sym outstanding-is ∙ z)) in
+      rw (h, t, acting-frame r w q d lt e) (suspends r w q d lt e true laws, refl)
+
+  -- ---- it ends
+
+  module _ (h : hasChild (q .name) (live M) ≡ false) where
+    abbrev M₁ : Machine
+    M₁ = withDeque M w d
+
+    abbrev c₁ : Core
+    c₁ = endAt (popped c w) (r .at (q .name))
+
+    left : Left r R (set (M .deques) w d) (M .suspended) (pop (c .deques) w)
+    left =
+        let few = worker-few r w q d lt e in
+        let S = r .formed .shaped in
+        record {
+          workers = length-set (M .deques) w d;
+          frames = live-with M w d lt;
+          shaped = pop-shaped (c .deques) w S few;
+          deques = lists-with (r .at) (pop (c .deques) w) (M .deques) w d lt (pop-list (c .deques) w S few ∙ ap tail (acting-deque r w q d lt e))
+              (λ v b n. list-elsewhere S (pop-elsewhere (c .deques) w S few) v b n ∙ r .deques v b);
+          running = λ f m. elim (In-cases d (In-perm (joined-set (M .deques) w d lt) m)) [
+            | inl i ↦ (In-left (rest M w) i, above-runs r w q d e f i)
+            | inr i ↦ (In-right d (In-right (M .suspended) i), in-rest (M .deques) w i)
+          ];
+          waiting = λ f m. (In-right d (In-left (joined (set (M .deques) w [])) m), m);
+        }
+
+    E : (r′ : Relates P M₁ c₁) × (r′ .at ≡ r .at)
+    E = end-relates r tree q R before (set (M .deques) w d) (M .suspended) (pop (c .deques) w) left laws
+
+    live-left : List·Permᴰ (live M₁) R
+    live-left = live-with M w d lt
+
+    tree-left : FrameTree M₁
+    tree-left = record {
+      disjoint = disjoint-perm (Permᴰ·symm live-left) (disjoint-perm before (tree .disjoint) .1);
+      rooted = rooted-perm (Permᴰ·symm live-left) (rooted-without q R (hasChild-perm (q .name) before h) (rooted-perm before (tree .rooted)));
+    }
+
+    above-left : Above (live M₁) (q .name)
+    above-left = by-name (q .name) refl
+      where
+        by-name : (n : Name) → q .name ≡ n → Above (live M₁) n
+        by-name [] z = elim (decided (hasFrame [] (live M₁))) [
+          | inl t ↦ (let g = hasFrame-In [] (live M₁) t in absurd (names-apart q (g .0) R (disjoint-perm before (tree .disjoint)) (In-perm live-left (g .1)) (z ∙ sym (g .2))))
+          | inr t ↦ t
+        ]
+        by-name (k ∷ p) z =
+            let x = tree .rooted q (In-perm (Permᴰ·symm before) (here refl)) k p z in
+            elim (In-cons (In-perm before (x .1))) [
+              | inl y ↦ absurd (omega (arith, ap length z, ap length (x .2), ap (λ (f : Frame). length (f .name)) y))
+              | inr i ↦ In-hasFrame p (live M₁) (x .0) (In-perm (Permᴰ·symm live-left) i) (x .2)
+            ]
+
+    size-left : size (pop (c .deques) w) w ≡ length d
+    size-left =
+        sym (list-length (pop (c .deques) w) w)
+        ∙ ap length (left .deques w (worker-few r w q d lt e) ∙ ap (placesOf (r .at)) (getD-set-same (M .deques) w d [] lt))
+        ∙ length-map d (λ (f : Frame). r .at (f .name))
+
+    no-child : eqb (actingIn c w .outstanding) 0 ≡ true
+    no-child = eq-eqb (actingIn c w .outstanding) 0 (outstanding-is ∙ childless-count (q .name) (live M) h)
+
+    -- on an empty deque the ends go on upward
+    bottom-is : length d ≡ 0 → endBottom c w ≡ upwardOn (length (q .name)) c₁ w (parentPlace (r .at) (q .name))
+    unfolding endBottom endAt
+    bottom-is z =
+        rw (eq-eqb (size (pop (c .deques) w) w) 0 (size-left ∙ z), acting-place r w q d lt e, own .depth, own .parent)
+
+    above-is : length d ≢ 0 → endBottom c w ≡ returned c₁ Continued
+    unfolding endBottom endAt
+    above-is z = rw (ne-eqb (size (pop (c .deques) w) w) 0 (λ y. z (sym size-left ∙ y)), acting-place r w q d lt e)
+
+    ends-is : returnOn c w ≡ endBottom c w
+    unfolding returnOn
+    ends-is = rw no-child
+
+    ended-empty : d ≡ [] → afterEnd M w q d ≡ upward M₁ w (q .name)
+    ended-empty z = subst (λ (l : List Frame). afterEnd M w q l ≡ upward (withDeque M w l) w (q .name)) (sym z) refl
+
+    ended-rest : (x : Frame) (l : List Frame) → d ≡ x ∷ l → afterEnd M w q d ≡ M₁
+    ended-rest x l z = subst (λ (y : List Frame). afterEnd M w q y ≡ withDeque M w y) (sym z) refl
+
+    laws-left : TreeLaws (c₁ .head .numbers .nodes) (M₁ .splitters) P
+    unfolding endAt
+    laws-left = laws
+
+    -- the result of the end is the return's
+    as-return : (s : StepResult) → returnOn c w ≡ s → Relates P (afterEnd M w q d) (s .core) → answerWords (s .answer) ≡ (102, endOutcome (afterEnd M w q d) w d) → Returns (returnOn c w)
+    as-return s e R a = rw (h, e) (R, a)
+
+    on-empty : d ≡ [] → Returns (returnOn c w)
+    on-empty z =
+        let idle : deque M₁ w ≡ [] = getD-set-same (M .deques) w d [] lt ∙ z in
+        let lt₁ : w < length (M₁ .deques) = omega (arith, lt, length-set (M .deques) w d) in
+        let W = subst (λ (at : Name → ℕ). Went P M₁ w (q .name) (upwardOn (length (q .name)) c₁ w (parentPlace at (q .name)))) (E .1)
+        (upward-relates P (q .name) M₁ c₁ (E .0) laws-left tree-left w lt₁ idle above-left) in
+        let o = outcome-upward M₁ w (q .name) lt₁ idle (tree-left .rooted) (tree-left .disjoint) above-left in
+        let is : afterEnd M w q d ≡ upward M₁ w (q .name) = ended-empty z in
+        as-return (upwardOn (length (q .name)) c₁ w (parentPlace (r .at) (q .name))) (ends-is ∙ bottom-is (ap length z))
+        (rw is (W .related)) (W .answered ∙ ap (λ (x : ℕ). (102, x)) (sym o ∙ sym (ap₂ (λ (N : Machine) (l : List Frame). endOutcome N w l) is z)))
+
+    on-rest : (x : Frame) (l : List Frame) → d ≡ x ∷ l → Returns (returnOn c w)
+    on-rest x l z =
+        let is : afterEnd M w q d ≡ M₁ = ended-rest x l z in
+        let m : In x (live M₁) = In-perm (Permᴰ·symm live-left) (In-left (rest M w) (subst (λ (y : List Frame). In x y) (sym z) (here refl))) in
+        let main = main-there (live M₁) (tree-left .rooted) (x .name) (In-hasFrame (x .name) (live M₁) x m refl) in
+        as-return (returned c₁ Continued) (ends-is ∙ above-is (λ y. omega (arith, y, ap length z))) (rw is (E .0))
+        (ap (λ (y : ℕ). (102, y)) (sym (ap₂ (λ (N : Machine) (y : List Frame). endOutcome N w y) is z ∙ rw main)))
+
+    returns-left : Returns (returnOn c w)
+    returns-left = by-deque d refl
+      where
+        by-deque : (l : List Frame) → d ≡ l → Returns (returnOn c w)
+        by-deque [] z = on-empty z
+        by-deque (x ∷ l) z = on-rest x l z
+
+-- what holds of all ends upward holds after the first
+pub ends-by : (P : Trees) (T : ℕ → Core → ℕ → Type 0) → ((c : Core) (q : ℕ) → T 0 c q)
+    → ((M : Machine) (c : Core) (r : Relates P M c) → TreeLaws (c .head .numbers .nodes) (M .splitters) P → FrameTree M → (g : Frame) → In g (live M)
+    → (endsToo (frameAt (c .frames) (r .at (g .name))) ≡ true → T (length (g .name)) (endAt c (r .at (g .name))) (parentPlace (r .at) (g .name)))
+    → T (suc (length (g .name))) c (r .at (g .name)))
+    → (M : Machine) (c : Core) (r : Relates P M c) → TreeLaws (c .head .numbers .nodes) (M .splitters) P → FrameTree M
+    → (w : ℕ) (q : Frame) (d : List Frame) (lt : w < length (M .deques)) (e : deque M w ≡ q ∷ d) → hasChild (q .name) (live M) ≡ false
+    → T (length (q .name)) (endAt (popped c w) (r .at (q .name))) (parentPlace (r .at) (q .name))
+ends-by P T stop turn M c r laws tree w q d lt e h =
+    let x = E r laws tree w q d lt e h in
+    let c₁ = endAt (popped c w) (r .at (q .name)) in
+    subst (λ (at : Name → ℕ). T (length (q .name)) c₁ (parentPlace at (q .name))) (x .1)
+    (upward-by P T stop turn (q .name) (withDeque M w d) c₁ (x .0) (laws-left r laws tree w q d lt e h) (tree-left r laws tree w q d lt e h) (above-left r laws tree w q d lt e h))
 
 pub sim-return : (P : Trees) (M : Machine) (c : Core) (w : ℕ) → TreeLaws (c .head .numbers .nodes) (M .splitters) P → FrameTree M → Passes M (acting w return) → Relates P M c
     → Relates P (afterTurn M (acting w return)) (returnOn c w .core) × (answerWords (returnOn c w .answer) ≡ turnAnswer M (acting w return))
 sim-return P M c w laws tree h r =
     let x = acts M w return h in
     subst (λ (z : List Frame). Relates P (afterAction M w z return) (returnOn c w .core) × (answerWords (returnOn c w .answer) ≡ actionAnswer M w z return)) (sym (x .at))
-    (return-relates r tree w (x .actor) (x .above) (x .worker) (x .at) laws (x .actor .name) refl, return-answer r tree w (x .actor) (x .above) (x .worker) (x .at))
+    (elim (decided (hasChild (x .actor .name) (live M))) [
+      | inl t ↦ waits r laws tree w (x .actor) (x .above) (x .worker) (x .at) t
+      | inr t ↦ returns-left r laws tree w (x .actor) (x .above) (x .worker) (x .at) t
+    ])

@@ -187,7 +187,7 @@ module _ {P : Trees} {M : Machine} {c : Core} (r : Relates P M c) (tree : FrameT
   parent-record =
       recorded-as (t′ .frames) at′ (live M′) 0 (afterSpawn q) (r .at (q .name)) (withChild (frameAt (c .frames) (r .at (q .name)))) (same-place q (here refl)) (S .parent)
       (q-record .inside) (q-record .live) (q-record .parent ∙ sym (same-parent q (here refl))) (q-record .depth)
-      (ap (λ (n : ℕ). plus n 1) (q-record .outstanding) ∙ plus-one (childCount (q .name) (live M)) (omega (arith, few, childCount-le (q .name) (live M))) ∙ one-more) (q-record .suspended)
+      (ap (λ (n : ℕ). plus n 1) (q-record .outstanding) ∙ plus-one (childCount (q .name) (live M)) (omega (arith, few, childCount-le (q .name) (live M))) ∙ one-more) (q-record .suspended) (q-record .returning)
 
   child-depth : plus (frameAt (c .frames) (r .at (q .name)) .depth) 1 ≡ suc (length (q .name))
   child-depth =
@@ -196,7 +196,7 @@ module _ {P : Trees} {M : Machine} {c : Core} (r : Relates P M c) (tree : FrameT
   child-record : Recorded (t′ .frames) at′ (live M′) 0 (child q)
   child-record =
       recorded-as (t′ .frames) at′ (live M′) 0 (child q) g (childOf (frameAt (c .frames) (r .at (q .name))) (r .at (q .name))) new-place (S .child) (formed .places .1)
-      refl (sym (same-place q (here refl))) child-depth (sym (childless-count (child q .name) (live M′) childless)) refl
+      refl (sym (same-place q (here refl))) child-depth (sym (childless-count (child q .name) (live M′) childless)) refl refl
 
   running-after : (f : Frame) → In f (joined (M′ .deques)) → Recorded (t′ .frames) at′ (live M′) 0 f
   running-after f m =

@@ -74,7 +74,7 @@ module _ (P : Trees) (M : Machine) (c : Core) (w x v : ℕ) (q : Frame) (d : Lis
 
   carries : Carried r next new-frames q (written q x v) others (new-record .suspended) (after .3)
   carries =
-      carried r next new-frames q (written q x v) others (new-record .suspended) (after .3) refl before afterwards
+      carried r next new-frames q (written q x v) others (new-record .suspended) (after .3) (new-record .returning) refl (acting-record r w q d lt e .returning) before afterwards
       (frame-set-same (c .frames) (r .at (q .name)) new-record (r .formed .long) (placed-inside r q q-lives))
       (λ p n. frame-set-other (c .frames) (r .at (q .name)) p new-record n)
 

@@ -18,7 +18,7 @@ use Rattle.model.specs.Theory.FreshMarks.{MarkInvariant}
 use Rattle.model.specs.Theory.Bounds.{Bounded}
 use Rattle.semantics.specs.declared.Refusal.{Refusal}
 use Rattle.semantics.specs.Answers.{answerWords}
-use Rattle.semantics.specs.Core.{Core, StepResult, judged, spawnOn, returnOn, stealOn, syncOn, readOn, writeOn, stepOn, doneBy, testsOf}
+use Rattle.semantics.specs.Core.{Core, StepResult, judged, spawnOn, stealOn, syncOn, readOn, writeOn, stepOn, doneBy, testsOf}
 use Rattle.semantics.specs.Theory.Relation.{Trees, TreeLaws, Relates}
 use Rattle.semantics.specs.Theory.SimSpawn.{sim-spawn}
 use Rattle.semantics.specs.Theory.SimReturn.{sim-return}
@@ -26,20 +26,15 @@ use Rattle.semantics.specs.Theory.SimRead.{sim-read}
 use Rattle.semantics.specs.Theory.SimWrite.{sim-write}
 use Rattle.semantics.specs.Theory.SimSteal.{sim-steal}
 use Rattle.semantics.specs.Theory.SimSync.{sim-sync}
+use Rattle.semantics.specs.Theory.NumbersKept.{NumbersKept, returns-kept}
 use Rattle.semantics.specs.Theory.Refusals.{SameRoom, enough, step-judged, refused-alike}
 
 -- ---- what no step changes
 
-pub record NumbersKept (c c′ : Core) : Type 0 where
-  pub workers : c′ .head .numbers .workers ≡ c .head .numbers .workers
-  pub splitters : c′ .head .numbers .splitters ≡ c .head .numbers .splitters
-  pub nodes : c′ .head .numbers .nodes ≡ c .head .numbers .nodes
-  pub height : c′ .head .height ≡ c .head .height
-
 done-kept : (c : Core) (st : Step) → NumbersKept c (doneBy c st .core)
-unfolding spawnOn returnOn stealOn syncOn readOn writeOn
+unfolding spawnOn stealOn syncOn readOn writeOn
 done-kept c (Spawn w) = record { workers = refl; splitters = refl; nodes = refl; height = refl }
-done-kept c (Return w) = record { workers = refl; splitters = refl; nodes = refl; height = refl }
+done-kept c (Return w) = returns-kept c w
 done-kept c (Steal w v) = record { workers = refl; splitters = refl; nodes = refl; height = refl }
 done-kept c (Sync w) = record { workers = refl; splitters = refl; nodes = refl; height = refl }
 done-kept c (Read w x) = record { workers = refl; splitters = refl; nodes = refl; height = refl }

@@ -17,18 +17,20 @@ use Rattle.model.specs.declared.Decoded.the-variants.{Valid, Invalid}
 use Rattle.model.specs.Machine.{Machine, freeNodes}
 use Rattle.model.specs.Steps.{step, answer}
 use Rattle.semantics.specs.declared.Refusal.{Refusal}
+use Rattle.semantics.specs.declared.Answer.{Answer}
 use Rattle.semantics.specs.Answers.{answerWords}
 use Rattle.semantics.specs.Core.{Core, StepResult, judged, spawnOn, returnOn, stealOn, syncOn, readOn, writeOn, stepOn, testsOf, doneBy}
 use Rattle.semantics.specs.Entries.{State, fits, numbersOf, stateOf, isSound, recordOn}
-use Rattle.semantics.specs.Images.{LoadResult, savedImage, stateIn, poolWith}
+use Rattle.semantics.specs.Images.{LoadResult, savedImage, imageBefore, stateIn, poolWith}
 use Rattle.semantics.specs.Calls.{HostCall, StateAndPool, restIn, poolAt, afterCall, coreIn, saveResult, Call, begun, runOf}
-use Rattle.semantics.specs.Demands.{withFree, isWritten, fromSound, plainOf, SoundRun, StateWords, AllCallWords, writtenImage, ReadsBack}
+use Rattle.semantics.specs.Demands.{withFree, isWritten, fromSound, plainOf, SoundRun, StateWords, AllCallWords, NoneWaiting, writtenImage, ReadsBack}
 use Rattle.semantics.specs.Theory.Refusals.{number-range}
+use Rattle.semantics.specs.Theory.Returning.{return-answers}
 use Rattle.semantics.specs.Theory.SoundSteps.{Carried, is-sound, sound-carried, rebased, roomed, simulated, step-carried, takes}
 use Rattle.semantics.specs.Theory.Elsewhere.{carried-elsewhere}
 use Rattle.semantics.specs.Theory.Fitting.{fits-true, true-fits, state-back}
 use Rattle.semantics.specs.Theory.Runs.{Laws, KeptBy, core-fits, call-follows}
-use Rattle.semantics.specs.Theory.Images.{sound-room, save-taken, accepted-save, LoadTaken, SaysCore, saved-says, load-takes, pool-with, front-same, loaded-state, loaded-front, loaded-beyond}
+use Rattle.semantics.specs.Theory.Images.{sound-room, save-taken, accepted-save, LoadTaken, SaysCore, saved-says, before-says, load-takes, pool-with, front-same, loaded-state, loaded-front, loaded-beyond}
 use Rattle.semantics.specs.Theory.WholeRuns.{kept-begun, kept-calls, fed-sound, answers-by}
 
 -- ---- a write's answer is the engine's own number of free nodes
@@ -40,10 +42,13 @@ judged-own : (ts : List (Bool × Refusal)) (c : Core) (d : StepResult) → OwnNu
 judged-own [] c d o = o
 judged-own (t ∷ ts) c d o = elim (decided (t .0)) [ inl e ↦ rw e (λ h. absurd (omega (arith, h, number-range (t .1) .1))) | inr e ↦ rw e (judged-own ts c d o) ]
 
+return-number : (c : Core) (w : ℕ) → answerWords (returnOn c w .answer) .0 ≡ 102
+return-number c w = ap (λ (a : Answer). answerWords a .0) (return-answers c w .1)
+
 done-own : (c : Core) (st : Step) → OwnNumber (doneBy c st)
-unfolding spawnOn returnOn stealOn syncOn readOn writeOn
+unfolding spawnOn stealOn syncOn readOn writeOn
 done-own c (Spawn w) h = absurd (omega arith)
-done-own c (Return w) h = absurd (omega arith)
+done-own c (Return w) h = absurd (omega (arith, h, return-number c w))
 done-own c (Steal w v) h = absurd (omega arith)
 done-own c (Sync w) h = absurd (omega arith)
 done-own c (Read w x) h = absurd (omega arith)
@@ -62,9 +67,9 @@ judged-write [] c d h = h
 judged-write (t ∷ ts) c d h = elim (decided (t .0)) [ inl e ↦ absurd (omega (arith, rw e at h, number-range (t .1) .1)) | inr e ↦ judged-write ts c d (rw e at h) ]
 
 done-write : (c : Core) (st : Step) → answerWords (doneBy c st .answer) .0 ≡ 106 → IsWrite st
-unfolding spawnOn returnOn stealOn syncOn readOn writeOn
+unfolding spawnOn stealOn syncOn readOn writeOn
 done-write c (Spawn w) h = absurd (omega arith)
-done-write c (Return w) h = absurd (omega arith)
+done-write c (Return w) h = absurd (omega (arith, h, return-number c w))
 done-write c (Steal w v) h = absurd (omega arith)
 done-write c (Sync w) h = absurd (omega arith)
 done-write c (Read w x) h = absurd (omega arith)
@@ -141,9 +146,8 @@ sound-call h k fit e = fed-sound fromSound Carried laws (plainOf h) (numbersOf (
 
 -- ---- a saved state reads back
 
--- in a pool with the same nodes a sound state is sound
-module _ (h : StateAndPool) (fit : fits (h .state) ≡ true) (e : isSound (h .state) (h .pool) ≡ true) (words : StateWords (h .state) (h .pool)) (s : State) (ws work : List ℕ)
-    (parts-fit : fits s ≡ true) (held : 4 * numbersOf (h .state) .nodes ≤ length ws) (long : numbersOf (h .state) .nodes ≤ length work) where
+-- of an image that says a sound state
+module _ (h : StateAndPool) (fit : fits (h .state) ≡ true) (e : isSound (h .state) (h .pool) ≡ true) where
   c : Core
   c = coreIn h
 
@@ -159,33 +163,51 @@ module _ (h : StateAndPool) (fit : fits (h .state) ≡ true) (e : isSound (h .st
   unfolding c
   room = sound-room (h .state) (h .pool) e
 
-  says : SaysCore (savedImage (h .state) (h .pool)) c
-  unfolding c
-  says = subst (λ (t : State). SaysCore (savedImage t (h .pool)) (coreIn h)) same (saved-says (coreIn h) (subst (λ (t : State). StateWords t (h .pool)) (sym same) words) (core-fits carries) room)
+  module _ (image : List ℕ) (says : SaysCore image c) (s : State) (ws work : List ℕ) (parts-fit : fits s ≡ true) (held : 4 * numbersOf (h .state) .nodes ≤ length ws) (long : numbersOf (h .state) .nodes ≤ length work) where
+    -- in a pool with the same nodes it is sound
+    sound-there : isSound (stateIn image) (poolWith ws image) ≡ true
+    unfolding c
+    sound-there =
+        let ws′ = take (4 * numbersOf (h .state) .nodes) (h .pool) ++ drop (4 * numbersOf (h .state) .nodes) ws in
+        (λ i. isSound (record { numbers = says .numbers i; deques = says .deques i; frames = says .frames i }) (pool-with image c says room ws held i))
+        ∙ is-sound (carried-elsewhere (plainOf h) (coreIn h) ws′ carries (front-same (numbersOf (h .state) .nodes) (h .pool) ws room held)) .0
 
-  sound-there : isSound (stateIn (savedImage (h .state) (h .pool))) (poolWith ws (savedImage (h .state) (h .pool))) ≡ true
-  unfolding c
-  sound-there =
-      let ws′ = take (4 * numbersOf (h .state) .nodes) (h .pool) ++ drop (4 * numbersOf (h .state) .nodes) ws in
-      (λ i. isSound (record { numbers = says .numbers i; deques = says .deques i; frames = says .frames i }) (pool-with (savedImage (h .state) (h .pool)) c says room ws held i))
-      ∙ is-sound (carried-elsewhere (plainOf h) (coreIn h) ws′ carries (front-same (numbersOf (h .state) .nodes) (h .pool) ws room held)) .0
+    taken : LoadTaken s ws work image
+    unfolding c
+    taken = load-takes image c says s ws work parts-fit long sound-there
 
-  taken : LoadTaken s ws work (savedImage (h .state) (h .pool))
-  unfolding c
-  taken = load-takes (savedImage (h .state) (h .pool)) c says s ws work parts-fit long sound-there
+    there : ReadsBack h image s ws work
+    unfolding c
+    there = record {
+      accepted = ap (λ (o : LoadResult). o .result) (taken .is);
+      state = loaded-state image c says room s ws work taken ∙ same;
+      nodes = loaded-front image c says room s ws work taken;
+      same-length = loaded-beyond image c says room s ws work taken .0;
+      beyond = loaded-beyond image c says room s ws work taken .1;
+    }
 
-  there : ReadsBack h (savedImage (h .state) (h .pool)) s ws work
-  unfolding c
-  there = record {
-    accepted = ap (λ (o : LoadResult). o .result) (taken .is);
-    state = loaded-state (savedImage (h .state) (h .pool)) c says room s ws work taken ∙ same;
-    nodes = loaded-front (savedImage (h .state) (h .pool)) c says room s ws work taken;
-    same-length = loaded-beyond (savedImage (h .state) (h .pool)) c says room s ws work taken .0;
-    beyond = loaded-beyond (savedImage (h .state) (h .pool)) c says room s ws work taken .1;
-  }
+  -- the image that is written now, and the one that R-1 wrote
+  module _ (words : StateWords (h .state) (h .pool)) where
+    core-words : StateWords (stateOf c) (c .pool)
+    unfolding c
+    core-words = subst (λ (t : State). StateWords t (h .pool)) (sym same) words
+
+    says-saved : SaysCore (savedImage (h .state) (h .pool)) c
+    unfolding c
+    says-saved = subst (λ (t : State). SaysCore (savedImage t (h .pool)) (coreIn h)) same (saved-says (coreIn h) core-words (core-fits carries) (is-sound carries .0))
+
+    says-before : NoneWaiting (h .state) → SaysCore (imageBefore (h .state) (h .pool)) c
+    unfolding c
+    says-before z = subst (λ (t : State). SaysCore (imageBefore t (h .pool)) (coreIn h)) same (before-says (coreIn h) z core-words (core-fits carries) (is-sound carries .0))
 
 pub reads-back : (h : StateAndPool) (work₀ target : List ℕ) → saveResult h work₀ target .result ≡ 0 → StateWords (h .state) (h .pool) → (s : State) (ws work : List ℕ) → fits s ≡ true
     → 4 * numbersOf (h .state) .nodes ≤ length ws → numbersOf (h .state) .nodes ≤ length work → ReadsBack h (writtenImage h work₀ target) s ws work
 reads-back h work₀ target z words s ws work f held long =
     let T = save-taken h work₀ target z in
-    subst (λ (b : List ℕ). ReadsBack h b s ws work) (sym (accepted-save h work₀ target z .image)) (there h (fits-true (h .state) (T .parts)) (T .still) words s ws work f held long)
+    let fit = fits-true (h .state) (T .parts) in
+    subst (λ (b : List ℕ). ReadsBack h b s ws work) (sym (accepted-save h work₀ target z .image)) (there h fit (T .still) (savedImage (h .state) (h .pool)) (says-saved h fit (T .still) words) s ws work f held long)
+
+-- R-3: an image "from before .. reads as having none waiting": what R-1 wrote of a sound state in which none waits reads back as that state
+pub reads-before : (h : StateAndPool) → fits (h .state) ≡ true → isSound (h .state) (h .pool) ≡ true → NoneWaiting (h .state) → StateWords (h .state) (h .pool) → (s : State) (ws work : List ℕ) → fits s ≡ true
+    → 4 * numbersOf (h .state) .nodes ≤ length ws → numbersOf (h .state) .nodes ≤ length work → ReadsBack h (imageBefore (h .state) (h .pool)) s ws work
+reads-before h fit e z words s ws work f held long = there h fit e (imageBefore (h .state) (h .pool)) (says-before h fit e words z) s ws work f held long

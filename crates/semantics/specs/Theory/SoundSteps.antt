@@ -10,7 +10,7 @@ use lib.ListN.{length, length-map}
 use Rattle.words.specs.Tests.{decided, ltb-of, nltb-of}
 use Rattle.words.specs.Lists.{perm-length}
 use Rattle.sizes.specs.Sizes.{height}
-use Rattle.pool.specs.Pool.{retain, release}
+use Rattle.pool.specs.Pool.{retain}
 use Rattle.pool.specs.Pool.{rest as rest-of}
 use Rattle.pool.specs.Pool.{write as writePath}
 use Rattle.frames.specs.Widths.{places, frameWords, dequeWords}
@@ -38,7 +38,8 @@ use Rattle.semantics.specs.Demands.{withNodes, withFree, withRoom}
 use Rattle.semantics.specs.Theory.Relation.{Trees, Relates, rootOf, rootsOf}
 use Rattle.semantics.specs.Theory.Places.{acting-frame, live-few, treeOf}
 use Rattle.semantics.specs.Theory.RelationFacts.{trees-perm}
-use Rattle.semantics.specs.Theory.Pools.{LiveTrees, live-laws, Beyond, spawn-beyond, return-beyond, write-beyond, write-takes}
+use Rattle.semantics.specs.Theory.Pools.{LiveTrees, live-laws, Beyond, spawn-beyond, write-beyond, write-takes}
+use Rattle.semantics.specs.Theory.Returning.{return-keeps-beyond}
 use Rattle.semantics.specs.Theory.Refusals.{SameRoom, enough, refused-alike}
 use Rattle.semantics.specs.Theory.Simulation.{Simulates, simulates, numbers-kept}
 use Rattle.semantics.specs.Theory.ToSound.{to-sound}
@@ -59,7 +60,7 @@ module _ (M : Machine) (c : Core) (r : Relates (LiveTrees (c .head .numbers .nod
   few a w x = omega (arith, length-map (x .above ++ rest M w) (treeOf (c .frames) (r .at)), perm-length (x .before), live-few r)
 
   done-beyond : (st : Step) → SameRoom M c st → Passes M (turnOf st) → Beyond (c .head .numbers .nodes) (c .pool) (doneBy c st .core .pool)
-  unfolding spawnOn returnOn stealOn syncOn readOn writeOn
+  unfolding spawnOn stealOn syncOn readOn writeOn
   done-beyond (Spawn w) same h =
       let x = acts M w spawn h in
       subst (λ (z : ℕ). Beyond (c .head .numbers .nodes) (c .pool) (retain (c .pool) z)) (sym (root-is spawn w x))
@@ -67,10 +68,8 @@ module _ (M : Machine) (c : Core) (r : Relates (LiveTrees (c .head .numbers .nod
       (rootsOf (c .frames) (r .at) (x .above ++ rest M w)) (few spawn w x) (front-trees spawn w x))
   done-beyond (Return w) same h =
       let x = acts M w return h in
-      subst (λ (z : ℕ). Beyond (c .head .numbers .nodes) (c .pool) (release (c .head .height) (c .pool) (c .head .numbers .«free_node») (c .head .«free_count») z .0)) (sym (root-is return w x))
-      (subst (λ (t : ℕ). Beyond (c .head .numbers .nodes) (c .pool) (release t (c .pool) (c .head .numbers .«free_node») (c .head .«free_count») (rootOf (c .frames) (r .at) (x .actor)) .0)) (sym (r .numbers .height-is))
-      (return-beyond (c .head .numbers .nodes) (M .splitters) (r .numbers .nodes-le) (r .numbers .splitters-positive) (c .pool) (c .head .numbers .«free_node») (c .head .«free_count») (treeOf (c .frames) (r .at) (x .actor))
-      (rootsOf (c .frames) (r .at) (x .above ++ rest M w)) (front-trees return w x)))
+      return-keeps-beyond (c .head .numbers .nodes) (M .splitters) (r .numbers .nodes-le) (r .numbers .splitters-positive) M c r
+      (live-laws (c .head .numbers .nodes) (M .splitters) (r .numbers .nodes-le) (r .numbers .splitters-positive)) tree (r .numbers .height-is) w (x .actor) (x .above) (x .worker) (x .at)
   done-beyond (Steal w v) same h = (refl, refl)
   done-beyond (Sync w) same h = (refl, refl)
   done-beyond (Read w x) same h = (refl, refl)
@@ -162,7 +161,7 @@ module _ (M : Machine) (N : ℕ) where
   tree-nodes t = record { disjoint = t .disjoint; rooted = t .rooted }
 
   deques-nodes : DequeInvariant M → DequeInvariant (withNodes M N)
-  deques-nodes d = record { shape = d .shape; waits = d .waits }
+  deques-nodes d = record { shape = d .shape; active = d .active; waits = d .waits }
 
 pub rebased : (M : Machine) (c : Core) (k : ℕ) → Relates (LiveTrees (c .head .numbers .nodes) (M .splitters)) M c → FrameTree M → DequeInvariant M → MarkInvariant (live M) → Bounded (M .splitters) (live M)
     → c .head .«free_count» ≡ k → Carried (withFree M k) c

@@ -69,6 +69,7 @@ module _ (workers : ℕ) (vs ws : List ℕ) (F : Fit workers vs ws) where
         depth = ap (λ r. r .depth) main-at;
         outstanding = ap (λ r. r .outstanding) main-at;
         suspended = ap (λ r. r .suspended) main-at;
+        returning = ap (λ r. r .returning) main-at;
       }))
 
   pub start-relates : Relates (GoodTrees (wholeNodes ws) (length vs)) (start workers vs (wholeNodes ws)) (firstCore workers vs ws)

@@ -1,4 +1,4 @@
--- One live frame's record is stored anew, but for its suspension and its tree; the frame keeps its name, the other frames stay.
+-- One live frame's record is stored anew, but for its suspension, its tree and whether it is returning; the frame keeps its name, the other frames stay.
 use mathlib.Core.Path.{_≡_, refl, sym, ap, _∙_}
 use mathlib.Core.Logic.{_≢_}
 use mathlib.Core.List.{List·Memᴰ as In, List·Memᴰ·head as here}
@@ -12,7 +12,7 @@ use Rattle.frames.specs.declared.Frame.{Frame as Words}
 use Rattle.frames.specs.Frames.{frameAt, freePlace}
 use Rattle.model.specs.Machine.{Name, Frame, Machine, live}
 use Rattle.semantics.specs.Core.{Core}
-use Rattle.semantics.specs.Theory.Relation.{Trees, childCount, placesOf, rootOf, rootsOf, Recorded, Relates}
+use Rattle.semantics.specs.Theory.Relation.{Trees, bit, childCount, placesOf, rootOf, rootsOf, Recorded, Relates}
 use Rattle.semantics.specs.Theory.Places.{count-perm, childCount-perm, PlacedOnce, recorded-kept, placed-taken}
 use Rattle.semantics.specs.Theory.RelationFacts.{roots-same, stored, recorded-stored, places-apart}
 
@@ -26,9 +26,9 @@ pub record Carried {P : Trees} {M : Machine} {c : Core} (r : Relates P M c) (M�
   pub once : PlacedOnce (r .at) (r .gs) (live M′)
   pub vacant : (p : ℕ) → p < places → 0 < count p (r .gs) → (n : ℕ) × (frameAt fs′ p ≡ freePlace n)
 
-module _ {P : Trees} {M : Machine} {c : Core} (r : Relates P M c) (M′ : Machine) (fs′ : List ℕ) (q q′ : Frame) (R : List Frame) (s t : ℕ) (named : q′ .name ≡ q .name)
+module _ {P : Trees} {M : Machine} {c : Core} (r : Relates P M c) (M′ : Machine) (fs′ : List ℕ) (q q′ : Frame) (R : List Frame) (s t b : ℕ) (named : q′ .name ≡ q .name) (mark : b ≡ bit (q′ .returning))
     (before : List·Permᴰ (live M) (q ∷ R)) (after : List·Permᴰ (q′ ∷ R) (live M′))
-    (at-q : frameAt fs′ (r .at (q .name)) ≡ stored (frameAt (c .frames) (r .at (q .name))) s t)
+    (at-q : frameAt fs′ (r .at (q .name)) ≡ stored (frameAt (c .frames) (r .at (q .name))) s t b)
     (elsewhere : (p : ℕ) → p ≢ r .at (q .name) → frameAt fs′ p ≡ frameAt (c .frames) p) where
   apart : (f : Frame) → In f R → frameAt fs′ (r .at (f .name)) ≡ frameAt (c .frames) (r .at (f .name))
   apart f m = elsewhere (r .at (f .name)) (places-apart r before f m)
@@ -36,7 +36,7 @@ module _ {P : Trees} {M : Machine} {c : Core} (r : Relates P M c) (M′ : Machin
   same-children : (p : Name) → childCount p (live M) ≡ childCount p (live M′)
   same-children p =
       childCount-perm p before
-      ∙ ap (λ (z : Name). childCount p (record { name = z; values = q .values; history = q .history; spawned = q .spawned } ∷ R)) (sym named)
+      ∙ ap (λ (z : Name). childCount p (record { name = z; values = q .values; history = q .history; spawned = q .spawned; returning = q .returning } ∷ R)) (sym named)
       ∙ childCount-perm p after
 
   same-places : (p : ℕ) → count p (placesOf (r .at) (live M)) ≡ count p (placesOf (r .at) (live M′))
@@ -52,7 +52,7 @@ module _ {P : Trees} {M : Machine} {c : Core} (r : Relates P M c) (M′ : Machin
 
   pub carried : Carried r M′ fs′ q q′ R s t
   carried = record {
-    own-record = λ u k. recorded-stored fs′ (live M′) s t q′ named at-q (same-children (q .name)) k;
+    own-record = λ u k. recorded-stored fs′ (live M′) s t b q′ named mark at-q (same-children (q .name)) k;
     other-record = λ u f m k. recorded-kept (c .frames) fs′ (r .at) (r .at) (live M) (live M′) u f refl (apart f m) refl (sym (same-children (f .name))) k;
     own-root = ap (λ (z : Name). frameAt fs′ (r .at z) .root) named ∙ ap (λ (z : Words). z .root) at-q;
     other-root = λ f m. ap (λ (z : Words). z .root) (apart f m);

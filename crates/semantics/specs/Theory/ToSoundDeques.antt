@@ -16,7 +16,7 @@ use Rattle.model.specs.Theory.DequeShape.{Linked, OnlyChild, nothing, DequeInva
 use Rattle.semantics.specs.Core.{Core}
 use Rattle.semantics.specs.Theory.Relation.{Trees, parentPlace, placesOf, Relates}
 use Rattle.soundness.specs.Theory.Facts.{Lives, FramesFacts}
-use Rattle.semantics.specs.Theory.ToSoundFrames.{recorded, inside, alive, live-frame, parent-named, deque-size, in-live, one-main, parents, outstanding, placed, free-places}
+use Rattle.semantics.specs.Theory.ToSoundFrames.{recorded, inside, alive, live-frame, parent-named, deque-size, in-live, one-main, parents, outstanding, placed, returning, free-places}
 
 module _ {P : Trees} {M : Machine} {c : Core} (R : Relates P M c) (tree : FrameTree M) (inv : DequeInvariant M) where
   abbrev at : Name → ℕ
@@ -123,6 +123,7 @@ module _ {P : Trees} {M : Machine} {c : Core} (R : Relates P M c) (tree : FrameT
     parents = parents R tree;
     outstanding = outstanding R tree;
     placed = placed R tree inv;
+    returning = returning R tree inv;
     hold-live = hold-live;
     absent = absent;
     within = R .formed .shaped .within;

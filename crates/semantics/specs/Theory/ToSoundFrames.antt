@@ -24,10 +24,10 @@ use Rattle.model.specs.Theory.FrameTree.{FrameTree, main-lives}
 use Rattle.model.specs.Theory.DequeShape.{DequeInvariant}
 use Rattle.soundness.specs.Soundness.{isChild as isChildAt, lives, children, liveRoots}
 use Rattle.semantics.specs.Core.{Core}
-use Rattle.semantics.specs.Theory.Relation.{Trees, parentPlace, childCount, placesOf, rootOf, rootsOf, Recorded, Relates}
-use Rattle.soundness.specs.Theory.Facts.{Lives, stands, child-at, at-child, NoFrame, OnlyMain, HasParent, Placed, PlacesFree}
+use Rattle.semantics.specs.Theory.Relation.{Trees, parentPlace, childCount, placesOf, rootOf, rootsOf, bit, Recorded, Relates}
+use Rattle.soundness.specs.Theory.Facts.{Lives, stands, child-at, at-child, NoFrame, OnlyMain, HasParent, Placed, Returning, PlacesFree}
 use Rattle.semantics.specs.Theory.FromSoundPlaces.{In-count, below-of, total, roots-below}
-use Rattle.semantics.specs.Theory.ToSoundPlaces.{sum-total, place-count, place-frame, place-apart, count-both, count-joined, in-joined}
+use Rattle.semantics.specs.Theory.ToSoundPlaces.{sum-total, place-count, place-frame, place-apart, count-both, count-joined, in-joined, joined-in}
 
 -- ---- sums along the frames
 
@@ -256,3 +256,17 @@ module _ {P : Trees} {M : Machine} {c : Core} (R : Relates P M c) where
     -- "Each live frame is either in just one place of one deque and not suspended, or in none and suspended with a live child."
     pub placed : DequeInvariant M → (p : ℕ) → p < places → Lives fs p → Placed (c .deques) fs p
     placed inv = at-live (Placed (c .deques) fs) (placed-at inv)
+
+    -- a suspended frame may be returning, a frame in a deque is not
+    returning-at : DequeInvariant M → (f : Frame) → In f L → Returning fs (at (f .name))
+    returning-at inv f m = elim (In-cases (M .suspended) m) [
+      | inl i ↦ elim (decided (f .returning)) [
+        | inl e ↦ inr (R .waiting f i .returning ∙ ap bit e, R .waiting f i .suspended)
+        | inr e ↦ inl (R .waiting f i .returning ∙ ap bit e)
+      ]
+      | inr i ↦ (let r = joined-in (M .deques) i in inl (R .running f i .returning ∙ ap bit (inv .active (r .0) f (r .1))))
+    ]
+
+    -- R-3: "1 on a frame waiting so, which is suspended, else 0"
+    pub returning : DequeInvariant M → (p : ℕ) → p < places → Lives fs p → Returning fs p
+    returning inv = at-live (Returning fs) (returning-at inv)

@@ -152,7 +152,7 @@ module _ (S : Specification) (Follows : Machine → Core → Type 0) (L : Laws S
     room = sound-room (stateOf c) (c .pool) (is-sound carries .0)
 
     says : SaysCore (v .bytes) c
-    says = subst (λ (b : List ℕ). SaysCore b c) (sym (is ∙ ap (λ (g : StateAndPool). savedImage (g .state) (g .pool)) held)) (saved-says c core-words (core-fits carries) room)
+    says = subst (λ (b : List ℕ). SaysCore b c) (sym (is ∙ ap (λ (g : StateAndPool). savedImage (g .state) (g .pool)) held)) (saved-says c core-words (core-fits carries) (is-sound carries .0))
 
     nodes : c .head .numbers .nodes ≡ N
     nodes = sym (ap (λ (g : StateAndPool). numbersOf (g .state) .nodes) held) ∙ B .nodes

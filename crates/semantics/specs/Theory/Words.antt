@@ -1,5 +1,5 @@
 -- The answer words: which answers refuse a whole call, and which accept a step; the two words in one number.
-use mathlib.Core.Path.{_≡_, refl, sym, ap₂, _∙_}
+use mathlib.Core.Path.{_≡_, refl, sym, ap, ap₂, _∙_}
 use mathlib.Core.Bool.{Bool, true, false}
 use mathlib.Core.Logic.{inl, inr}
 use mathlib.Core.List.{List, [], _∷_}
@@ -20,6 +20,8 @@ use Rattle.semantics.specs.declared.Refusal.{Refusal}
 use Rattle.semantics.specs.declared.Answer.{Answer}
 use Rattle.semantics.specs.declared.Answer.the-variants.{Accepted, Refused}
 use Rattle.semantics.specs.Answers.{refusalNumber, answerWords, bothWords, wordsIn}
+use Rattle.frames.specs.declared.Returned.{Returned}
+use Rattle.semantics.specs.Theory.Returning.{return-answers}
 use Rattle.semantics.specs.Core.{Core, StepResult, judged, spawnOn, returnOn, stealOn, syncOn, readOn, writeOn, stepOn, testsOf, doneBy}
 use Rattle.semantics.specs.Entries.{recordOn}
 use Rattle.semantics.specs.Calls.{refusedWhole, saysAccepted, bottomEntry, turnEntry}
@@ -54,13 +56,16 @@ judged-not-whole : (ts : List (Bool × Refusal)) (c : Core) (d : StepResult) →
 judged-not-whole [] c d h k = k
 judged-not-whole (t ∷ ts) c d h k = elim (decided (t .0)) [ inl e ↦ rw e (h .0) | inr e ↦ rw e (judged-not-whole ts c d (h .1) k) ]
 
+ended-whole : (o : Returned) → refusedWhole (answerWords (Accepted (Ended o))) ≡ false
+ended-whole o = refl
+
 step-not-whole : (c : Core) (st : Step) → refusedWhole (answerWords (stepOn c st .answer)) ≡ false
 unfolding stepOn
 step-not-whole c st = judged-not-whole (testsOf c st) c (doneBy c st) (tests st) (done st)
   where
     tests : (st : Step) → NotWhole (testsOf c st)
     tests (Spawn w) = (refl, (refl, (refl, (refl, tt))))
-    tests (Return w) = (refl, (refl, (refl, (refl, tt))))
+    tests (Return w) = (refl, (refl, (refl, tt)))
     tests (Steal w v) = (refl, (refl, (refl, (refl, tt))))
     tests (Sync w) = (refl, (refl, (refl, tt)))
     tests (Read w x) = (refl, (refl, (refl, (refl, tt))))
@@ -68,7 +73,7 @@ step-not-whole c st = judged-not-whole (testsOf c st) c (doneBy c st) (tests st)
 
     done : (st : Step) → refusedWhole (answerWords (doneBy c st .answer)) ≡ false
     done (Spawn w) = unfold spawnOn in refl
-    done (Return w) = unfold returnOn in refl
+    done (Return w) = let a = return-answers c w in ap (λ z. refusedWhole (answerWords z)) (a .1) ∙ ended-whole (a .0)
     done (Steal w v) = unfold stealOn in refl
     done (Sync w) = unfold syncOn in refl
     done (Read w x) = unfold readOn in refl
@@ -89,7 +94,7 @@ judged-keeps (t ∷ ts) c d a e = elim (decided (t .0)) [ inl b ↦ rw b | inr b
 
 done-accepts : (c : Core) (st : Step) → accepts (doneBy c st .answer) ≡ true
 done-accepts c (Spawn w) = unfold spawnOn in refl
-done-accepts c (Return w) = unfold returnOn in refl
+done-accepts c (Return w) = ap accepts (return-answers c w .1)
 done-accepts c (Steal w v) = unfold stealOn in refl
 done-accepts c (Sync w) = unfold syncOn in refl
 done-accepts c (Read w x) = unfold readOn in refl
