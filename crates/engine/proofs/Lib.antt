@@ -1,5 +1,6 @@
 pub mod Laws
 pub mod Steps
+pub mod Ending
 pub mod Turns
 pub mod Starts
 pub mod Checks

@@ -15,16 +15,17 @@ use Rattle.pool.specs.Links.{Link, PathIn, IsShared, WriteIn}
 use Rattle.frames.specs.Widths.{maxWorkers, places, frameWords, dequePlaces, dequeWords}
 use Rattle.frames.specs.declared.Frame.{Frame}
 use Rattle.frames.specs.Frames.{frameAt}
-use Rattle.frames.specs.Deques.{size, bottom, top}
+use Rattle.frames.specs.Deques.{size, bottom, top, pop}
+use Rattle.frames.specs.Theory.Sizes.{length-pop, size-pop}
 use Rattle.frames.specs.Ranges.{Acts, ParentOf, ParentCounts}
 use Rattle.semantics.specs.declared.Head.{Head}
 use Rattle.semantics.specs.declared.Refusal.{Refusal}
 use Rattle.semantics.specs.declared.Refusal.the-variants.{NoWorker, MainReturned, ThiefBusy, NoVictim}
-use Rattle.semantics.specs.Core.{Core, stealTests, allIdle}
-use Rattle.semantics.specs.Ranges.{Ready}
+use Rattle.semantics.specs.Core.{Core, stealTests, allIdle, popped, endAt}
+use Rattle.semantics.specs.Ranges.{EndsUpward, Ready}
 use Rattle.engine.specs.declared.Verdict.{Verdict}
 use Rattle.engine.specs.declared.Verdict.the-variants.{Pass}
-use Rattle.engine.specs.Promises.{core, verdict, ActsOn, ActsAt, SizesIn}
+use Rattle.engine.specs.Promises.{core, verdict, ActsOn, ActsAt, EndsFrom, SizesIn}
 
 pub sizes-in : {c : Core} → Ready c → SizesIn (c .head .numbers .workers) (c .deques)
 sizes-in r = record { long = r .long-deques; workers-le = r .workers-le; sizes = r .sizes; absent = r .absent }
@@ -46,6 +47,7 @@ acts-at c w n p r l a =
       root = subst (λ (q : ℕ). frameAt (c .frames) q .root < c .head .numbers .nodes) (sym (a .acting)) (r .root w w8 some);
       parent = subst (λ (q : ℕ). ParentOf q (frameAt (c .frames) q)) (sym (a .acting)) (r .parent w w8 some);
       counts = subst (λ (q : ℕ). ParentCounts (c .frames) (frameAt (c .frames) q)) (sym (a .acting)) (r .counts w w8 some);
+      upward = λ z. subst (λ (q : ℕ). frameAt (c .frames) q .outstanding ≡ 0 → EndsUpward (frameAt (c .frames) q .depth) (endAt (popped c w) q) (frameAt (c .frames) q .parent)) (sym (a .acting)) (r .upward w w8 some) z;
       path = λ x lx. subst (λ (q : ℕ). PathIn (c .head .numbers .nodes) (c .pool) (c .head .height) (frameAt (c .frames) q .root) x) (sym (a .acting)) (r .path w x w8 some lx);
       writes = λ x lx.
           subst (λ (q : ℕ). rest (c .head .height) (c .pool) (frameAt (c .frames) q .root) x ≤ c .head .«free_count» →
@@ -65,8 +67,24 @@ module _ (c : Core) (w n p : ℕ) (r : Ready c) (a : ActsAt c w n p) (f : Frame)
       let l : c .head .numbers .«free_place» < places = elim (r .free-place) [ inl q ↦ q | inr q ↦ absurd (o q) ] in
       (acts, a .room l, l)
 
-  pub return-asks : Acts (c .deques) (c .frames) w n p f × ParentOf p f × ParentCounts (c .frames) f
-  return-asks = (acts, subst (λ (g : Frame). ParentOf p g) (sym ef) (a .parent), subst (λ (g : Frame). ParentCounts (c .frames) g) (sym ef) (a .counts))
+  -- once it has left its deque
+  pub ends-asks : (ds′ : List ℕ) → ds′ ≡ pop (c .deques) w → f .outstanding ≡ 0 → EndsFrom (core (c .head) ds′ (c .frames) (c .pool)) w n p
+  unfolding endAt
+  ends-asks ds′ e z =
+      subst (λ (ds : List ℕ). EndsFrom (core (c .head) ds (c .frames) (c .pool)) w n p) (sym e)
+      (record {
+        worker = a .worker;
+        long-deques = length-pop (c .deques) w ∙ r .long-deques;
+        has = omega (arith, a .has, a .busy, size-pop (c .deques) w (r .long-deques) (a .worker));
+        nodes-positive = r .nodes-positive;
+        can-end = record {
+          links = r .links;
+          free-node = r .free-node;
+          root = a .root;
+          frame = record { long-frames = r .long-frames; within = a .within; up = refl; parent = a .parent; counts = a .counts };
+        };
+        upward = a .upward (sym (ap (λ (g : Frame). g .outstanding) ef) ∙ z);
+      })
 
 -- ---- a steal: the thief is idle, and the victim has two frames
 

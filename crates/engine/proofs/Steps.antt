@@ -10,27 +10,26 @@ use lib.ListN.{set}
 use borrow.Author.Tests.{eq-eqb, ne-eqb, lt-ltb, le-ltb}
 use Rattle.words.specs.Basics.{none, plus}
 use Rattle.words.specs.Tests.{decided}
-use Rattle.pool.specs.Pool.{readAt, retain, release, setValue, firstShared, rest, writeFrom, write}
+use Rattle.pool.specs.Pool.{readAt, retain, setValue, firstShared, rest, writeFrom, write}
 use Rattle.pool.specs.Links.{IsShared, Wrote}
 use Rattle.frames.specs.Theory.Records.{root-kept}
 use Rattle.frames.specs.declared.Frame.{Frame}
-use Rattle.frames.specs.declared.Returned.{Returned}
 use Rattle.frames.specs.declared.Synced.{Synced}
 use Rattle.frames.specs.Frames.{frameAt, setFrame, withRoot}
 use Rattle.frames.specs.Deques.{bottom, top}
 use Rattle.frames.specs.Steps.{spawn, steal}
-use Rattle.frames.specs.Promises.{table, IsReturn, IsSync}
+use Rattle.frames.specs.Promises.{table, IsSync}
 use Rattle.model.specs.declared.Decoded.{Decoded}
 use Rattle.model.specs.declared.Decoded.the-variants.{Valid, Invalid}
 use Rattle.model.specs.declared.Step.{Step}
-use Rattle.model.specs.declared.Step.the-variants.{Spawn, Return, Steal, Sync, Read, Write}
+use Rattle.model.specs.declared.Step.the-variants.{Spawn, Steal, Sync, Read, Write}
 use Rattle.semantics.specs.declared.Head.{Head}
-use Rattle.semantics.specs.declared.Done.the-variants.{Spawned, Ended, Stolen, Waited, Value, Written}
+use Rattle.semantics.specs.declared.Done.the-variants.{Spawned, Stolen, Waited, Value, Written}
 use Rattle.semantics.specs.declared.Refusal.{Refusal}
-use Rattle.semantics.specs.declared.Refusal.the-variants.{Record, FramesFull, ChildLives, NoSplitter, PoolFull}
+use Rattle.semantics.specs.declared.Refusal.the-variants.{Record, FramesFull, NoSplitter, PoolFull}
 use Rattle.semantics.specs.declared.Answer.{Answer}
 use Rattle.semantics.specs.declared.Answer.the-variants.{Accepted, Refused}
-use Rattle.semantics.specs.Core.{Core, StepResult, stepResult, withFreePlace, withFreeNodes, judged, actingTests, kindTests, testsOf, spawnOn, returnOn, stealOn, syncOn, readOn, writeOn, doneBy, stepOn, stealTests}
+use Rattle.semantics.specs.Core.{Core, StepResult, stepResult, withFreePlace, withFreeNodes, judged, actingTests, kindTests, testsOf, spawnOn, stealOn, syncOn, readOn, writeOn, doneBy, stepOn, stealTests}
 use Rattle.semantics.specs.Entries.{recordOn}
 use Rattle.engine.specs.declared.Out.{Out}
 use Rattle.engine.specs.declared.Verdict.{Verdict}
@@ -85,10 +84,6 @@ module _ (h : Head) (ds fs ws : List ℕ) (w : ℕ) where
     pub spawn-full : h .numbers .«free_place» ≡ none → (headAfter h o ≡ h) × (o .answer ≡ Refused FramesFull) → Leaves h o ds fs ws (kindOn (core h ds fs ws) (Spawn w))
     spawn-full e q = rw (eq-eqb (h .numbers .«free_place») none e) (out-refused h o ds fs ws FramesFull q)
 
-    pub return-child : (p : ℕ) (f : Frame) → p ≡ bottom ds w → f ≡ frameAt fs p → (f .outstanding ≡ 0 → ⊥) → (headAfter h o ≡ h) × (o .answer ≡ Refused ChildLives)
-        → Leaves h o ds fs ws (kindOn (core h ds fs ws) (Return w))
-    return-child p f ep ef n q = rw (ne-eqb (frameAt fs (bottom ds w) .outstanding) 0 (λ z. n (ap (λ (g : Frame). g .outstanding) (ef ∙ ap (frameAt fs) ep) ∙ z))) (out-refused h o ds fs ws ChildLives q)
-
     module _ (x : ℕ) where
       pub read-none : h .numbers .splitters ≤ x → (headAfter h o ≡ h) × (o .answer ≡ Refused NoSplitter) → Leaves h o ds fs ws (kindOn (core h ds fs ws) (Read w x))
       read-none l q = rw (le-ltb x (h .numbers .splitters) l) (out-refused h o ds fs ws NoSplitter q)
@@ -103,17 +98,6 @@ module _ (h : Head) (ds fs ws : List ℕ) (w : ℕ) where
         → stepResult (withFreePlace h place) ds′ fs′ ws′ (Accepted (Spawned k)) ≡ kindOn (core h ds fs ws) (Spawn w)
     unfolding spawnOn
     spawn-done n ds′ fs′ ws′ k place ew et ek = rw (ne-eqb (h .numbers .«free_place») none n, ek, ew, ← et, ← ep, ← ef)
-
-    pub return-done : f .outstanding ≡ 0 → (ds′ fs′ ws′ : List ℕ) (first count place : ℕ) (o : Returned)
-        → (ws′ ≡ release (h .height) ws (h .numbers .«free_node») (h .«free_count») (f .root) .0)
-        × (first ≡ release (h .height) ws (h .numbers .«free_node») (h .«free_count») (f .root) .1)
-        × (count ≡ release (h .height) ws (h .numbers .«free_node») (h .«free_count») (f .root) .2)
-        → IsReturn (table ds fs (h .numbers .«free_place»)) w (table ds′ fs′ place) o
-        → stepResult (withFreeNodes (withFreePlace h place) first count) ds′ fs′ ws′ (Accepted (Ended o)) ≡ kindOn (core h ds fs ws) (Return w)
-    unfolding returnOn
-    return-done z ds′ fs′ ws′ first count place o er et =
-        rw (eq-eqb (frameAt fs (bottom ds w) .outstanding) 0 (sym (ap (λ (g : Frame). g .outstanding) (ef ∙ ap (frameAt fs) ep)) ∙ z))
-        (rw (et .outcome, er .0, er .1, er .2, ← et .after, ← ep, ← ef))
 
   pub sync-done : (o : Out) (ds′ fs′ : List ℕ) (s : Synced) → IsSync ds fs w ds′ fs′ s → (headAfter h o ≡ h) × (o .answer ≡ Accepted (Waited s)) → Leaves h o ds′ fs′ ws (kindOn (core h ds fs ws) (Sync w))
   unfolding syncOn

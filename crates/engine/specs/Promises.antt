@@ -2,11 +2,14 @@
 use mathlib.Core.Path.{_≡_}
 use mathlib.Core.Bool.{Bool, cond, _||_}
 use mathlib.Core.List.{List, [], _∷_}
-use Prim.Native.Nat.{ℕ, _≤_, _<_}
+use Prim.Native.Nat.{ℕ, suc, _≤_, _<_}
 use lib.ListN.{length}
 use Rattle.pool.specs.Pool.{firstShared, rest}
 use Rattle.pool.specs.Links.{PathIn, WriteIn}
 use Rattle.frames.specs.Widths.{maxWorkers, places, dequePlaces, dequeWords}
+use Rattle.frames.specs.declared.Frame.{Frame}
+use Rattle.frames.specs.declared.Returned.{Returned}
+use Rattle.frames.specs.declared.Returned.the-variants.{Continued}
 use Rattle.frames.specs.Frames.{frameAt}
 use Rattle.frames.specs.Ranges.{ParentOf, ParentCounts}
 use lib.Dec.{eqb, ltb}
@@ -24,7 +27,10 @@ use Rattle.image.specs.declared.ImageCheck.the-variants.{WrongLength, WrongChec
 use Rattle.semantics.specs.Images.{LoadResult}
 use Rattle.semantics.specs.Promises.{parts}
 use Rattle.semantics.specs.Answers.{refusalNumber}
-use Rattle.semantics.specs.Core.{Core, StepResult, stepResult, judged, actingTests, kindTests, doneBy}
+use Rattle.semantics.specs.declared.Done.the-variants.{Ended}
+use Rattle.semantics.specs.declared.Answer.the-variants.{Accepted}
+use Rattle.semantics.specs.Core.{Core, StepResult, stepResult, judged, actingTests, kindTests, endAt, popped, upward, returned, doneBy}
+use Rattle.semantics.specs.Ranges.{EndsAt, EndsUpward}
 use Rattle.engine.specs.declared.Out.{Out}
 use Rattle.engine.specs.declared.Verdict.{Verdict}
 use Rattle.engine.specs.declared.Verdict.the-variants.{Pass}
@@ -69,9 +75,32 @@ pub record ActsAt (c : Core) (w n p : ℕ) : Type 0 where
   pub root : frameAt (c .frames) p .root < c .head .numbers .nodes
   pub parent : ParentOf p (frameAt (c .frames) p)
   pub counts : ParentCounts (c .frames) (frameAt (c .frames) p)
+  pub upward : frameAt (c .frames) p .outstanding ≡ 0 → EndsUpward (frameAt (c .frames) p .depth) (endAt (popped c w) p) (frameAt (c .frames) p .parent)
   pub path : (x : ℕ) → x < c .head .numbers .splitters → PathIn (c .head .numbers .nodes) (c .pool) (c .head .height) (frameAt (c .frames) p .root) x
   pub writes : (x : ℕ) → x < c .head .numbers .splitters → rest (c .head .height) (c .pool) (frameAt (c .frames) p .root) x ≤ c .head .«free_count»
       → WriteIn (c .head .numbers .nodes) (c .head .height) (c .pool) (c .head .numbers .«free_node») x (firstShared (c .head .height) (c .pool) (frameAt (c .frames) p .root) (frameAt (c .frames) p .root) x)
+
+-- ---- the ends of a return
+
+-- worker w's frame at place p, the n-th, has left its deque, and can end; if it was the only one there, so can those upward of it that end too
+pub record EndsFrom (c : Core) (w n p : ℕ) : Type 0 where
+  pub worker : w < maxWorkers
+  pub long-deques : length (c .deques) ≡ dequeWords
+  pub has : n ≡ suc (size (c .deques) w)
+  pub nodes-positive : 0 < c .head .numbers .nodes
+  pub can-end : EndsAt c p
+  pub upward : EndsUpward (frameAt (c .frames) p .depth) (endAt c p) (frameAt (c .frames) p .parent)
+
+-- it ends; if worker w has no other frame, the ends go on upward
+abbrev pub endsFrom : Core → ℕ → ℕ → StepResult
+endsFrom c w p =
+    let f : Frame = frameAt (c .frames) p in
+    let ends = upward (f .depth) (endAt c p) w (f .parent) in
+    cond (eqb (size (c .deques) w) 0) ends (returned (endAt c p) Continued)
+
+-- what is handed on of them
+abbrev pub LeavesEnded : Out → ℕ → ℕ → ℕ → Returned → Type 0
+LeavesEnded r node place count o = (r .«free_node» ≡ node) × (r .«free_place» ≡ place) × (r .«free_count» ≡ count) × (r .answer ≡ Accepted (Ended o))
 
 -- deques of so many workers, as long as they may be; a worker that does not exist has an empty one
 pub record SizesIn (workers : ℕ) (ds : List ℕ) : Type 0 where

@@ -26,7 +26,6 @@ pub fn refusal_number(refusal: Refusal) -> u32
         Refusal::ThiefBusy => 11,
         Refusal::NoVictim => 12,
         Refusal::FramesFull => 13,
-        Refusal::ChildLives => 14,
         Refusal::NoSplitter => 15,
         Refusal::PoolFull => 16,
         Refusal::Blocks => 17,
@@ -44,6 +43,7 @@ fn returned_number(outcome: Returned) -> u32
         Returned::Idle => 1,
         Returned::Resumed => 2,
         Returned::Finished => 3,
+        Returned::Waiting => 4,
     }
 }
 

@@ -1,4 +1,4 @@
-// The six kinds of steps over the numbers h and the lent words of the deques, the frame table and the pool: each is refused, and
+// The six kinds of steps, but for what a return does (returns.rt), over the numbers h and the lent words of the deques, the frame table and the pool: each is refused, and
 // changes nothing, or acts. The core is ready (it is sound), so that reads and stores test no index. For a kind that acts on a worker's
 // bottom frame, `.._at` is the step once that frame's place p and the worker's number n of frames are known.
 ghost use mathlib.Core.Path.{_≡_};
@@ -12,9 +12,9 @@ use crate::Out;
 use crate::Verdict;
 use crate::refusals::acting;
 use crate::refusals::steal_verdict;
+use crate::returns::return_at;
 use frames::NONE;
 use frames::frame_at;
-use frames::return_frame;
 use frames::root_at;
 use frames::set_root;
 use frames::spawn_frame;
@@ -23,7 +23,6 @@ use frames::sync_frame;
 use frames::top_at;
 use pool::first_shared;
 use pool::read_at;
-use pool::release;
 use pool::retain;
 use pool::set_value;
 use pool::write_shared;
@@ -33,7 +32,7 @@ use semantics::Head;
 use semantics::Refusal;
 
 // The numbers stay as they are.
-fn unchanged(h: Head, answer: Answer) -> Out
+pub fn unchanged(h: Head, answer: Answer) -> Out
     ensures { λ r. ⌜ (headAfter h r ≡ h) × (r .answer ≡ answer) ⌝ }
 {
     Out {
@@ -75,42 +74,6 @@ fn spawn_at(
         free_place,
         free_count: h.free_count,
         answer: Answer::Accepted(Done::Spawned(words::add(f.depth, 1))),
-    }
-}
-
-fn return_at(
-    h: Head,
-    deques: &mut [u32],
-    frames: &mut [u32],
-    pool: &mut [u32],
-    w: u32,
-    n: u32,
-    p: u32,
-) -> Out
-    requires { ⌜ Ready (core h (now deques) (now frames) (now pool)) × ActsAt (core h (now deques) (now frames) (now pool)) w n p ⌝ }
-    ensures { λ r. ⌜ Leaves h r (now (deques .exit)) (now (frames .exit)) (now (pool .exit))
-        (kindOn (core h (now (deques .entry)) (now (frames .entry)) (now (pool .entry))) (Return w)) ⌝ }
-{
-    let f = frame_at(frames, p);
-    if f.outstanding != 0 {
-        return refused(h, Refusal::ChildLives);
-    }
-    let mut free_count = h.free_count;
-    let free_node = release(
-        pool,
-        h.numbers.nodes,
-        &mut free_count,
-        h.numbers.free_node,
-        f.root,
-        h.height,
-    );
-    let ended = return_frame(deques, frames, h.numbers.free_place, w, n, p, f);
-    let outcome = ended.outcome;
-    Out {
-        free_node,
-        free_place: ended.free_place,
-        free_count,
-        answer: Answer::Accepted(Done::Ended(outcome)),
     }
 }
 

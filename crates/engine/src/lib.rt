@@ -10,6 +10,7 @@ mod kinds;
 mod numbers;
 mod records;
 mod refusals;
+mod returns;
 mod tapes;
 
 pub use entries::load;
