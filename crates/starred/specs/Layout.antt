@@ -8,13 +8,13 @@ use Rattle.sizes.specs.Sizes.{height, width, treeNodes, bit}
 use Rattle.pool.specs.Pool.{refcount, left, right, value, setNode, setRefcount, side, child, sibling, leafOf, readAt, retain, release, pathNode, copyPath, setValue, setLink, renew, firstShared, rest, writeFrom, write, initLevel, initInner, initLeaves, initFree, initPool}
 use Rattle.frames.specs.Frames.{frameAt, setFrame}
 use Rattle.frames.specs.Deques.{size, setSize, place, setPlace, bottom, top, push, pop, shiftUp, dropTop}
-use Rattle.frames.specs.Steps.{spawn, return, returned, steal, sync, synced}
+use Rattle.frames.specs.Steps.{spawn, endFrame, goOn, wentOn, steal, sync, synced}
 use Rattle.soundness.specs.Soundness.{cleared}
 use Rattle.model.specs.Record.{recordOf, decodeAt}
-use Rattle.semantics.specs.Core.{spawnOn, returnOn, stealOn, syncOn, readOn, writeOn, stepOn}
+use Rattle.semantics.specs.Core.{spawnOn, endAt, upward, endBottom, returnOn, stealOn, syncOn, readOn, writeOn, stepOn}
 use Rattle.semantics.specs.Entries.{State, wholeNodes, startOn, startWith, recordsFrom, runOn, TapeResult}
 use Rattle.semantics.specs.Calls.{Start, afterStart, tapeResult}
-use Rattle.starred.specs.Tapes.{spawns, returns, steals, syncs, writes, anyParts, deques, live, free, frames}
+use Rattle.starred.specs.Tapes.{spawns, returns, steals, syncs, writes, anyParts, deques, live, waiting, free, frames}
 use Rattle.starred.specs.Quick.{quickTape, tape-quick}
 
 -- a start, and the records of a tape
@@ -174,11 +174,50 @@ layoutTable =
       runs 1 (11 ∷ 12 ∷ []) 4 (returns 0 ∷ []),
       leaves (102 ∷ 3 ∷ []) (five-of 1 2 4 2 0) (deques [] []) (frames (free 1 ∷ [])) (nodes (freeNode 3 ∷ freeNode 0 ∷ freeNode 1 ∷ freeNode none ∷ [])),
     )
+    -- R-3: "A return with a live child now suspends the frame as returning ..; its worker goes idle, and its tree is held." Main is in place 0 and
+    -- has the nodes 0 to 2, its child is in 1 and has 3 and 4, and its child in 2 has 5 and 6. The child waits
+    ∷ (
+      runs 3 (11 ∷ 12 ∷ []) 9 (spawns 0 ∷ steals 1 0 ∷ writes 0 0 91 ∷ spawns 0 ∷ steals 2 0 ∷ writes 0 1 92 ∷ returns 2 ∷ []),
+      leaves (101 ∷ 1 ∷ 103 ∷ 0 ∷ 106 ∷ 4 ∷ 101 ∷ 2 ∷ 103 ∷ 1 ∷ 106 ∷ 2 ∷ 102 ∷ 4 ∷ []) (five-of 3 2 9 7 3) (deques (2 ∷ []) (0 ∷ [])) (frames (live none 0 1 0 0 ∷ waiting 0 1 1 3 ∷ live 1 2 0 0 5 ∷ []))
+          (nodes (inner 1 1 2 ∷ leaf 1 11 ∷ leaf 2 12 ∷ inner 1 4 2 ∷ leaf 2 91 ∷ inner 1 4 6 ∷ leaf 1 92 ∷ freeNode 8 ∷ freeNode none ∷ [])),
+    )
+    -- "When its last child ends, it ends too on that child's worker": the frame in 2 ends, and the nodes 5, 6 are freed, then the one in 1 and the
+    -- nodes 3, 4. Main runs elsewhere: 1
+    ∷ (
+      runs 3 (11 ∷ 12 ∷ []) 9 (spawns 0 ∷ steals 1 0 ∷ writes 0 0 91 ∷ spawns 0 ∷ steals 2 0 ∷ writes 0 1 92 ∷ returns 2 ∷ returns 0 ∷ []),
+      leaves (101 ∷ 1 ∷ 103 ∷ 0 ∷ 106 ∷ 4 ∷ 101 ∷ 2 ∷ 103 ∷ 1 ∷ 106 ∷ 2 ∷ 102 ∷ 4 ∷ 102 ∷ 1 ∷ []) (five-of 3 2 9 4 1) (deques [] (0 ∷ [])) (frames (live none 0 0 0 0 ∷ free 2 ∷ free 3 ∷ []))
+          (nodes (inner 1 1 2 ∷ leaf 1 11 ∷ leaf 1 12 ∷ freeNode 6 ∷ freeNode 3 ∷ freeNode 7 ∷ freeNode 5 ∷ freeNode 8 ∷ freeNode none ∷ [])),
+    )
+    -- the place freed last is taken first, 1, and so are the nodes 4 and 3
+    ∷ (
+      runs 3 (11 ∷ 12 ∷ []) 9 (spawns 0 ∷ steals 1 0 ∷ writes 0 0 91 ∷ spawns 0 ∷ steals 2 0 ∷ writes 0 1 92 ∷ returns 2 ∷ returns 0 ∷ spawns 1 ∷ writes 1 0 93 ∷ []),
+      leaves (101 ∷ 1 ∷ 103 ∷ 0 ∷ 106 ∷ 4 ∷ 101 ∷ 2 ∷ 103 ∷ 1 ∷ 106 ∷ 2 ∷ 102 ∷ 4 ∷ 102 ∷ 1 ∷ 101 ∷ 1 ∷ 106 ∷ 4 ∷ []) (five-of 3 2 9 6 2) (deques [] (0 ∷ 1 ∷ []))
+          (frames (live none 0 1 0 0 ∷ live 0 1 0 0 4 ∷ free 3 ∷ []))
+          (nodes (inner 1 1 2 ∷ leaf 1 11 ∷ leaf 2 12 ∷ leaf 1 93 ∷ inner 1 3 2 ∷ freeNode 7 ∷ freeNode 5 ∷ freeNode 8 ∷ freeNode none ∷ [])),
+    )
+    -- the same where Main waits at its sync: it resumes on that worker, and its record has no 1 then
+    ∷ (
+      runs 3 (11 ∷ 12 ∷ []) 9 (spawns 0 ∷ steals 1 0 ∷ writes 0 0 91 ∷ spawns 0 ∷ steals 2 0 ∷ writes 0 1 92 ∷ returns 2 ∷ syncs 1 ∷ returns 0 ∷ []),
+      leaves (101 ∷ 1 ∷ 103 ∷ 0 ∷ 106 ∷ 4 ∷ 101 ∷ 2 ∷ 103 ∷ 1 ∷ 106 ∷ 2 ∷ 102 ∷ 4 ∷ 104 ∷ 1 ∷ 102 ∷ 2 ∷ []) (five-of 3 2 9 4 1) (deques (0 ∷ []) []) (frames (live none 0 0 0 0 ∷ []))
+          (nodes (inner 1 1 2 ∷ leaf 1 11 ∷ leaf 1 12 ∷ freeNode 6 ∷ freeNode 3 ∷ freeNode 7 ∷ freeNode 5 ∷ freeNode 8 ∷ freeNode none ∷ [])),
+    )
+    -- where Main returns: it waits
+    ∷ (
+      runs 3 (11 ∷ 12 ∷ []) 9 (spawns 0 ∷ steals 1 0 ∷ writes 0 0 91 ∷ spawns 0 ∷ steals 2 0 ∷ writes 0 1 92 ∷ returns 2 ∷ returns 1 ∷ []),
+      leaves (101 ∷ 1 ∷ 103 ∷ 0 ∷ 106 ∷ 4 ∷ 101 ∷ 2 ∷ 103 ∷ 1 ∷ 106 ∷ 2 ∷ 102 ∷ 4 ∷ 102 ∷ 4 ∷ []) (five-of 3 2 9 7 3) (deques (2 ∷ []) []) (frames (waiting none 0 1 0 ∷ waiting 0 1 1 3 ∷ live 1 2 0 0 5 ∷ []))
+          (nodes (inner 1 1 2 ∷ leaf 1 11 ∷ leaf 2 12 ∷ inner 1 4 2 ∷ leaf 2 91 ∷ inner 1 4 6 ∷ leaf 1 92 ∷ freeNode 8 ∷ freeNode none ∷ [])),
+    )
+    -- "and so on upward": one return ends all three, Main last, and every node and place is free
+    ∷ (
+      runs 3 (11 ∷ 12 ∷ []) 9 (spawns 0 ∷ steals 1 0 ∷ writes 0 0 91 ∷ spawns 0 ∷ steals 2 0 ∷ writes 0 1 92 ∷ returns 2 ∷ returns 1 ∷ returns 0 ∷ []),
+      leaves (101 ∷ 1 ∷ 103 ∷ 0 ∷ 106 ∷ 4 ∷ 101 ∷ 2 ∷ 103 ∷ 1 ∷ 106 ∷ 2 ∷ 102 ∷ 4 ∷ 102 ∷ 4 ∷ 102 ∷ 3 ∷ []) (five-of 3 2 9 2 0) (deques [] []) (frames (free 1 ∷ free 2 ∷ free 3 ∷ []))
+          (nodes (freeNode 4 ∷ freeNode 0 ∷ freeNode 1 ∷ freeNode 6 ∷ freeNode 3 ∷ freeNode 7 ∷ freeNode 5 ∷ freeNode 8 ∷ freeNode none ∷ [])),
+    )
     ∷ []
 
 -- without the check
 quickly : map (λ (row : Run × After). afterOf (quickTape (row .0 .start) (joined (row .0 .records)) (works (row .0)) (replies (row .0)))) layoutTable ≡ map (λ (row : Run × After). row .1) layoutTable
-unfolding layoutTable startOn startWith runOn recordsFrom recordOf decodeAt spawnOn returnOn stealOn syncOn readOn writeOn stepOn spawn return returned steal sync synced shiftUp dropTop pop top bottom side child sibling bit leafOf readAt retain release setRefcount pathNode copyPath setValue setLink renew firstShared rest writeFrom write initPool initFree initLeaves initInner initLevel setNode height width treeNodes push setSize setPlace size place setFrame frameAt cleared refcount left right value
+unfolding layoutTable startOn startWith runOn recordsFrom recordOf decodeAt spawnOn endAt upward endBottom returnOn stealOn syncOn readOn writeOn stepOn spawn endFrame goOn wentOn steal sync synced shiftUp dropTop pop top bottom side child sibling bit leafOf readAt retain release setRefcount pathNode copyPath setValue setLink renew firstShared rest writeFrom write initPool initFree initLeaves initInner initLevel setNode height width treeNodes push setSize setPlace size place setFrame frameAt cleared refcount left right value
 quickly = refl
 
 pub layout : map (λ (row : Run × After). after (row .0)) layoutTable ≡ map (λ (row : Run × After). row .1) layoutTable

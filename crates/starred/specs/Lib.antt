@@ -1,6 +1,6 @@
 -- Starred: document 01's starred edges, one table. RefusedCalls, RefusedRecords: every refusal at its condition, and their order. Layout: the
--- words of state and pool after short runs. Demand3Example: demand 3 of document 01's tape. Tapes: what the tables are written with. Quick: the
--- entries without the check, for states that demand 2 shows to be sound.
+-- words of state and pool after short runs. Demand3Example: demand 3 of document 01's tape and of one with waiting frames. Tapes: what the tables
+-- are written with. Quick: the entries without the check, for states that demand 2 shows to be sound.
 pub mod Tapes
 pub mod Quick
 pub mod Starred
@@ -8,5 +8,5 @@ pub mod RefusedCalls
 pub mod RefusedRecords
 pub mod Layout
 pub mod Demand3Example
--- R-1: saves and readings
+-- R-1 and R-3: images of both forms, saves and readings
 pub mod SavedImages

@@ -4,22 +4,22 @@
 use mathlib.Core.Path.{_≡_, refl, sym, ap, _∙_}
 use mathlib.Core.Bool.{Bool, true, false, cond, _&&_}
 use mathlib.Core.List.{List, [], _∷_, _++_, map}
-use Prim.Native.Nat.{ℕ, _*_}
-use lib.ListN.{replicate}
+use Prim.Native.Nat.{ℕ, _+_, _*_}
+use lib.ListN.{set, replicate}
 use lib.Dec.{eqb}
-use Rattle.words.specs.Basics.{same, δ, count}
+use Rattle.words.specs.Basics.{none, same, δ, count}
 use Rattle.sizes.specs.Sizes.{height, width, treeNodes}
 use Rattle.pool.specs.Pool.{refcount, left, right, value, setNode, leafOf, readAt, initLevel, initInner, initLeaves, initFree, initPool}
 use Rattle.frames.specs.Frames.{frameAt}
 use Rattle.frames.specs.Deques.{size, place, bottom}
-use Rattle.soundness.specs.Soundness.{oneMain, parentsLive, countsRight, placedOnce, holdLive, absentEmpty, restZero, linked, onlyBelow, placesFree, framesSound, treeAt, nodesAt, poolSound, numbersSound, rootsBelow, sound, cleared}
+use Rattle.soundness.specs.Soundness.{oneMain, parentsLive, countsRight, placedOnce, returningRight, holdLive, absentEmpty, restZero, linked, onlyBelow, placesFree, framesSound, treeAt, nodesAt, poolSound, numbersSound, rootsBelow, sound, cleared}
 use Rattle.model.specs.Record.{recordOf, decodeAt}
 use Rattle.semantics.specs.Core.{readOn, stepOn}
 use Rattle.semantics.specs.Answers.{wordsIn}
 use Rattle.semantics.specs.Entries.{State, zeros, isSound, StartResult, startOn, startWith, OutsideResult, recordsFrom, runOn, TapeResult}
 use Rattle.semantics.specs.Calls.{Start, startResult, HostCall, outside, tape, StateAndPool, afterStart, afterCall}
 use Rattle.semantics.specs.Demands.{answersAfter, callResult, workAfter}
-use Rattle.starred.specs.Tapes.{reads, anyParts, wordsOf}
+use Rattle.starred.specs.Tapes.{reads, anyParts, wordsOf, deques, frames, live}
 use Rattle.starred.specs.Quick.{tapeBy, outsideBy, tape-by, outside-by, quickStart, start-quick, after-sound}
 
 -- ---- starts
@@ -39,7 +39,7 @@ starts workers n nodes k = lends anyParts workers n (4 * nodes) k
 
 -- "a refused start hands out a state of zeros" and changes nothing else; refused by 99 it leaves the parts too
 abbrev leftBy : Start → StartResult → Bool
-leftBy b o = same (wordsOf (o .state)) (cond (eqb (o .result) 99) (wordsOf (b .parts)) (replicate 909 0)) && same (o .pool) (b .pool)
+leftBy b o = same (wordsOf (o .state)) (cond (eqb (o .result) 99) (wordsOf (b .parts)) (replicate 973 0)) && same (o .pool) (b .pool)
 
 -- the result; and whether it left what it must, if it was refused
 abbrev startSeen : Start → ℕ × Bool
@@ -81,17 +81,17 @@ startTable =
     ∷ starts 0 5 10 2
     ∷ starts 9 5 10 2
     -- 99: a part has another length
-    ∷ lends (sizes 5 520 384) 1 1 4 0
-    ∷ lends (sizes 4 520 384) 1 1 4 99
-    ∷ lends (sizes 6 520 384) 1 1 4 99
-    ∷ lends (sizes 5 519 384) 1 1 4 99
-    ∷ lends (sizes 5 521 384) 1 1 4 99
-    ∷ lends (sizes 5 520 383) 1 1 4 99
-    ∷ lends (sizes 5 520 385) 1 1 4 99
+    ∷ lends (sizes 5 520 448) 1 1 4 0
+    ∷ lends (sizes 4 520 448) 1 1 4 99
+    ∷ lends (sizes 6 520 448) 1 1 4 99
+    ∷ lends (sizes 5 519 448) 1 1 4 99
+    ∷ lends (sizes 5 521 448) 1 1 4 99
+    ∷ lends (sizes 5 520 447) 1 1 4 99
+    ∷ lends (sizes 5 520 449) 1 1 4 99
     -- 99 before 1, 2 and 3
-    ∷ lends (sizes 4 520 384) 1 0 80 99
-    ∷ lends (sizes 5 519 384) 0 1 4 99
-    ∷ lends (sizes 5 520 383) 1 1 0 99
+    ∷ lends (sizes 4 520 448) 1 0 80 99
+    ∷ lends (sizes 5 519 448) 0 1 4 99
+    ∷ lends (sizes 5 520 447) 1 1 0 99
     ∷ []
 
 pub start-refusals : map (λ (row : StartRow). startSeen (row .start)) startTable ≡ map (λ (row : StartRow). (row .result, true)) startTable
@@ -108,6 +108,10 @@ pub data Before : Type 0 where
   withNumbers : List ℕ → Before
   -- the same but for the first free place: 2, where it is 1
   unsound : Before
+  -- the same but for R-3's word of the frame record at this place
+  returning : ℕ → ℕ → Before
+  -- Main is suspended, and R-3's word of its record is this; its child, with the same leaf, is on worker 0
+  suspended : ℕ → Before
   -- parts of these lengths, with words that are not sound
   lengths : ℕ → ℕ → ℕ → Before
   -- a state of zeros and no pool
@@ -119,11 +123,20 @@ begun = record { parts = anyParts; workers = 2; values = 1 ∷ []; pool = replic
 abbrev numbered : StateAndPool → List ℕ → StateAndPool
 numbered h ks = record { state = record { numbers = ks; deques = h .state .deques; frames = h .state .frames }; pool = h .pool }
 
+abbrev childRuns : ℕ → StateAndPool
+childRuns x =
+    record {
+      state = record { numbers = 2 ∷ 1 ∷ 2 ∷ 1 ∷ 2 ∷ []; deques = deques (1 ∷ []) []; frames = frames ((1 ∷ none ∷ 0 ∷ 1 ∷ 1 ∷ 0 ∷ x ∷ []) ∷ live 0 1 0 0 0 ∷ []) };
+      pool = 2 ∷ none ∷ none ∷ 1 ∷ 0 ∷ none ∷ 0 ∷ 0 ∷ 7 ∷ [];
+    }
+
 -- after the start h
 abbrev foundIn : StateAndPool → Before → StateAndPool
 foundIn h started = h
 foundIn h (withNumbers ks) = numbered h ks
 foundIn h unsound = numbered h (2 ∷ 1 ∷ 2 ∷ 1 ∷ 2 ∷ [])
+foundIn h (returning p x) = record { state = record { numbers = h .state .numbers; deques = h .state .deques; frames = set (h .state .frames) (7 * p + 6) x }; pool = h .pool }
+foundIn h (suspended x) = childRuns x
 foundIn h (lengths ns ds fs) = record { state = sizes ns ds fs; pool = replicate 9 7 }
 foundIn h nothing = record { state = zeros; pool = [] }
 
@@ -195,6 +208,16 @@ callTable =
     ∷ plays unsound oneRead 3 3 6 (9 ∷ 9 ∷ 9 ∷ []) (0 ∷ 0 ∷ 5 ∷ [])
     ∷ plays unsound [] 3 3 6 (9 ∷ 9 ∷ 9 ∷ []) (0 ∷ 0 ∷ 5 ∷ [])
     ∷ steps unsound 5 3 6 (0 ∷ 0 ∷ 5 ∷ [])
+    -- R-3: "1 on a frame waiting so, which is suspended, else 0; anything else there is unsound."
+    ∷ plays (suspended 1) oneRead 3 3 0 (105 ∷ 1 ∷ 9 ∷ []) (0 ∷ 0 ∷ 5 ∷ [])
+    ∷ plays (suspended 0) oneRead 3 3 0 (105 ∷ 1 ∷ 9 ∷ []) (0 ∷ 0 ∷ 5 ∷ [])
+    ∷ plays (suspended 2) oneRead 3 3 6 (9 ∷ 9 ∷ 9 ∷ []) (0 ∷ 0 ∷ 5 ∷ [])
+    ∷ steps (suspended none) 5 3 6 (0 ∷ 0 ∷ 5 ∷ [])
+    -- Main is on a deque; the place is free: the next, or the last
+    ∷ steps (returning 0 1) 5 3 6 (0 ∷ 0 ∷ 5 ∷ [])
+    ∷ steps (returning 0 2) 5 3 6 (0 ∷ 0 ∷ 5 ∷ [])
+    ∷ steps (returning 1 1) 5 3 6 (0 ∷ 0 ∷ 5 ∷ [])
+    ∷ steps (returning 63 1) 5 3 6 (0 ∷ 0 ∷ 5 ∷ [])
     -- a state of zeros is not sound; it records no node
     ∷ steps nothing 5 1 6 (5 ∷ [])
     -- 4 before 5 and 6; 5 before 6
@@ -213,12 +236,12 @@ callTable =
     ∷ refuses (withNumbers (2 ∷ 1 ∷ 2 ∷ 1 ∷ 1 ∷ 0 ∷ [])) oneRead 3 3 99
     ∷ steps (withNumbers (2 ∷ 1 ∷ 2 ∷ 1 ∷ [])) 5 3 99 (5 ∷ 5 ∷ 5 ∷ [])
     ∷ steps (withNumbers (2 ∷ 1 ∷ 2 ∷ 1 ∷ 1 ∷ 0 ∷ [])) 5 3 99 (5 ∷ 5 ∷ 5 ∷ [])
-    ∷ refuses (lengths 5 519 384) oneRead 3 3 99
-    ∷ refuses (lengths 5 521 384) oneRead 3 3 99
-    ∷ refuses (lengths 5 520 383) oneRead 3 3 99
-    ∷ refuses (lengths 5 520 385) oneRead 3 3 99
-    ∷ steps (lengths 5 519 384) 5 3 99 (5 ∷ 5 ∷ 5 ∷ [])
-    ∷ steps (lengths 5 520 385) 5 3 99 (5 ∷ 5 ∷ 5 ∷ [])
+    ∷ refuses (lengths 5 519 448) oneRead 3 3 99
+    ∷ refuses (lengths 5 521 448) oneRead 3 3 99
+    ∷ refuses (lengths 5 520 447) oneRead 3 3 99
+    ∷ refuses (lengths 5 520 449) oneRead 3 3 99
+    ∷ steps (lengths 5 519 448) 5 3 99 (5 ∷ 5 ∷ 5 ∷ [])
+    ∷ steps (lengths 5 520 449) 5 3 99 (5 ∷ 5 ∷ 5 ∷ [])
     -- 99 before 4, 5, 6 (the words above are not sound) and 7
     ∷ refuses (withNumbers (2 ∷ 1 ∷ 2 ∷ 1 ∷ [])) (0 ∷ []) 3 3 99
     ∷ refuses (withNumbers (2 ∷ 1 ∷ 2 ∷ 1 ∷ [])) oneRead 1 3 99
@@ -256,17 +279,21 @@ abbrev soundAs : Before → Bool
 soundAs started = true
 soundAs (withNumbers ks) = isSound (foundIn (quickStart begun) (withNumbers ks) .state) (quickStart begun .pool)
 soundAs unsound = false
+soundAs (returning p x) = isSound (foundIn (quickStart begun) (returning p x) .state) (quickStart begun .pool)
+soundAs (suspended x) = isSound (childRuns x .state) (childRuns x .pool)
 soundAs (lengths ns ds fs) = isSound (sizes ns ds fs) (replicate 9 7)
 soundAs nothing = isSound zeros []
 
 not-sound : isSound (foundIn (quickStart begun) unsound .state) (quickStart begun .pool) ≡ false
-unfolding sound numbersSound framesSound oneMain parentsLive countsRight placedOnce holdLive absentEmpty restZero linked onlyBelow placesFree size place frameAt height width treeNodes initPool initFree initLeaves initInner initLevel setNode δ count
+unfolding sound numbersSound framesSound oneMain parentsLive countsRight placedOnce returningRight holdLive absentEmpty restZero linked onlyBelow placesFree size place frameAt height width treeNodes initPool initFree initLeaves initInner initLevel setNode δ count
 not-sound = refl
 
 sound-as : (b : Before) → isSound (foundIn (quickStart begun) b .state) (foundIn (quickStart begun) b .pool) ≡ soundAs b
 sound-as started = ap (λ (h : StateAndPool). isSound (h .state) (h .pool)) (sym (start-quick begun begins)) ∙ after-sound begun [] begins
 sound-as (withNumbers ks) = refl
 sound-as unsound = not-sound
+sound-as (returning p x) = refl
+sound-as (suspended x) = refl
 sound-as (lengths ns ds fs) = refl
 sound-as nothing = refl
 
@@ -277,7 +304,7 @@ row-quick : (r : CallRow) → callSeen (found (r .before)) (r .call) ≡ rowQuic
 row-quick r = ap (λ h. callSeen h (r .call)) (found-quick (r .before)) ∙ seen-by (foundIn (quickStart begun) (r .before)) (r .call) (sound-as (r .before))
 
 calls-quickly : map rowQuick callTable ≡ map callSaid callTable
-unfolding callTable runOn recordsFrom recordOf decodeAt readOn stepOn bottom readAt leafOf initPool initFree initLeaves initInner initLevel setNode height width treeNodes size place frameAt cleared sound numbersSound rootsBelow framesSound oneMain parentsLive countsRight placedOnce holdLive absentEmpty restZero linked onlyBelow placesFree poolSound treeAt nodesAt refcount left right value δ count
+unfolding callTable runOn recordsFrom recordOf decodeAt readOn stepOn bottom readAt leafOf initPool initFree initLeaves initInner initLevel setNode height width treeNodes size place frameAt cleared sound numbersSound rootsBelow framesSound oneMain parentsLive countsRight placedOnce returningRight holdLive absentEmpty restZero linked onlyBelow placesFree poolSound treeAt nodesAt refcount left right value δ count
 calls-quickly = refl
 
 pub call-refusals : map (λ (row : CallRow). callSeen (found (row .before)) (row .call)) callTable ≡ map callSaid callTable

@@ -1,11 +1,12 @@
 -- Refusals 7 to 16: each at its condition and beside its nearest accepted neighbour, the order in which they are checked, and
--- that they leave state and pool unchanged. Four tables, a theorem each: three through tapes, one through steps from outside.
+-- that they leave state and pool unchanged. Four tables, a theorem each: three through tapes, one through steps from outside. R-3: "14 no
+-- longer occurs"; its rows are accepted, and of returns no refusal but 7 to 10 is left.
 --
--- These never hold together. By the kind of step: 10 (no steal) and 11, 12 (steals); 11, 12, 13 (spawns), 14 (returns) and 15, 16 (reads,
--- writes), but for 11 with 12 and 15 with 16; 7 and 16, for a write has no unused field. By the frames: 8 and 11 or 14, for a worker
--- that does not exist has no frame; 10 and 14, for an idle worker has none; 9 and 11, 13 or 14, for no frame lives once Main has
--- returned; 9 and 16, for no frame lives then, so no write is judged by 16. Of all other pairs there is a row. (8 or 10 and 16: a worker
--- without a frame has no path; the rows are where a write by each frame that lives would be refused by 16.)
+-- These never hold together. By the kind of step: 10 (no steal) and 11, 12 (steals); 11, 12, 13 (spawns) and 15, 16 (reads, writes), but
+-- for 11 with 12 and 15 with 16; 7 and 16, for a write has no unused field. By the frames: 8 and 11, for a worker that does not exist
+-- has no frame; 9 and 11 or 13, for no frame lives once Main has returned; 9 and 16, for no frame lives then, so no write is judged
+-- by 16. Of all other pairs there is a row. (8 or 10 and 16: a worker without a frame has no path; the rows are where a write by each frame
+-- that lives would be refused by 16.)
 use mathlib.Core.Path.{_≡_, refl, ap, _∙_}
 use mathlib.Core.Bool.{Bool, true, cond, _&&_}
 use mathlib.Core.Logic.{inl, inr}
@@ -20,10 +21,10 @@ use Rattle.sizes.specs.Sizes.{height, width, treeNodes, bit}
 use Rattle.pool.specs.Pool.{refcount, left, right, value, setNode, setRefcount, side, child, sibling, leafOf, readAt, retain, release, pathNode, copyPath, setValue, setLink, renew, firstShared, rest, writeFrom, write, initLevel, initInner, initLeaves, initFree, initPool}
 use Rattle.frames.specs.Frames.{frameAt, setFrame}
 use Rattle.frames.specs.Deques.{size, setSize, place, setPlace, bottom, top, push, pop, shiftUp, dropTop}
-use Rattle.frames.specs.Steps.{spawn, return, returned, steal, sync, synced}
+use Rattle.frames.specs.Steps.{spawn, endFrame, goOn, wentOn, steal, sync, synced}
 use Rattle.soundness.specs.Soundness.{cleared}
 use Rattle.model.specs.Record.{recordOf, decodeAt}
-use Rattle.semantics.specs.Core.{spawnOn, returnOn, stealOn, syncOn, readOn, writeOn, stepOn}
+use Rattle.semantics.specs.Core.{spawnOn, endAt, upward, endBottom, returnOn, stealOn, syncOn, readOn, writeOn, stepOn}
 use Rattle.semantics.specs.Answers.{wordsIn}
 use Rattle.semantics.specs.Entries.{wholeNodes, startOn, startWith, OutsideResult, recordsFrom, runOn, TapeResult}
 use Rattle.semantics.specs.Calls.{Start, startResult, HostCall, tape, StateAndPool, afterStart, outsideResult, tapeResult}
@@ -96,6 +97,10 @@ starts workers n nodes = record { parts = anyParts; workers = workers; values = 
 abbrev nested : ℕ → ℕ → List Row
 nested zero d = []
 nested (suc c) d = gives (spawns 0) 101 d ∷ nested c (suc d)
+
+-- R-3: Main's child lives on worker 0, and Main, which was on worker 1, waits in its return
+abbrev mainReturns : List Row
+mainReturns = gives (spawns 0) 101 1 ∷ gives (steals 1 0) 103 0 ∷ gives (returns 1) 102 4 ∷ []
 
 -- Main alone on worker 0's deque, worker 1 idle, one node free
 abbrev atStart : Case
@@ -226,16 +231,53 @@ childElsewhere = record {
   start = starts 3 1 2;
   before = gives (spawns 0) 101 1 ∷ gives (steals 1 0) 103 0 ∷ [];
   refused =
-      -- "14. The step is a return and the frame has a live child."
-      by (returns 1) 14
-      -- 7 before 14
-      ∷ by (bytes 2 1 1 0) 7
+      -- 7 where the frame has a live child
+      by (bytes 2 1 1 0) 7
       -- 11 before 12, 12
       ∷ by (steals 0 1) 11
       ∷ by (steals 2 0) 12
       ∷ by (steals 2 1) 12
       ∷ [];
-  after = gives (returns 0) 102 1 ∷ gives (returns 1) 102 3 ∷ [];
+  -- R-3: a return with a live child, 14 before, is accepted
+  after = gives (returns 1) 102 4 ∷ gives (returns 0) 102 3 ∷ [];
+}
+
+-- R-3: Main waits in its return
+abbrev mainWaits : Case
+mainWaits = record {
+  start = starts 3 1 2;
+  before = mainReturns;
+  refused =
+      -- "Main has returned once it has ended, .. and not while it waits": no 9, but 10, of each kind, for "its worker goes idle" ..
+      by (spawns 1) 10
+      ∷ by (returns 1) 10
+      ∷ by (syncs 1) 10
+      ∷ by (reads 1 0) 10
+      ∷ by (writes 1 0 5) 10
+      ∷ by (reads 2 0) 10
+      -- .. and 11 or 12
+      ∷ by (steals 0 1) 11
+      ∷ by (steals 1 0) 12
+      ∷ by (steals 2 1) 12
+      ∷ by (steals 1 3) 12
+      -- 7 and 8 before them, 10 before 15, and 15
+      ∷ by (bytes 2 1 1 0) 7
+      ∷ by (returns 3) 8
+      ∷ by (reads 1 1) 10
+      ∷ by (reads 0 1) 15
+      ∷ [];
+  after =
+      -- its child waits too, and ends, like Main, when its own child does: then 9
+      gives (spawns 0) 101 2
+      ∷ gives (steals 1 0) 103 1
+      ∷ gives (returns 1) 102 4
+      ∷ by (returns 1) 10
+      ∷ by (steals 1 0) 12
+      ∷ gives (writes 0 0 5) 106 0
+      ∷ gives (returns 0) 102 3
+      ∷ by (returns 1) 9
+      ∷ by (steals 1 0) 9
+      ∷ [];
 }
 
 -- 16, by R-2: "From the root down, nodes with one holder are altered where they are; from the first with more holders the rest of the
@@ -337,7 +379,7 @@ pub workersTable : List Case
 workersTable = atStart ∷ eightWorkers ∷ mainReturned ∷ twoFrames ∷ []
 
 workers-quickly : map seenQuick workersTable ≡ map said workersTable
-unfolding workersTable startOn startWith runOn recordsFrom recordOf decodeAt spawnOn returnOn stealOn syncOn readOn writeOn stepOn spawn return returned steal sync synced shiftUp dropTop pop top bottom side child sibling bit leafOf readAt retain release setRefcount pathNode copyPath setValue setLink renew firstShared rest writeFrom write initPool initFree initLeaves initInner initLevel setNode height width treeNodes push setSize setPlace size place setFrame frameAt cleared refcount left right value
+unfolding workersTable startOn startWith runOn recordsFrom recordOf decodeAt spawnOn endAt upward endBottom returnOn stealOn syncOn readOn writeOn stepOn spawn endFrame goOn wentOn steal sync synced shiftUp dropTop pop top bottom side child sibling bit leafOf readAt retain release setRefcount pathNode copyPath setValue setLink renew firstShared rest writeFrom write initPool initFree initLeaves initInner initLevel setNode height width treeNodes push setSize setPlace size place setFrame frameAt cleared refcount left right value
 workers-quickly = refl
 
 pub workers-refusals : map seen workersTable ≡ map said workersTable
@@ -346,6 +388,7 @@ workers-refusals = (λ i. map (λ (k : Case). seen-quick k i) workersTable) ∙ 
 pub nodesTable : List Case
 nodesTable =
     childElsewhere
+    ∷ mainWaits
     ∷ leafShared
     ∷ leafSharedElsewhere
     ∷ leafFree
@@ -358,7 +401,7 @@ nodesTable =
     ∷ []
 
 nodes-quickly : map seenQuick nodesTable ≡ map said nodesTable
-unfolding nodesTable startOn startWith runOn recordsFrom recordOf decodeAt spawnOn returnOn stealOn syncOn readOn writeOn stepOn spawn return returned steal sync synced shiftUp dropTop pop top bottom side child sibling bit leafOf readAt retain release setRefcount pathNode copyPath setValue setLink renew firstShared rest writeFrom write initPool initFree initLeaves initInner initLevel setNode height width treeNodes push setSize setPlace size place setFrame frameAt cleared refcount left right value
+unfolding nodesTable startOn startWith runOn recordsFrom recordOf decodeAt spawnOn endAt upward endBottom returnOn stealOn syncOn readOn writeOn stepOn spawn endFrame goOn wentOn steal sync synced shiftUp dropTop pop top bottom side child sibling bit leafOf readAt retain release setRefcount pathNode copyPath setValue setLink renew firstShared rest writeFrom write initPool initFree initLeaves initInner initLevel setNode height width treeNodes push setSize setPlace size place setFrame frameAt cleared refcount left right value
 nodes-quickly = refl
 
 pub nodes-refusals : map seen nodesTable ≡ map said nodesTable
@@ -376,13 +419,17 @@ framesTable =
     ∷ by (spawns 2) 8
     ∷ by (spawns 1) 10
     ∷ gives (reads 0 0) 105 1
+    -- R-3: Main, which waits in its return, lives
+    ∷ gives (steals 1 0) 103 0
+    ∷ gives (returns 1) 102 4
+    ∷ by (spawns 0) 13
     ∷ gives (returns 0) 102 0
     ∷ gives (spawns 0) 101 63
     ∷ by (spawns 0) 13
     ∷ [])
 
 frames-quickly : playedQuick (starts 2 1 1) framesTable .answers ≡ saidOf framesTable
-unfolding framesTable startOn startWith runOn recordsFrom recordOf decodeAt spawnOn returnOn stealOn syncOn readOn writeOn stepOn spawn return returned steal sync synced shiftUp dropTop pop top bottom side child sibling bit leafOf readAt retain release setRefcount pathNode copyPath setValue setLink renew firstShared rest writeFrom write initPool initFree initLeaves initInner initLevel setNode height width treeNodes push setSize setPlace size place setFrame frameAt cleared refcount left right value
+unfolding framesTable startOn startWith runOn recordsFrom recordOf decodeAt spawnOn endAt upward endBottom returnOn stealOn syncOn readOn writeOn stepOn spawn endFrame goOn wentOn steal sync synced shiftUp dropTop pop top bottom side child sibling bit leafOf readAt retain release setRefcount pathNode copyPath setValue setLink renew firstShared rest writeFrom write initPool initFree initLeaves initInner initLevel setNode height width treeNodes push setSize setPlace size place setFrame frameAt cleared refcount left right value
 frames-quickly = refl
 
 pub frames-refusals : played (starts 2 1 1) framesTable .answers ≡ saidOf framesTable
@@ -433,7 +480,11 @@ stepTable =
     ∷ enters (starts 2 1 2) [] 3 0 1 0 11 0
     ∷ enters (starts 2 1 2) [] 3 1 0 0 12 0
     ∷ enters (starts 2 1 2) (nested 63 1) 1 0 0 0 13 0
-    ∷ enters (starts 2 1 2) (gives (spawns 0) 101 1 ∷ gives (steals 1 0) 103 0 ∷ []) 2 1 0 0 14 0
+    -- R-3: what 14 refused, and what follows
+    ∷ enters (starts 2 1 2) (gives (spawns 0) 101 1 ∷ gives (steals 1 0) 103 0 ∷ []) 2 1 0 0 102 4
+    ∷ enters (starts 2 1 2) mainReturns 2 1 0 0 10 0
+    ∷ enters (starts 2 1 2) mainReturns 3 1 0 0 12 0
+    ∷ enters (starts 2 1 2) mainReturns 2 0 0 0 102 3
     ∷ enters (starts 2 1 2) [] 5 0 1 0 15 0
     ∷ enters (starts 2 1 1) (gives (spawns 0) 101 1 ∷ []) 6 0 0 5 16 0
     ∷ enters (starts 2 1 1) (gives (spawns 0) 101 1 ∷ []) 6 0 0 1 16 0
@@ -467,7 +518,7 @@ step-quick r = elim (decided (eqb (startResult (r .start) .result) 0)) [
 ]
 
 step-quickly : map stepQuick stepTable ≡ map (λ (row : StepRow). (row .words, true)) stepTable
-unfolding stepTable startOn startWith runOn recordsFrom recordOf decodeAt spawnOn returnOn stealOn syncOn readOn writeOn stepOn spawn return returned steal sync synced shiftUp dropTop pop top bottom side child sibling bit leafOf readAt retain release setRefcount pathNode copyPath setValue setLink renew firstShared rest writeFrom write initPool initFree initLeaves initInner initLevel setNode height width treeNodes push setSize setPlace size place setFrame frameAt cleared refcount left right value
+unfolding stepTable startOn startWith runOn recordsFrom recordOf decodeAt spawnOn endAt upward endBottom returnOn stealOn syncOn readOn writeOn stepOn spawn endFrame goOn wentOn steal sync synced shiftUp dropTop pop top bottom side child sibling bit leafOf readAt retain release setRefcount pathNode copyPath setValue setLink renew firstShared rest writeFrom write initPool initFree initLeaves initInner initLevel setNode height width treeNodes push setSize setPlace size place setFrame frameAt cleared refcount left right value
 step-quickly = refl
 
 pub step-refusals : map stepSeen stepTable ≡ map (λ (row : StepRow). (row .words, true)) stepTable

@@ -10,10 +10,10 @@ use Rattle.sizes.specs.Sizes.{height, width, treeNodes, bit}
 use Rattle.pool.specs.Pool.{refcount, left, right, value, setNode, setRefcount, side, child, sibling, leafOf, readAt, retain, release, pathNode, copyPath, setValue, setLink, renew, firstShared, rest, writeFrom, write, initLevel, initInner, initLeaves, initFree, initPool}
 use Rattle.frames.specs.Frames.{frameAt, setFrame}
 use Rattle.frames.specs.Deques.{size, setSize, place, setPlace, bottom, top, push, pop, shiftUp, dropTop}
-use Rattle.frames.specs.Steps.{spawn, return, returned, steal, sync, synced}
+use Rattle.frames.specs.Steps.{spawn, endFrame, goOn, wentOn, steal, sync, synced}
 use Rattle.soundness.specs.Soundness.{cleared}
 use Rattle.model.specs.Record.{recordOf, decodeAt}
-use Rattle.semantics.specs.Core.{spawnOn, returnOn, stealOn, syncOn, readOn, writeOn, stepOn}
+use Rattle.semantics.specs.Core.{spawnOn, endAt, upward, endBottom, returnOn, stealOn, syncOn, readOn, writeOn, stepOn}
 use Rattle.semantics.specs.Entries.{startOn, startWith, recordsFrom, runOn, TapeResult}
 use Rattle.semantics.specs.Calls.{Start, startResult, afterStart, tapeResult}
 use Rattle.starred.specs.Tapes.{spawns, returns, steals, syncs, reads, writes, anyParts, anyPool, five}
@@ -88,8 +88,8 @@ table =
     ∷ (starts 2 five 20 [], answered 20 [])
     -- "Stealing from a deque of one: 12."
     ∷ (starts 2 five 20 (steals 1 0 ∷ []), answered 20 (12 ∷ 0 ∷ []))
-    -- "Return by Main while its child runs elsewhere: 14."
-    ∷ (starts 2 five 20 (spawns 0 ∷ steals 1 0 ∷ returns 1 ∷ []), answered 20 (101 ∷ 1 ∷ 103 ∷ 0 ∷ 14 ∷ 0 ∷ []))
+    -- "Return by Main while its child runs elsewhere": R-3, "14 no longer occurs; its starred edge becomes 102 4."
+    ∷ (starts 2 five 20 (spawns 0 ∷ steals 1 0 ∷ returns 1 ∷ []), answered 20 (101 ∷ 1 ∷ 103 ∷ 0 ∷ 102 ∷ 4 ∷ []))
     -- R-2: "A write pays only for what is shared." A frame that shares with none writes where its nodes are, however often
     ∷ (
       starts 1 five 11 (writes 0 4 61 ∷ writes 0 4 62 ∷ writes 0 0 63 ∷ reads 0 4 ∷ reads 0 0 ∷ reads 0 1 ∷ []),
@@ -110,11 +110,49 @@ table =
       starts 2 five 20 (spawns 0 ∷ steals 1 0 ∷ writes 0 4 61 ∷ writes 0 0 62 ∷ writes 0 1 63 ∷ writes 1 0 71 ∷ reads 0 0 ∷ reads 1 0 ∷ reads 1 4 ∷ []),
       answered 20 (101 ∷ 1 ∷ 103 ∷ 0 ∷ 106 ∷ 5 ∷ 106 ∷ 2 ∷ 106 ∷ 1 ∷ 106 ∷ 1 ∷ 105 ∷ 62 ∷ 105 ∷ 71 ∷ 105 ∷ 50 ∷ []),
     )
+    -- R-3: "A return with a live child now suspends the frame as returning and gives outcome 4; its worker goes idle, and its tree is held.":
+    -- Main waits, 9 is not given, and the child's write leaves 5 nodes free as before, for Main's 4 are held. "When its last child ends, it
+    -- ends too": "Main has returned once it has ended, with outcome 3, and not while it waits."
+    ∷ (
+      starts 2 five 20 (spawns 0 ∷ steals 1 0 ∷ writes 1 4 99 ∷ returns 1 ∷ reads 1 4 ∷ steals 1 0 ∷ reads 0 4 ∷ writes 0 4 61 ∷ returns 0 ∷ reads 0 4 ∷ []),
+      answered 20 (101 ∷ 1 ∷ 103 ∷ 0 ∷ 106 ∷ 5 ∷ 102 ∷ 4 ∷ 10 ∷ 0 ∷ 12 ∷ 0 ∷ 105 ∷ 50 ∷ 106 ∷ 5 ∷ 102 ∷ 3 ∷ 9 ∷ 0 ∷ []),
+    )
+    -- "the answer shows where that stopped: 1, 2 or 3". 1: Main's child waits, and ends with its own; Main goes on elsewhere. Its child's 4 nodes
+    -- are held while it waits, and free then
+    ∷ (
+      starts 3 five 20 (spawns 0 ∷ steals 1 0 ∷ writes 0 4 61 ∷ spawns 0 ∷ steals 2 0 ∷ returns 2 ∷ writes 1 4 71 ∷ returns 0 ∷ writes 1 4 72 ∷ reads 0 4 ∷ returns 1 ∷ []),
+      answered 20 (101 ∷ 1 ∷ 103 ∷ 0 ∷ 106 ∷ 5 ∷ 101 ∷ 2 ∷ 103 ∷ 1 ∷ 102 ∷ 4 ∷ 106 ∷ 5 ∷ 102 ∷ 1 ∷ 106 ∷ 9 ∷ 10 ∷ 0 ∷ 102 ∷ 3 ∷ []),
+    )
+    -- 2: the same with Main at its sync, which it passes, with its own list
+    ∷ (
+      starts 3 five 20 (spawns 0 ∷ steals 1 0 ∷ writes 1 4 99 ∷ spawns 0 ∷ steals 2 0 ∷ returns 2 ∷ syncs 1 ∷ returns 0 ∷ reads 0 4 ∷ returns 0 ∷ []),
+      answered 20 (101 ∷ 1 ∷ 103 ∷ 0 ∷ 106 ∷ 5 ∷ 101 ∷ 2 ∷ 103 ∷ 1 ∷ 102 ∷ 4 ∷ 104 ∷ 1 ∷ 102 ∷ 2 ∷ 105 ∷ 99 ∷ 102 ∷ 3 ∷ []),
+    )
+    -- 3: Main, its child and the child's child wait, and one return ends all four
+    ∷ (
+      starts 2 five 20 (spawns 0 ∷ spawns 0 ∷ spawns 0 ∷ steals 1 0 ∷ returns 1 ∷ steals 1 0 ∷ returns 1 ∷ steals 1 0 ∷ returns 1 ∷ steals 1 0 ∷ reads 0 4 ∷ returns 0 ∷ reads 0 4 ∷ []),
+      answered 20 (101 ∷ 1 ∷ 101 ∷ 2 ∷ 101 ∷ 3 ∷ 103 ∷ 0 ∷ 102 ∷ 4 ∷ 103 ∷ 1 ∷ 102 ∷ 4 ∷ 103 ∷ 2 ∷ 102 ∷ 4 ∷ 12 ∷ 0 ∷ 105 ∷ 50 ∷ 102 ∷ 3 ∷ 9 ∷ 0 ∷ []),
+    )
+    -- the same with Main's child at its sync: it resumes, 2, and its own return ends Main
+    ∷ (
+      starts 2 five 20 (spawns 0 ∷ spawns 0 ∷ spawns 0 ∷ steals 1 0 ∷ returns 1 ∷ steals 1 0 ∷ syncs 1 ∷ steals 1 0 ∷ returns 1 ∷ returns 0 ∷ reads 0 4 ∷ returns 0 ∷ []),
+      answered 20 (101 ∷ 1 ∷ 101 ∷ 2 ∷ 101 ∷ 3 ∷ 103 ∷ 0 ∷ 102 ∷ 4 ∷ 103 ∷ 1 ∷ 104 ∷ 1 ∷ 103 ∷ 2 ∷ 102 ∷ 4 ∷ 102 ∷ 2 ∷ 105 ∷ 50 ∷ 102 ∷ 3 ∷ []),
+    )
+    -- Main waits for two children: the first waits too, and ends with its own, 1; Main ends with the second, 3
+    ∷ (
+      starts 3 five 20 (spawns 0 ∷ steals 1 0 ∷ spawns 1 ∷ steals 2 1 ∷ returns 2 ∷ spawns 0 ∷ steals 2 0 ∷ returns 2 ∷ returns 0 ∷ reads 0 4 ∷ steals 0 1 ∷ returns 1 ∷ []),
+      answered 20 (101 ∷ 1 ∷ 103 ∷ 0 ∷ 101 ∷ 1 ∷ 103 ∷ 0 ∷ 102 ∷ 4 ∷ 101 ∷ 2 ∷ 103 ∷ 1 ∷ 102 ∷ 4 ∷ 102 ∷ 1 ∷ 10 ∷ 0 ∷ 12 ∷ 0 ∷ 102 ∷ 3 ∷ []),
+    )
+    -- n 1, 3 nodes: one is Main's, which waits, so that a write deeper down is refused by 16
+    ∷ (
+      starts 2 (7 ∷ []) 3 (spawns 0 ∷ steals 1 0 ∷ writes 1 0 9 ∷ returns 1 ∷ spawns 0 ∷ writes 0 0 5 ∷ spawns 0 ∷ writes 0 0 6 ∷ returns 0 ∷ returns 0 ∷ writes 0 0 8 ∷ returns 0 ∷ []),
+      answered 3 (101 ∷ 1 ∷ 103 ∷ 0 ∷ 106 ∷ 1 ∷ 102 ∷ 4 ∷ 101 ∷ 2 ∷ 106 ∷ 0 ∷ 101 ∷ 3 ∷ 16 ∷ 0 ∷ 102 ∷ 0 ∷ 102 ∷ 0 ∷ 106 ∷ 1 ∷ 102 ∷ 3 ∷ []),
+    )
     ∷ []
 
 -- without the check
 quickly : map (λ (row : Case × Outcome). told (row .0) (quickTape (startOf (row .0)) (joined (row .0 .records)) (works (row .0)) (replies (row .0)))) table ≡ map (λ (row : Case × Outcome). row .1) table
-unfolding table startOn startWith runOn recordsFrom recordOf decodeAt spawnOn returnOn stealOn syncOn readOn writeOn stepOn spawn return returned steal sync synced shiftUp dropTop pop top bottom side child sibling bit leafOf readAt retain release setRefcount pathNode copyPath setValue setLink renew firstShared rest writeFrom write initPool initFree initLeaves initInner initLevel setNode height width treeNodes push setSize setPlace size place setFrame frameAt cleared refcount left right value
+unfolding table startOn startWith runOn recordsFrom recordOf decodeAt spawnOn endAt upward endBottom returnOn stealOn syncOn readOn writeOn stepOn spawn endFrame goOn wentOn steal sync synced shiftUp dropTop pop top bottom side child sibling bit leafOf readAt retain release setRefcount pathNode copyPath setValue setLink renew firstShared rest writeFrom write initPool initFree initLeaves initInner initLevel setNode height width treeNodes push setSize setPlace size place setFrame frameAt cleared refcount left right value
 quickly = refl
 
 pub starred : map (λ (row : Case × Outcome). outcome (row .0)) table ≡ map (λ (row : Case × Outcome). row .1) table

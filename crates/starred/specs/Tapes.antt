@@ -60,13 +60,17 @@ deque ps = length ps ∷ (ps ++ replicate (64 - length ps) 0)
 abbrev pub deques : List ℕ → List ℕ → List ℕ
 deques ps qs = deque ps ++ (deque qs ++ replicate 390 0)
 
--- live, parent, depth, outstanding, suspended, root
+-- live, parent, depth, outstanding, suspended, root, returning (R-3's word, "last"), which is 0 here
 abbrev pub live : ℕ → ℕ → ℕ → ℕ → ℕ → List ℕ
-live parent depth outstanding suspended root = 1 ∷ parent ∷ depth ∷ outstanding ∷ suspended ∷ root ∷ []
+live parent depth outstanding suspended root = 1 ∷ parent ∷ depth ∷ outstanding ∷ suspended ∷ root ∷ 0 ∷ []
+
+-- R-3: a live frame that waits in its return: "1 on a frame waiting so, which is suspended"
+abbrev pub waiting : ℕ → ℕ → ℕ → ℕ → List ℕ
+waiting parent depth outstanding root = 1 ∷ parent ∷ depth ∷ outstanding ∷ 1 ∷ root ∷ 1 ∷ []
 
 -- "Free frame places .., all but the link to the next being zero"
 abbrev pub free : ℕ → List ℕ
-free next = 0 ∷ next ∷ 0 ∷ 0 ∷ 0 ∷ 0 ∷ []
+free next = 0 ∷ next ∷ 0 ∷ 0 ∷ 0 ∷ 0 ∷ 0 ∷ []
 
 -- c free places in rising order, the second being p
 abbrev pub rising : ℕ → ℕ → List ℕ
