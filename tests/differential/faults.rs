@@ -160,8 +160,8 @@ pub const FAULTS: &[Fault] = &[
         name: "outcome_1_for_2",
         says: "a resumption is answered with outcome 1",
         file: "machine.rs",
-        rule: "return 2;",
-        fault: "return 1;",
+        rule: "self.resume(worker, parent);\n        2",
+        fault: "self.resume(worker, parent);\n        1",
     },
     Fault {
         name: "late_copy",
@@ -218,10 +218,136 @@ pub const FAULTS: &[Fault] = &[
     },
     Fault {
         name: "resumed_early",
-        says: "the first child's return resumes the parent, live siblings or not",
+        says: "a parent at a sync resumes though another child lives",
         file: "machine.rs",
-        rule: "if idle && self.is_suspended(parent) && !self.has_live_child(parent) {",
-        fault: "if idle && self.is_suspended(parent) {",
+        rule: "!self.is_suspended(parent) || self.has_live_child(parent)",
+        fault: "!self.is_suspended(parent) \
+                || self.is_returning(parent) && self.has_live_child(parent)",
+    },
+    Fault {
+        name: "waiting_resumes",
+        says: "a waiting parent resumes instead of ending",
+        file: "machine.rs",
+        rule: "if self.is_returning(parent) {",
+        fault: "if false {",
+    },
+    Fault {
+        name: "waiting_main_resumes",
+        says: "Main resumes instead of ending, if it waits",
+        file: "machine.rs",
+        rule: "if self.is_returning(parent) {",
+        fault: "if self.is_returning(parent) && parent != MAIN {",
+    },
+    Fault {
+        name: "chain_one_early",
+        says: "a chain stops one frame early: its last frame waits on",
+        file: "machine.rs",
+        rule: "if self.is_returning(parent) {",
+        fault: "let above = self.frames[&parent].parent; \
+                let goes_on = above.is_some_and(|above| self.is_returning(above) \
+                && self.live_children(above) == 1); \
+                if self.is_returning(parent) && !goes_on { return 1; }\n\
+                if self.is_returning(parent) {",
+    },
+    Fault {
+        name: "chain_of_one",
+        says: "one waiting frame ends by a return, those above it wait on",
+        file: "machine.rs",
+        rule: "if self.is_returning(parent) {",
+        fault: "if self.is_returning(parent) && ended.returning { return 1; }\n\
+                if self.is_returning(parent) {",
+    },
+    Fault {
+        name: "chain_of_32",
+        says: "a return ends 32 frames at most, those above wait on",
+        file: "machine.rs",
+        rule: "if self.is_returning(parent) {",
+        fault: "use std::sync::atomic::{AtomicUsize, Ordering::Relaxed}; \
+                static ENDED: AtomicUsize = AtomicUsize::new(0); \
+                ENDED.store(if ended.returning { ENDED.load(Relaxed) + 1 } else { 1 }, Relaxed); \
+                if self.is_returning(parent) && ENDED.load(Relaxed) == 32 { return 1; }\n\
+                if self.is_returning(parent) {",
+    },
+    Fault {
+        name: "tree_released_at_once",
+        says: "a waiting frame's tree is released when it begins to wait",
+        file: "machine.rs",
+        rule: "self.frames.iter().map(|(id, frame)| (*id, &frame.history))",
+        fault: "self.frames.iter().filter(|(_, frame)| !frame.returning) \
+                .map(|(id, frame)| (*id, &frame.history))",
+    },
+    Fault {
+        name: "main_returned_waiting",
+        says: "Main counts as returned while it waits",
+        file: "machine.rs",
+        rule: "!self.frames.contains_key(&MAIN)",
+        fault: "!self.frames.contains_key(&MAIN) || self.is_returning(MAIN)",
+    },
+    Fault {
+        name: "same_deque_waits",
+        says: "only children on the same deque make a return wait",
+        file: "machine.rs",
+        rule: "let waits = self.has_live_child(frame_id);",
+        fault: "let waits = self.deques[worker].iter() \
+                .any(|f| self.frames[f].parent == Some(frame_id));",
+    },
+    Fault {
+        name: "waiting_ends_early",
+        says: "a waiting parent ends though another child lives",
+        file: "machine.rs",
+        rule: "!self.is_suspended(parent) || self.has_live_child(parent)",
+        fault: "!self.is_suspended(parent) \
+                || !self.is_returning(parent) && self.has_live_child(parent)",
+    },
+    Fault {
+        name: "chain_answers_1",
+        says: "a chain's outcome is that of the first end, taken to be 1",
+        file: "machine.rs",
+        rule: "return self.end(worker, parent);",
+        fault: "self.end(worker, parent); return 1;",
+    },
+    Fault {
+        name: "chain_answers_2",
+        says: "a chain's outcome is that of the first end, taken to be 2",
+        file: "machine.rs",
+        rule: "return self.end(worker, parent);",
+        fault: "self.end(worker, parent); return 2;",
+    },
+    Fault {
+        name: "resumes_elsewhere",
+        says: "a parent that a chain resumes is given to the first idle worker",
+        file: "machine.rs",
+        rule: "self.resume(worker, parent);",
+        fault: "let first = self.deques.iter().position(Vec::is_empty).unwrap(); \
+                self.resume(if ended.returning { first } else { worker }, parent);",
+    },
+    Fault {
+        name: "outcome_1_for_4",
+        says: "a return that waits is answered as a sync that waits",
+        file: "machine.rs",
+        rule: "frame.returning = true;\n        4",
+        fault: "frame.returning = true;\n        1",
+    },
+    Fault {
+        name: "waiting_goes_on",
+        says: "a return with a live child is answered 4 and changes nothing",
+        file: "machine.rs",
+        rule: "self.deques[worker].pop();\n        if !waits {",
+        fault: "if waits { return 4; } self.deques[worker].pop();\n        if !waits {",
+    },
+    Fault {
+        name: "waiting_not_in_13",
+        says: "waiting frames are not counted for 13",
+        file: "machine.rs",
+        rule: "self.frames.len() == MAX_LIVE_FRAMES",
+        fault: "self.frames.values().filter(|f| !f.returning).count() == MAX_LIVE_FRAMES",
+    },
+    Fault {
+        name: "waiting_child_ended",
+        says: "a waiting frame does not count as its parent's live child",
+        file: "machine.rs",
+        rule: "self.frames.values().any(|f| f.parent == Some(frame))",
+        fault: "self.frames.values().any(|f| f.parent == Some(frame) && !f.returning)",
     },
     Fault {
         name: "one_root",

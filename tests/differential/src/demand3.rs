@@ -25,6 +25,8 @@ struct FrameLog {
     steps: Vec<FrameStep>,
     reads: Vec<u32>,
     spawns: usize,
+    /// The outcome that the frame's return was answered with.
+    returned: Option<u32>,
 }
 
 /// What was seen of one run: a log for each frame it made.
@@ -87,9 +89,14 @@ impl Run {
             _ => None,
         };
         let log = &mut self.logs[bottom];
+        if log.returned.is_some() {
+            return Err(format!("frame {:?} steps after its return", log.name));
+        }
         log.steps.push(FrameStep { step, child });
-        if let Step::Read { .. } = step {
-            log.reads.push(number);
+        match step {
+            Step::Read { .. } => log.reads.push(number),
+            Step::Return { .. } => log.returned = Some(number),
+            _ => {}
         }
         Ok(())
     }
@@ -137,6 +144,12 @@ impl Run {
         })
     }
 
+    /// The frames whose return waited for a child.
+    pub fn waited(&self) -> usize {
+        let logs = self.logs.iter();
+        logs.filter(|log| log.returned == Some(4)).count()
+    }
+
     fn reads(&self) -> Reads {
         let logs = self.logs.iter();
         logs.map(|log| (log.name.clone(), log.reads.clone()))
@@ -154,6 +167,7 @@ pub fn check(nodes: u32, run: &Run, one_worker: &Run) -> Result<(), String> {
         return Err(format!("{refused} steps of the one-worker run are refused"));
     }
     check_reads(&run.reads(), &one_worker.reads())?;
+    check_returns(run, one_worker)?;
     if run.free != nodes || one_worker.free != nodes {
         return Err(format!(
             "of {nodes} nodes, {} are free after the run and {} after its one-worker run",
@@ -176,6 +190,26 @@ fn check_reads(run: &Reads, one_worker: &Reads) -> Result<(), String> {
         if reads != others {
             return Err(format!(
                 "frame {name:?} read {reads:?}, in the one-worker run {others:?}"
+            ));
+        }
+    }
+    Ok(())
+}
+
+/// Main has returned only after every other frame has. In the one-worker run
+/// a return finds no live child: Main's is outcome 3, the others' 0.
+fn check_returns(run: &Run, one_worker: &Run) -> Result<(), String> {
+    for log in &run.logs {
+        if log.returned.is_none() {
+            return Err(format!("frame {:?} never returned", log.name));
+        }
+    }
+    for log in &one_worker.logs {
+        let expected = if log.name.is_empty() { 3 } else { 0 };
+        if log.returned != Some(expected) {
+            return Err(format!(
+                "frame {:?} returns with {:?} in the one-worker run",
+                log.name, log.returned
             ));
         }
     }
@@ -206,9 +240,19 @@ mod tests {
     use crate::splitrun;
 
     fn example() -> (Input, String) {
-        let example = edges::all().swap_remove(0);
-        let input = Input::parse(&example.input).expect("a fit input");
-        (input, example.expected)
+        edge("the example tape")
+    }
+
+    /// Two branches, and all three frames with a child wait.
+    fn waiting_example() -> (Input, String) {
+        edge("two branches wait below Main: the first stops at it, the second ends it")
+    }
+
+    fn edge(name: &str) -> (Input, String) {
+        let edge = edges::all().into_iter().find(|edge| edge.name == name);
+        let edge = edge.expect("an edge of this name");
+        let input = Input::parse(&edge.input).expect("a fit input");
+        (input, edge.expected)
     }
 
     #[test]
@@ -224,7 +268,14 @@ mod tests {
     /// The example's run against its one-worker run, of whose output one
     /// line is changed.
     fn check_changed(line: &str, changed: &str) -> Result<(), String> {
-        let (input, output) = example();
+        check_changed_in(example(), line, changed)
+    }
+
+    fn check_changed_in(
+        (input, output): (Input, String),
+        line: &str,
+        changed: &str,
+    ) -> Result<(), String> {
         let run = Run::observe(&input, &output)?;
         let one_worker = run.one_worker_input(&input).expect("a short tape");
         let output = splitrun::output(&one_worker.to_bytes(), Counting::Recounted);
@@ -252,5 +303,38 @@ mod tests {
         assert!(refused.starts_with("1 steps"), "{refused}");
         let lost = check_changed("free 20", "free 19").expect_err("a lost node");
         assert!(lost.starts_with("of 20 nodes"), "{lost}");
+    }
+
+    /// Returns that wait are last steps, and no return waits with one worker.
+    #[test]
+    fn waiting_frames_in_the_one_worker_run() {
+        let (input, output) = waiting_example();
+        let run = Run::observe(&input, &output).expect("a run");
+        assert_eq!(run.waited(), 3);
+        let one_worker = run.one_worker_input(&input).expect("a short tape");
+        assert_eq!(
+            splitrun::output(&one_worker.to_bytes(), Counting::Recounted),
+            "1 5 20\n101 1\n101 2\n102 0\n102 0\n101 1\n101 2\n102 0\n102 0\n102 3\nfree 20\n"
+        );
+        assert_eq!(check_changed_in(waiting_example(), "", ""), Ok(()));
+        let waits = check_changed_in(waiting_example(), "102 0", "102 4");
+        let waits = waits.expect_err("a return that waits with one worker");
+        assert!(
+            waits.starts_with("frame [1] returns with Some(4)"),
+            "{waits}"
+        );
+    }
+
+    #[test]
+    fn steps_of_waiting_frames_are_caught() {
+        let (mut input, output) = edge("return by Main while its child runs elsewhere: 102 4");
+        let read = Step::Read {
+            worker: 1,
+            splitter: 0,
+        };
+        input.tape[24..32].copy_from_slice(&read.encode());
+        let output = output.replace("10 0\n", "105 10\n");
+        let seen = Run::observe(&input, &output).err();
+        assert_eq!(seen.as_deref(), Some("an accepted step of an idle worker"));
     }
 }

@@ -1,9 +1,10 @@
-//! The edges of document 01, as R-2 of document 02 changes them, starred or
-//! not, and the edges of its refusals and lines. Every expected line is
-//! written by hand from the documents.
+//! The edges of document 01, as of document 02 change them,
+//! starred or not, and the edges of its refusals and lines. Every expected
+//! line is written by hand from the documents.
 
 mod lengths;
 mod shared;
+mod waiting;
 
 use crate::record::{Record, Step};
 use crate::splitrun::{header, Input, HEADER_BYTES};
@@ -32,6 +33,7 @@ pub fn all() -> Vec<Edge> {
     edges.extend(traps());
     edges.extend(pools());
     edges.extend(shared::shared());
+    edges.extend(waiting::waiting());
     edges
 }
 
@@ -191,15 +193,16 @@ fn starred() -> Vec<Edge> {
             "free 9",
         ),
         run(
-            "return by Main while its child runs elsewhere: 14",
+            "return by Main while its child runs elsewhere: 102 4",
             (2, 20, &TENS),
             "2 5 20",
             &[
                 (spawn(0), "101 1"),
                 (steal(1, 0), "103 0"),
-                (ret(1), "14 0"),
-                (ret(0), "102 1"),
-                (ret(1), "102 3"),
+                (ret(1), "102 4"),
+                (ret(1), "10 0"),
+                (ret(0), "102 3"),
+                (ret(1), "9 0"),
             ],
             "free 20",
         ),
@@ -772,7 +775,7 @@ fn outcomes() -> Vec<Edge> {
             "free 20",
         ),
         run(
-            "steals take tops, deeper each time; 14 and resumption below Main",
+            "steals take tops, deeper each time; a wait and resumption below Main",
             (5, 20, &TENS),
             "5 5 20",
             &[
@@ -783,9 +786,11 @@ fn outcomes() -> Vec<Edge> {
                 (steal(2, 0), "103 1"),
                 (steal(3, 0), "103 2"),
                 (steal(4, 0), "12 0"),
-                (ret(2), "14 0"),
                 (sync(2), "104 1"),
                 (ret(0), "102 1"),
+                (spawn(3), "101 3"),
+                (steal(4, 3), "103 2"),
+                (ret(4), "102 4"),
                 (ret(3), "102 2"),
                 (ret(3), "102 1"),
                 (ret(1), "102 3"),
@@ -866,15 +871,27 @@ fn traps() -> Vec<Edge> {
             "free 5",
         ),
         run(
-            "children on other deques count",
+            "children on other deques count for a sync",
             (2, 20, &TENS),
             "2 5 20",
             &[
                 (spawn(0), "101 1"),
                 (steal(1, 0), "103 0"),
-                (ret(1), "14 0"),
                 (sync(1), "104 1"),
                 (ret(0), "102 2"),
+            ],
+            "free 9",
+        ),
+        run(
+            "children on other deques count for a return",
+            (2, 20, &TENS),
+            "2 5 20",
+            &[
+                (spawn(0), "101 1"),
+                (steal(1, 0), "103 0"),
+                (ret(1), "102 4"),
+                (read(1, 0), "10 0"),
+                (read(0, 0), "105 10"),
             ],
             "free 9",
         ),

@@ -1,13 +1,14 @@
 //! Seeded inputs for splitrun. The generator runs the plain machine beside
 //! the tape it writes, so that most steps mean something.
 
-use crate::machine::{Counting, FrameId, Machine, MAIN};
+use crate::machine::{Counting, FrameId, Machine};
 use crate::random::Random;
 use crate::record::{self, Record, Step, RECORD_BYTES};
 use crate::refusal::Refusal;
 use crate::shape;
 use crate::sharing;
 use crate::splitrun::{Input, MAX_NODES, MAX_SPLITTERS, MAX_TAPE_BYTES};
+use crate::waiting::{self, Stop};
 use std::ops::RangeInclusive;
 
 /// Past this many records, a run that is to bring Main home only heads home.
@@ -21,8 +22,9 @@ pub fn input(seed: u64) -> Vec<u8> {
         6..=11 => refused_whole(&mut random),
         12..=13 => longest(&mut random),
         14..=19 => run(&mut random, Ending::Unfinished).to_bytes(),
-        20..=52 => run(&mut random, Ending::Home).to_bytes(),
-        53..=74 => aimed(&mut random).to_bytes(),
+        20..=41 => run(&mut random, Ending::Home).to_bytes(),
+        42..=57 => waiting(&mut random).to_bytes(),
+        58..=82 => aimed(&mut random).to_bytes(),
         _ => run(&mut random, Ending::PastHome).to_bytes(),
     }
 }
@@ -219,29 +221,48 @@ fn run_of(random: &mut Random, splitters: usize, ending: Ending) -> Input {
     let nodes = pool_nodes(random, splitters);
     run_with(random, splitters, nodes, |writer| {
         writer.body();
-        if ending != Ending::Unfinished {
-            writer.bring_main_home();
+        writer.finish(ending);
+    })
+}
+
+/// A run whose returns are aimed at R-3's cases: thieves return the frames
+/// that they have stolen, so that most of them wait.
+fn waiting(random: &mut Random) -> Input {
+    let ending = random.pick(&[
+        Ending::Unfinished,
+        Ending::Home,
+        Ending::Home,
+        Ending::Home,
+        Ending::PastHome,
+    ]);
+    let splitters = splitter_count(random);
+    let nodes = pool_nodes(random, splitters);
+    run_with(random, splitters, nodes, |writer| {
+        for _ in 0..writer.random.between(2, 12) {
+            if writer.tape.len() / RECORD_BYTES < LONG_TAPE / 2 {
+                writer.chain();
+            }
         }
-        if ending == Ending::PastHome {
-            writer.past_home();
-        }
+        writer.finish(ending);
     })
 }
 
 /// A run whose writes are aimed at R-2's cases, in a pool that holds the tree
 /// and a few paths.
 fn aimed(random: &mut Random) -> Input {
-    // The longer the path, the more cases.
+    // The longer the path, the more cases; n below 5 need some runs too.
     let every_n: Vec<usize> = sharing::every_n()
-        .flat_map(|n| vec![n; shape::path_nodes(n)])
+        .flat_map(|n| vec![n; shape::path_nodes(n).max(4)])
         .collect();
     let splitters = random.pick(&every_n);
     let path = shape::path_nodes(splitters);
     let paths = random.pick(&[0, 1, 2, 3, 3, 3, 3, 3]);
     let nodes = shape::tree_nodes(splitters) + paths * path + random.below(path + 1);
     run_with(random, splitters, nodes as u32, |writer| {
+        // Frames that wait hold nodes, and the aim then misses more often.
+        let waits = writer.random.pick(&[0, 0, 0, 0, 50]);
         for _ in 0..writer.random.between(30, 60) {
-            writer.aim();
+            writer.aim(waits);
         }
         writer.bring_main_home();
     })
@@ -320,15 +341,30 @@ impl<'a> TapeWriter<'a> {
         }
     }
 
+    /// Is this a return by which Main ends, alone or after its last child?
     fn ends_main(&self, record: Record) -> bool {
         let Ok(Step::Return { worker }) = record::decode(record) else {
             return false;
         };
-        let accepted = self.machine.check(Step::Return { worker }).is_ok();
-        accepted && self.machine.bottom(worker.into()) == Some(MAIN)
+        self.stop_of_return(worker) == Some(Stop::MainEnds)
     }
 
-    /// Returns frames, syncs those that wait for children and lets idle
+    /// Where a return leads, none if it is refused.
+    fn stop_of_return(&self, worker: u8) -> Option<Stop> {
+        self.machine.check(Step::Return { worker }).ok()?;
+        waiting::foresee(&self.machine, worker.into()).map(|ends| ends.stop)
+    }
+
+    fn finish(&mut self, ending: Ending) {
+        if ending != Ending::Unfinished {
+            self.bring_main_home();
+        }
+        if ending == Ending::PastHome {
+            self.past_home();
+        }
+    }
+
+    /// Returns frames, syncs some that have live children and lets idle
     /// workers steal, until Main has returned.
     fn bring_main_home(&mut self) {
         while !self.machine.main_has_returned() {
@@ -344,10 +380,9 @@ impl<'a> TapeWriter<'a> {
 
     fn step_home(&mut self) -> Step {
         let worker = self.busy_worker();
-        let end = Step::Return { worker };
-        match self.machine.check(end) {
-            Ok(()) => end,
-            Err(_) => Step::Sync { worker },
+        match self.stop_of_return(worker) {
+            Some(Stop::Waits) if self.random.percent(40) => Step::Sync { worker },
+            _ => Step::Return { worker },
         }
     }
 
@@ -442,9 +477,61 @@ impl<'a> TapeWriter<'a> {
         }
     }
 
+    /// Some nested frames, most of them stolen and returned while their
+    /// child lives; then some ends.
+    fn chain(&mut self) {
+        let deep = self.random.percent(15);
+        let frames = self.random.between(1, if deep { 63 } else { 7 });
+        let worker = self.busy_worker();
+        for _ in 0..frames {
+            self.accepted(Step::Spawn { worker });
+            self.read_or_write(worker);
+        }
+        let sparing = self.random.pick(&[0, 5, 30]);
+        let enough = self.random.pick(&[0, 5, 20]);
+        while let Some(steal) = self.accepted_steal() {
+            self.push(steal.encode());
+            self.leave_stolen(steal.worker(), sparing);
+            if self.random.percent(enough) {
+                break;
+            }
+        }
+        for _ in 0..self.random.below(4) {
+            let worker = self.busy_worker();
+            self.read_or_write(worker);
+            self.end_a_child();
+        }
+    }
+
+    /// What a thief does with the frame that it has stolen: a return, and
+    /// more seldom a sync, a further child or nothing yet.
+    fn leave_stolen(&mut self, worker: u8, sparing: usize) {
+        self.read_or_write(worker);
+        let step = match self.random.below(100 + 3 * sparing) {
+            0..=99 => Step::Return { worker },
+            choice if choice < 100 + sparing => Step::Sync { worker },
+            choice if choice < 100 + 2 * sparing => Step::Spawn { worker },
+            _ => return,
+        };
+        if !self.ends_main(step.encode()) {
+            self.accepted(step);
+        }
+    }
+
+    /// One time in three.
+    fn read_or_write(&mut self, worker: u8) {
+        let step = match self.random.below(6) {
+            0 => self.read(worker),
+            1 => self.write(worker),
+            _ => return,
+        };
+        self.push(step.encode());
+    }
+
     /// A write that finds a certain number of its path's nodes shared, with
-    /// none free, one too few or just enough. It may miss.
-    fn aim(&mut self) {
+    /// none free, one too few or just enough. It may miss. Of 100 frames that
+    /// are stolen on the way, so many are returned.
+    fn aim(&mut self, waits: usize) {
         let path = shape::path_nodes(self.machine.splitters());
         let rest = self.random.between(0, path);
         let free = match rest {
@@ -457,6 +544,9 @@ impl<'a> TapeWriter<'a> {
         if self.random.percent(30) {
             if let Some(steal) = self.accepted_steal() {
                 self.push(steal.encode());
+                if self.random.percent(waits) {
+                    self.leave_stolen(steal.worker(), 0);
+                }
             }
         }
         // A new frame shares its whole path, and less of it after a write.
@@ -477,13 +567,14 @@ impl<'a> TapeWriter<'a> {
         self.write_taking(worker, rest..=rest);
     }
 
-    /// A return of a frame other than Main; false if none can end.
+    /// A return by which a frame ends, and not Main; false if there is none.
     fn end_a_child(&mut self) -> bool {
         let ends: Vec<Record> = (0..self.machine.workers() as u8)
-            .filter(|worker| self.machine.bottom((*worker).into()) != Some(MAIN))
-            .map(|worker| Step::Return { worker })
-            .filter(|end| self.machine.check(*end).is_ok())
-            .map(Step::encode)
+            .filter(|worker| {
+                let stop = self.stop_of_return(*worker);
+                stop.is_some_and(|stop| stop != Stop::Waits && stop != Stop::MainEnds)
+            })
+            .map(|worker| Step::Return { worker }.encode())
             .collect();
         if !ends.is_empty() {
             let end = self.random.pick(&ends);

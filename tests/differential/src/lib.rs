@@ -1,6 +1,6 @@
-//! The copying program of document 01, with R-2 of document 02, and the
-//! differential test of splitrun against it. Everything here is written from
-//! the documents' text alone.
+//! The copying program of document 01, with of document 02, and
+//! the differential test of splitrun against it. Everything here is written
+//! from the documents' text alone.
 
 pub mod demand3;
 pub mod edges;
@@ -16,3 +16,4 @@ pub mod sharing;
 pub mod splitrun;
 pub mod tally;
 pub mod transcript;
+pub mod waiting;

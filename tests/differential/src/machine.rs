@@ -1,6 +1,6 @@
-//! Document 01's plain machine, with R-2 of document 02: each live frame has
-//! its own full list of values and its whole history, and nodes in use are
-//! counted from those.
+//! Document 01's plain machine, with R-2 and R-3 of document 02: each live
+//! frame has its own full list of values and its whole history, and nodes in
+//! use are counted from those.
 
 use super::history::{self, History, WriteId};
 use super::record::Step;
@@ -24,6 +24,9 @@ struct Frame {
     parent: Option<FrameId>,
     depth: u32,
     suspended: bool,
+    /// R-3: the frame has returned and waits for its children. It is
+    /// suspended.
+    returning: bool,
     values: Vec<u32>,
     history: History,
 }
@@ -70,6 +73,7 @@ impl Machine {
             parent: None,
             depth: 0,
             suspended: false,
+            returning: false,
             values: values.to_vec(),
             history: History::of_main(splitters),
         };
@@ -94,7 +98,7 @@ impl Machine {
         Ok(self.take(step))
     }
 
-    /// Refusals 8 to 16, in checking order.
+    /// Refusals 8 to 16, in checking order. 14 no longer occurs (R-3).
     pub fn check(&self, step: Step) -> Result<(), Refusal> {
         let worker = usize::from(step.worker());
         if worker >= self.workers() {
@@ -111,10 +115,9 @@ impl Machine {
         };
         match step {
             Step::Spawn { .. } => self.check_spawn(),
-            Step::Return { .. } => self.check_return(bottom),
             Step::Read { splitter, .. } => self.check_splitter(splitter),
             Step::Write { splitter, .. } => self.check_write(bottom, splitter),
-            Step::Steal { .. } | Step::Sync { .. } => Ok(()),
+            Step::Return { .. } | Step::Steal { .. } | Step::Sync { .. } => Ok(()),
         }
     }
 
@@ -131,13 +134,6 @@ impl Machine {
     fn check_spawn(&self) -> Result<(), Refusal> {
         if self.frames.len() == MAX_LIVE_FRAMES {
             return Err(Refusal::TooManyFrames);
-        }
-        Ok(())
-    }
-
-    fn check_return(&self, bottom: FrameId) -> Result<(), Refusal> {
-        if self.has_live_child(bottom) {
-            return Err(Refusal::LiveChild);
         }
         Ok(())
     }
@@ -166,7 +162,7 @@ impl Machine {
         let worker = usize::from(step.worker());
         match step {
             Step::Spawn { .. } => self.spawn(worker),
-            Step::Return { .. } => self.end(worker),
+            Step::Return { .. } => self.return_bottom(worker),
             Step::Steal { victim, .. } => self.steal(worker, usize::from(victim)),
             Step::Sync { .. } => self.sync(worker),
             Step::Read { splitter, .. } => self.read(worker, usize::from(splitter)),
@@ -186,6 +182,7 @@ impl Machine {
             parent: Some(parent_id),
             depth: parent.depth + 1,
             suspended: false,
+            returning: false,
             values: parent.values.clone(),
             history: parent.history.clone(),
         };
@@ -197,10 +194,25 @@ impl Machine {
         depth
     }
 
-    /// "The bottom frame ends." "Return drops the child's list."
-    fn end(&mut self, worker: usize) -> u32 {
-        let ended_id = self.executed(worker);
+    /// R-3: "A return with a live child now suspends the frame as returning
+    /// and gives outcome 4; its worker goes idle, and its tree is held."
+    /// Without one, "the bottom frame ends".
+    fn return_bottom(&mut self, worker: usize) -> u32 {
+        let frame_id = self.executed(worker);
+        let waits = self.has_live_child(frame_id);
         self.deques[worker].pop();
+        if !waits {
+            return self.end(worker, frame_id);
+        }
+        let frame = self.frame_mut(frame_id);
+        frame.suspended = true;
+        frame.returning = true;
+        4
+    }
+
+    /// A frame that is in no deque any more ends on this worker. "Return
+    /// drops the child's list."
+    fn end(&mut self, worker: usize, ended_id: FrameId) -> u32 {
         let ended = self.frames.remove(&ended_id).expect("a live frame");
         // "The end of Main is outcome 3."
         let Some(parent) = ended.parent else {
@@ -210,16 +222,21 @@ impl Machine {
         if self.bottom(worker) == Some(parent) {
             return 0;
         }
+        // "If the deque is empty otherwise, the worker is idle: outcome 1."
+        let idle = self.deques[worker].is_empty();
+        if !idle || !self.is_suspended(parent) || self.has_live_child(parent) {
+            return 1;
+        }
+        // R-3: "When its last child ends, it ends too on that child's worker,
+        // and so on upward; the answer shows where that stopped."
+        if self.is_returning(parent) {
+            return self.end(worker, parent);
+        }
         // "If the deque is empty, the parent is suspended and has no live
         // child left, the parent resumes on this worker, past its sync:
         // outcome 2."
-        let idle = self.deques[worker].is_empty();
-        if idle && self.is_suspended(parent) && !self.has_live_child(parent) {
-            self.resume(worker, parent);
-            return 2;
-        }
-        // "If the deque is empty otherwise, the worker is idle: outcome 1."
-        1
+        self.resume(worker, parent);
+        2
     }
 
     /// "Sync, steal and resumption alter none" of the lists.
@@ -316,8 +333,31 @@ impl Machine {
         self.frames.values().any(|f| f.parent == Some(frame))
     }
 
-    fn is_suspended(&self, frame: FrameId) -> bool {
+    pub fn is_suspended(&self, frame: FrameId) -> bool {
         self.frames.get(&frame).is_some_and(|f| f.suspended)
+    }
+
+    /// Does the frame wait as returning (R-3)?
+    pub fn is_returning(&self, frame: FrameId) -> bool {
+        self.frames.get(&frame).is_some_and(|f| f.returning)
+    }
+
+    /// The machine itself asks only whether there is one.
+    pub fn live_children(&self, frame: FrameId) -> usize {
+        let parents = self.frames.values().map(|f| f.parent);
+        parents.filter(|parent| *parent == Some(frame)).count()
+    }
+
+    pub fn parent(&self, frame: FrameId) -> Option<FrameId> {
+        self.frames[&frame].parent
+    }
+
+    pub fn live_frames(&self) -> usize {
+        self.frames.len()
+    }
+
+    pub fn deque_frames(&self, worker: usize) -> usize {
+        self.deques[worker].len()
     }
 
     /// The bottom frame of a worker's deque, none if the worker is idle.
@@ -334,6 +374,8 @@ impl Machine {
         self.frames.get_mut(&frame).expect("a live frame")
     }
 
+    /// R-3: "Main has returned once it has ended, with outcome 3, and not
+    /// while it waits."
     pub fn main_has_returned(&self) -> bool {
         !self.frames.contains_key(&MAIN)
     }

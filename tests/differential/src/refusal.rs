@@ -1,5 +1,6 @@
 //! The refusals, "Refused, in checking order". Numbers 5 and 6 cannot occur
-//! in splitrun: its work slice is long enough and its state is sound.
+//! in splitrun: its work slice is long enough and its state is sound. 14 no
+//! longer occurs (R-3 of document 02).
 
 #[derive(Clone, Copy, Debug, PartialEq, Eq)]
 pub enum Refusal {
@@ -25,8 +26,6 @@ pub enum Refusal {
     Victim = 12,
     /// "The step is a spawn and 64 frames live."
     TooManyFrames = 13,
-    /// "The step is a return and the frame has a live child."
-    LiveChild = 14,
     /// "The step is a read or a write and the splitter is not below n."
     Splitter = 15,
     /// The step is a write, and fewer nodes are free than "the rest of the

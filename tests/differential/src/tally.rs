@@ -1,7 +1,10 @@
 //! How often each accepted kind, outcome and refusal occurred, and each case
-//! of a write.
+//! of a write and of a chain of ends.
 
+use crate::machine::Machine;
+use crate::record::Record;
 use crate::sharing::Sharing;
+use crate::waiting::Waiting;
 use std::collections::BTreeMap;
 
 /// Each line that splitrun can show, by the words that tell it apart.
@@ -11,6 +14,7 @@ const EVENTS: [(&str, &str); 25] = [
     ("102 1", "return, outcome 1"),
     ("102 2", "return, outcome 2"),
     ("102 3", "return, outcome 3"),
+    ("102 4", "return, outcome 4"),
     ("103", "steal"),
     ("104 0", "sync, outcome 0"),
     ("104 1", "sync, outcome 1"),
@@ -28,7 +32,6 @@ const EVENTS: [(&str, &str); 25] = [
     ("11 0", "refusal 11"),
     ("12 0", "refusal 12"),
     ("13 0", "refusal 13"),
-    ("14 0", "refusal 14"),
     ("15 0", "refusal 15"),
     ("16 0", "refusal 16"),
 ];
@@ -37,6 +40,7 @@ const EVENTS: [(&str, &str); 25] = [
 pub struct Tally {
     counts: BTreeMap<String, usize>,
     pub sharing: Sharing,
+    pub waiting: Waiting,
 }
 
 impl Tally {
@@ -49,13 +53,20 @@ impl Tally {
         }
     }
 
+    /// Looks at a record that the copying machine is about to take.
+    pub fn see(&mut self, machine: &Machine, record: Record) {
+        self.sharing.see(machine, record);
+        self.waiting.see(machine, record);
+    }
+
     /// Every event and case by its name, with its count.
     fn rows(&self) -> Vec<(String, usize)> {
         let count = |key: &str| self.counts.get(key).copied().unwrap_or(0);
         let events = EVENTS
             .iter()
             .map(|(key, name)| (name.to_string(), count(key)));
-        events.chain(self.sharing.cases()).collect()
+        let cases = self.sharing.cases().into_iter().chain(self.waiting.cases());
+        events.chain(cases).collect()
     }
 }
 
@@ -69,10 +80,10 @@ fn event(line: &str) -> String {
 
 /// The table of both tallies, and the events and cases that one of them lacks.
 pub fn table(edges: &Tally, random: &Tally) -> (String, Vec<String>) {
-    let mut table = format!("{:24} {:>9} {:>9}\n", "", "edges", "random");
+    let mut table = format!("{:30} {:>9} {:>9}\n", "", "edges", "random");
     let mut missing = Vec::new();
     for ((name, in_edges), (_, in_random)) in edges.rows().into_iter().zip(random.rows()) {
-        table += &format!("{name:24} {in_edges:>9} {in_random:>9}\n");
+        table += &format!("{name:30} {in_edges:>9} {in_random:>9}\n");
         if in_edges == 0 || in_random == 0 {
             missing.push(name);
         }

@@ -72,23 +72,46 @@ fn compare(options: &Options) -> bool {
     if !edges_passed || !pieces_passed || !random_passed {
         return false;
     }
-    let (table, missing) = tally::table(&edge_tally, &random.tally);
+    let seen = events_seen(&edge_tally, &random.tally);
+    let waited = returns_waited(&random.tally);
+    let written = writes_at_every_n(&random.tally, options.runs);
+    seen && waited && written
+}
+
+/// Every event of the table occurred in both columns.
+fn events_seen(edges: &Tally, random: &Tally) -> bool {
+    let (table, missing) = tally::table(edges, random);
     print!("{table}");
     for event in &missing {
         println!("never seen in one of the columns: {event}");
     }
-    let (fewest, absent) = random.tally.sharing.at_every_n();
+    missing.is_empty()
+}
+
+/// Enough returns of the random runs waited, and chains of them ended.
+fn returns_waited(random: &Tally) -> bool {
+    let (line, met) = random.waiting.line();
+    println!("random: {line}");
+    if !met {
+        println!("too few returns wait, or a chain's stop was never seen in the random runs");
+    }
+    met
+}
+
+/// With runs enough, every case of a write occurred at every n.
+fn writes_at_every_n(random: &Tally, runs: u64) -> bool {
+    let (fewest, absent) = random.sharing.at_every_n();
     println!(
         "random: at n 1 to 40, 255 and 256, for each number of shared nodes on a write's path, \
          every case at least {fewest} times"
     );
-    if options.runs < ENOUGH_RUNS {
-        return missing.is_empty();
+    if runs < ENOUGH_RUNS {
+        return true;
     }
     for case in &absent {
         println!("never seen in the random runs: {case}");
     }
-    missing.is_empty() && absent.is_empty()
+    absent.is_empty()
 }
 
 /// PROGRAM's output if it is the expected one, byte for byte; else why not.
@@ -111,7 +134,7 @@ fn compare_edges(program: &Program, tally: &mut Tally) -> bool {
         match expect(program, &edge.input, &edge.expected) {
             Ok(output) => {
                 tally.add(&output);
-                let mut watch = |machine: &_, record| tally.sharing.see(machine, record);
+                let mut watch = |machine: &_, record| tally.see(machine, record);
                 splitrun::watched_output(&edge.input, Counting::Cached, &mut watch);
             }
             Err(reason) => {
@@ -151,6 +174,7 @@ struct RandomRuns<'a> {
     tally: Tally,
     records: usize,
     homes: usize,
+    waited: usize,
     too_long: usize,
 }
 
@@ -162,6 +186,7 @@ impl<'a> RandomRuns<'a> {
             tally: Tally::default(),
             records: 0,
             homes: 0,
+            waited: 0,
             too_long: 0,
         }
     }
@@ -178,15 +203,16 @@ impl<'a> RandomRuns<'a> {
         }
         println!(
             "random: {} runs, none failed; demand 3: Main returned in {} of them, with {} \
-             records, and their one-worker runs agree ({} too long to run)",
-            options.runs, self.homes, self.records, self.too_long
+             records and {} frames that waited, and their one-worker runs agree ({} too long to \
+             run)",
+            options.runs, self.homes, self.records, self.waited, self.too_long
         );
         true
     }
 
     fn compare_one(&mut self, seed: u64) -> Result<(), String> {
         let bytes = generate::input(seed);
-        let mut watch = |machine: &_, record| self.tally.sharing.see(machine, record);
+        let mut watch = |machine: &_, record| self.tally.see(machine, record);
         let expected = splitrun::watched_output(&bytes, self.counting, &mut watch);
         let output = expect(self.program, &bytes, &expected)?;
         self.tally.add(&output);
@@ -201,6 +227,7 @@ impl<'a> RandomRuns<'a> {
 
     fn see_demand_3(&mut self, input: &Input, output: &str) -> Result<(), String> {
         let run = Run::observe(input, output)?;
+        self.waited += run.waited();
         let Some(one_worker_input) = run.one_worker_input(input) else {
             self.too_long += 1;
             return Ok(());
