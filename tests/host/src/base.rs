@@ -3,6 +3,7 @@
 use crate::corrupt::Pair;
 use crate::plain::{self, State, SPAWN};
 use crate::random::Random;
+use crate::sketch::Sketch;
 use crate::steps::{self, Driver, StepWords};
 
 /// Mostly a small one.
@@ -31,9 +32,17 @@ pub fn played(splitters: usize, nodes: u32, random: &Random) -> Pair {
     match random.below(24) {
         0 | 1 => take(&mut pair, 64, homeward),
         2 => take(&mut pair, 64, |_| [SPAWN, 0, 0, 0]),
+        3 => wait_in_line(&mut pair, random),
         _ => {}
     }
     pair
+}
+
+/// Frames that wait one for the other.
+fn wait_in_line(pair: &mut Pair, random: &Random) {
+    let mut sketch = Sketch::new(pair.state.clone(), pair.pool.clone(), random);
+    sketch.line(random.pick(&[3, 10, 63]));
+    (pair.state, pair.pool) = (sketch.state, sketch.pool);
 }
 
 /// Goes on with so many steps.

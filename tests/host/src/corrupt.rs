@@ -45,7 +45,7 @@ const fn kind(name: &'static str, expected: Expected, share: usize, change: Chan
     }
 }
 
-pub const KINDS: [Kind; 56] = [
+pub const KINDS: [Kind; 60] = [
     kind("state word", Either, 120, words::state_word),
     kind("pool word", Either, 40, words::pool_word),
     kind("two words", Either, 10, words::two_words),
@@ -100,6 +100,10 @@ pub const KINDS: [Kind; 56] = [
     kind("second Main", Unsound, 5, frames::second_main),
     kind("child by hand", Either, 8, frames::child_by_hand),
     kind("flag over 1", Unsound, 5, frames::flag_over_1),
+    kind("returning awake", Unsound, 6, frames::returning_awake),
+    kind("returning over 1", Unsound, 6, frames::returning_over_1),
+    kind("free, returning", Unsound, 6, frames::free_place_returning),
+    kind("wait turned", Sound, 6, frames::wait_turned),
     kind("numbers moved", Either, 10, numbers::moved),
     kind("16,384 nodes", Either, 1, numbers::brink),
 ];

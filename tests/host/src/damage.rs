@@ -2,14 +2,16 @@
 #![allow(clippy::ptr_arg)] // every damage has the type Change
 
 use crate::corrupt::Pair;
-use crate::image::{self, BLOCK_BYTES, DATA_BYTES};
+use crate::image::{self, BLOCK_BYTES, DATA_BYTES, PER_VERSION, VERSION, WORKERS};
 use crate::parts::Parts;
-use crate::plain::MAX_NODES;
+use crate::plain::{FRAME_WORDS, MAX_FRAMES, MAX_NODES};
 use crate::random::Random;
 
-/// What a damaged image is made from.
+/// What a damaged image is made from: images of one version, but for the last.
 pub struct Source {
     pub image: Vec<u8>,
+    /// The same in the other version.
+    pub otherwise: Vec<u8>,
     /// Saved some steps earlier in the same run.
     pub older: Vec<u8>,
     /// Saved in another run.
@@ -37,7 +39,7 @@ const fn damage(name: &'static str, answers: &'static [u32], change: Change) -> 
 /// No images have more nodes than this, but where they record more than they have.
 pub const MOST_NODES: usize = MAX_NODES + 100;
 
-pub const DAMAGES: [Damage; 36] = [
+pub const DAMAGES: [Damage; 42] = [
     damage("none", &[0], |_, _, _| Some(())),
     damage("a bit", &[17, 18], bit),
     damage("a byte", &[17, 18], byte),
@@ -74,11 +76,17 @@ pub const DAMAGES: [Damage; 36] = [
     damage("rest not zero", &[18], rest_not_zero),
     damage("big-endian", &[], big_endian),
     damage("no checks", &[17, 18], no_checks),
+    damage("other version", &[0], other_version),
+    damage("first word", &[0, 6, 17, 18], first_word),
+    damage("first word, no version", &[17], first_word_of_no_version),
+    damage("version lied", &[6, 17, 18], version_lied),
+    damage("version lied, fitting", &[6], version_lied_fitting),
+    damage("a seventh word", &[0, 6], seventh_word),
 ];
 
-/// The image of a pair, sound or not: of as many nodes as it records, zero where the pool has none. Of the pool's nodes, if it records
-/// far too many.
-pub fn image_of(pair: &Pair) -> Vec<u8> {
+/// The image of a pair, sound or not, in version 0 or 1: of as many nodes as it records, zero where the pool has none. Of the pool's nodes,
+/// if it records far too many.
+pub fn image_of(pair: &Pair, version: u32) -> Vec<u8> {
     let recorded = pair.state.nodes as usize;
     let nodes = if recorded <= MOST_NODES {
         recorded
@@ -86,13 +94,16 @@ pub fn image_of(pair: &Pair) -> Vec<u8> {
         pair.pool.len() / 4
     };
     let state = Parts::of(&pair.state);
-    let words = state.each().into_iter().flatten();
-    let mut image = vec![0; image::bytes(nodes as u32) as usize];
-    image::put(
-        words.chain(pair.pool.iter().take(4 * nodes)).copied(),
-        &mut image,
-    );
+    let there = pair.pool.len().min(4 * nodes);
+    let words = image::image_words(version, &state, &pair.pool[..there]);
+    let mut image = vec![0; image::bytes_of(version, nodes as u32) as usize];
+    image::put(words, &mut image);
     image
+}
+
+/// The version that an image says, the present one if it says none that is readable.
+fn version(image: &[u8]) -> u32 {
+    image::version(image).unwrap_or(VERSION)
 }
 
 fn blocks(image: &[u8]) -> usize {
@@ -297,8 +308,10 @@ fn garbage(image: &mut Vec<u8>, _: &Source, random: &Random) -> Option<()> {
 
 /// Random bytes, but just as many blocks as they call for.
 fn garbage_called_for(image: &mut Vec<u8>, _: &Source, random: &Random) -> Option<()> {
-    let nodes = random.word_below(200);
-    *image = random_bytes(image::bytes(nodes) as usize, random);
+    let (version, nodes) = (version(image), random.word_below(200));
+    *image = random_bytes(image::bytes_of(version, nodes) as usize, random);
+    let workers = random.word_below(random.pick(&[9, PER_VERSION]));
+    image::set_word(image, WORKERS, workers + version * PER_VERSION);
     image::set_word(image, image::NODES, nodes);
     Some(())
 }
@@ -314,7 +327,8 @@ fn garbage_checked(image: &mut Vec<u8>, source: &Source, random: &Random) -> Opt
 
 /// Zeros in the words after the recorded nodes.
 fn clear_rest(image: &mut [u8]) {
-    let first = image::recorded(image).map_or(0, image::words) as usize;
+    let of_version = |nodes| image::words_of(version(image), nodes);
+    let first = image::recorded(image).map_or(0, of_version) as usize;
     for word in first..blocks(image) * 127 {
         image::set_word(image, word, 0);
     }
@@ -371,9 +385,10 @@ fn nodes_lied_wildly(image: &mut Vec<u8>, _: &Source, random: &Random) -> Option
 
 /// A few blocks, and a number of nodes that calls for as many if its words are counted modulo 2^32.
 fn nodes_wrapped(image: &mut Vec<u8>, _: &Source, random: &Random) -> Option<()> {
-    let words = 1 + 4 * random.word_below(227);
+    let state = image::words_of(version(image), 0) as u32; // 909 or 973: one more than a multiple of four
+    let words = 1 + 4 * random.word_below(state / 4);
     let quarter = random.word_below(4) << 30;
-    let nodes = (words.wrapping_sub(909) / 4).wrapping_add(quarter);
+    let nodes = (words.wrapping_sub(state) / 4).wrapping_add(quarter);
     image.resize(words.div_ceil(127) as usize * BLOCK_BYTES, 0);
     record(image, nodes)
 }
@@ -382,7 +397,7 @@ fn nodes_wrapped(image: &mut Vec<u8>, _: &Source, random: &Random) -> Option<()>
 fn nodes_fewer(image: &mut Vec<u8>, _: &Source, random: &Random) -> Option<()> {
     let old = image::recorded(image).filter(|&nodes| nodes > 0)?;
     let nodes = random.pick(&[0, old - 1, random.word_below(old)]);
-    image.truncate(image::bytes(nodes) as usize);
+    image.truncate(image::bytes_of(version(image), nodes) as usize);
     image::set_word(image, image::NODES, nodes);
     clear_rest(image);
     image::repair(image);
@@ -396,11 +411,12 @@ fn nodes_more(image: &mut Vec<u8>, _: &Source, random: &Random) -> Option<()> {
         0 => MAX_NODES as u32 + random.word_below(2),
         _ => (old + 1 + random.word_below(40)).min(MOST_NODES as u32),
     };
-    let length = image::bytes(nodes) as usize;
+    let version = version(image);
+    let length = image::bytes_of(version, nodes) as usize;
     image.resize(length.max(image.len()), 0);
     if random.one_in(2) {
-        let new = image::words(old.min(nodes))..image::words(nodes);
-        new.for_each(|word| image::set_word(image, word as usize, random.word()));
+        let [from, to] = [old.min(nodes), nodes].map(|nodes| image::words_of(version, nodes));
+        (from..to).for_each(|word| image::set_word(image, word as usize, random.word()));
     }
     image.truncate(length);
     record(image, nodes)
@@ -431,7 +447,7 @@ fn words_swapped(image: &mut Vec<u8>, _: &Source, random: &Random) -> Option<()>
 }
 
 fn rest_not_zero(image: &mut Vec<u8>, _: &Source, random: &Random) -> Option<()> {
-    let first = image::words(image::recorded(image)?) as usize;
+    let first = image::words_of(version(image), image::recorded(image)?) as usize;
     let rest = (blocks(image) * 127).checked_sub(first)?;
     let word = first + (rest > 0).then(|| random.below(rest))?;
     image::set_word(image, word, 1 << random.below(32));
@@ -460,5 +476,80 @@ fn no_checks(image: &mut Vec<u8>, _: &Source, _: &Random) -> Option<()> {
     let length = image.len();
     *image = image::get(image).flat_map(u32::to_le_bytes).collect();
     image.resize(length, 0);
+    Some(())
+}
+
+fn other_version(image: &mut Vec<u8>, source: &Source, _: &Random) -> Option<()> {
+    image.clone_from(&source.otherwise);
+    Some(())
+}
+
+/// Another first word, with the checks right.
+fn set_first(image: &mut [u8], first: u32) -> Option<()> {
+    let old = image::get(image).nth(WORKERS)?;
+    image::set_word(image, WORKERS, first);
+    image::repair(image);
+    (first != old).then_some(())
+}
+
+fn first_word(image: &mut Vec<u8>, _: &Source, random: &Random) -> Option<()> {
+    let near = random.pick(&[0, PER_VERSION]) + random.word_below(12);
+    let edges = [0, 8, 9, 255, 256, 264, 265, 511, 512, 1 << 31, near, near];
+    set_first(image, random.pick(&edges))
+}
+
+/// The versions to come, and words that are none.
+fn first_word_of_no_version(image: &mut Vec<u8>, _: &Source, random: &Random) -> Option<()> {
+    let old = image::get(image).nth(WORKERS)?;
+    let workers = old % PER_VERSION;
+    let words = [
+        512,
+        512 + workers,
+        768 + workers,
+        65_536 + old,
+        old.swap_bytes(),
+        1 << 31,
+        1 << 31 | old,
+        u32::MAX,
+        512 | random.word(),
+    ];
+    let word = random.pick(&words);
+    (word >= 2 * PER_VERSION).then_some(())?;
+    set_first(image, word)
+}
+
+/// The other version's first word before what the image has.
+fn version_lied(image: &mut Vec<u8>, _: &Source, _: &Random) -> Option<()> {
+    let old = image::get(image).nth(WORKERS)?;
+    set_first(image, old ^ PER_VERSION)
+}
+
+/// The same, and the length as the other version calls for.
+fn version_lied_fitting(image: &mut Vec<u8>, source: &Source, random: &Random) -> Option<()> {
+    version_lied(image, source, random)?;
+    let nodes = image::recorded(image).filter(|&nodes| nodes as usize <= MOST_NODES)?;
+    image.resize(image::bytes_of(version(image), nodes) as usize, 0);
+    clear_rest(image);
+    image::repair(image);
+    Some(())
+}
+
+/// The last word of a frame record, with the checks right.
+fn seventh_word(image: &mut Vec<u8>, _: &Source, random: &Random) -> Option<()> {
+    if version(image) == 0 {
+        return None;
+    }
+    let records = image::words_of(VERSION, 0) as usize - MAX_FRAMES * FRAME_WORDS;
+    let words: Vec<u32> = image::get(image).collect();
+    let suspended = |place: &usize| words.get(records + place * FRAME_WORDS + 4) == Some(&1);
+    let any = random.below(MAX_FRAMES);
+    let place = match random.below(3) {
+        0 => any,
+        _ => random.some(&(0..MAX_FRAMES).filter(suspended).collect::<Vec<_>>())?,
+    };
+    let word = records + place * FRAME_WORDS + FRAME_WORDS - 1;
+    let new = [words.get(word)? ^ 1, 1, 2, 3, 256, 1 << 31, u32::MAX];
+    image::set_word(image, word, random.pick(&new));
+    image::repair(image);
     Some(())
 }

@@ -1,35 +1,54 @@
-//! R-1's image in plain Rust: what a save writes and what a reading accepts, refuses and leaves. Written from documents 01 and 02 alone.
+//! R-1's image, as R-3 changes it, in plain Rust: what a save writes and what a reading accepts, refuses and leaves. Written from documents
+//! 01 and 02 alone.
 
+#[cfg(test)]
+mod before;
 pub mod literal;
 #[cfg(test)]
 mod tests;
 
 use crate::call::BAD_STATE;
 use crate::parts::Parts;
-use crate::plain::{self, Refusal, STATE_WORDS};
+use crate::plain::{self, Refusal, DEQUES_WORDS, FRAME_WORDS, MAX_FRAMES, NUMBERS_WORDS};
 
 pub const BLOCK_BYTES: usize = 512;
 /// A block's bytes of data; the check follows them.
 pub const DATA_BYTES: usize = 508;
 const DATA_WORDS: u64 = 127;
-/// The word of the recorded nodes.
+/// The words of the workers, with the version, and of the recorded nodes.
+pub const WORKERS: usize = 0;
 pub const NODES: usize = 2;
+/// The first word has the version times this added.
+pub const PER_VERSION: u32 = 256;
+/// The version that a save writes. A reading takes it and 0, the one from before R-3, whose frame records have a word less.
+pub const VERSION: u32 = 1;
 
-/// The image is not just as many whole blocks as its first block calls for, or has no whole block.
+/// The image is not just as many whole blocks as its first block calls for, has no whole block, or a first word of no readable form.
 pub const NOT_ITS_BLOCKS: u32 = 17;
 /// A check is wrong or the rest of the last block is not zero.
 pub const WRONG_CHECK: u32 = 18;
 /// The target is too short.
 pub const SHORT_TARGET: u32 = 19;
 
+/// The words of a frame record in an image of this version, 0 or 1.
+pub fn record_words(version: u32) -> usize {
+    FRAME_WORDS - usize::from(version == 0)
+}
+
 /// The words of an image of so many nodes: the state's, then four for each node.
-pub fn words(nodes: u32) -> u64 {
-    STATE_WORDS as u64 + 4 * u64::from(nodes)
+pub fn words_of(version: u32, nodes: u32) -> u64 {
+    let state = NUMBERS_WORDS + DEQUES_WORDS + MAX_FRAMES * record_words(version);
+    state as u64 + 4 * u64::from(nodes)
 }
 
 /// The bytes of an image of so many nodes, any number.
+pub fn bytes_of(version: u32, nodes: u32) -> u64 {
+    words_of(version, nodes).div_ceil(DATA_WORDS) * BLOCK_BYTES as u64
+}
+
+/// The same for an image that a save writes.
 pub fn bytes(nodes: u32) -> u64 {
-    words(nodes).div_ceil(DATA_WORDS) * BLOCK_BYTES as u64
+    bytes_of(VERSION, nodes)
 }
 
 /// The sum of each byte times 256 raised to its offset modulo 4.
@@ -70,6 +89,25 @@ pub fn recorded(image: &[u8]) -> Option<u32> {
     get(image).nth(NODES)
 }
 
+/// The version, if there is a whole block and its first word is of a readable form.
+pub fn version(image: &[u8]) -> Option<u32> {
+    let version = get(image).nth(WORKERS)? / PER_VERSION;
+    (version <= VERSION).then_some(version)
+}
+
+/// The words of an image of this version, 0 or 1, from those of a state and its nodes. A record loses its last word in version 0.
+pub fn image_words<'a>(
+    version: u32,
+    state: &'a Parts,
+    nodes: &'a [u32],
+) -> impl Iterator<Item = u32> + 'a {
+    let first = state.numbers[WORKERS].wrapping_add(version * PER_VERSION);
+    let records = state.frames.chunks(FRAME_WORDS);
+    let frames = records.flat_map(move |record| &record[..record_words(version)]);
+    let others = state.numbers[1..].iter().chain(&state.deques);
+    std::iter::once(first).chain(others.chain(frames).chain(nodes).copied())
+}
+
 /// 0 with the image in the front of the target, or 99, 5, 6, 19.
 pub fn save(state: &Parts, pool: &[u32], work: &mut [u32], target: &mut [u8]) -> u32 {
     let Some(typed) = state.state() else {
@@ -84,8 +122,7 @@ pub fn save(state: &Parts, pool: &[u32], work: &mut [u32], target: &mut [u8]) ->
     }
     match target.get_mut(..bytes(typed.nodes) as usize) {
         Some(front) => {
-            let state = state.each().into_iter().flatten();
-            put(state.chain(&pool[..4 * nodes]).copied(), front);
+            put(image_words(VERSION, state, &pool[..4 * nodes]), front);
             0
         }
         None => SHORT_TARGET,
@@ -107,23 +144,20 @@ pub fn load(state: &mut Parts, pool: &mut [u32], work: &mut [u32], image: &[u8])
 }
 
 fn take(state: &mut Parts, pool: &mut [u32], work: &mut [u32], image: &[u8]) -> u32 {
-    let Some(nodes) = recorded(image).filter(|&nodes| bytes(nodes) == image.len() as u64) else {
+    let Some((version, nodes)) = version(image).zip(recorded(image)) else {
         return NOT_ITS_BLOCKS;
     };
-    if !checks_right(image) || get(image).skip(words(nodes) as usize).any(|word| word != 0) {
+    if bytes_of(version, nodes) != image.len() as u64 {
+        return NOT_ITS_BLOCKS;
+    }
+    let mut rest = get(image).skip(words_of(version, nodes) as usize);
+    if !checks_right(image) || rest.any(|word| word != 0) {
         return WRONG_CHECK;
     }
     if work.len() < nodes as usize {
         return Refusal::ShortWork as u32;
     }
-    let mut words = get(image);
-    for part in state.each_mut() {
-        part.fill_with(|| words.next().unwrap_or(0));
-    }
-    // a pool with fewer nodes stays as it is here: the count alone makes it unsound
-    if let Some(front) = pool.get_mut(..4 * nodes as usize) {
-        front.fill_with(|| words.next().unwrap_or(0));
-    }
+    read(version, nodes as usize, state, pool, image);
     let sound = state
         .state()
         .and_then(|state| plain::sound(&state, pool, work));
@@ -133,6 +167,24 @@ fn take(state: &mut Parts, pool: &mut [u32], work: &mut [u32], image: &[u8]) -> 
         return Refusal::Unsound as u32;
     }
     0
+}
+
+/// The words of the image in state and pool; the last word of a record is 0 in version 0. A pool with fewer nodes stays as it is: the count
+/// alone makes it unsound.
+fn read(version: u32, nodes: usize, state: &mut Parts, pool: &mut [u32], image: &[u8]) {
+    let mut words = get(image);
+    let mut fill = |part: &mut [u32]| part.fill_with(|| words.next().unwrap_or(0));
+    fill(&mut state.numbers);
+    fill(&mut state.deques);
+    state.numbers[WORKERS] -= version * PER_VERSION;
+    for record in state.frames.chunks_mut(FRAME_WORDS) {
+        let (there, absent) = record.split_at_mut(record_words(version));
+        fill(there);
+        absent.fill(0);
+    }
+    if let Some(front) = pool.get_mut(..4 * nodes) {
+        fill(front);
+    }
 }
 
 fn checks_right(image: &[u8]) -> bool {

@@ -6,10 +6,11 @@ use crate::corrupt::{self, Expected, Pair, KINDS};
 use crate::damage::{self, Source, DAMAGES, MOST_NODES};
 use crate::image::{self, SHORT_TARGET};
 use crate::parts::Parts;
-use crate::plain::{self, Refusal, MAX_NODES, SPAWN};
+use crate::plain::{self, Refusal, State, MAX_NODES, SPAWN};
 use crate::random::Random;
 use crate::sentences;
 use crate::session::{Failure, Session};
+use crate::sketch::Sketch;
 use crate::soundness::expect;
 use crate::steps;
 use std::collections::BTreeMap;
@@ -31,6 +32,9 @@ pub type Answers = BTreeMap<u32, u64>;
 pub struct Counts {
     pub saves: Answers,
     pub loads: Answers,
+    /// Images with frames that wait as returning, read back and gone on with until Main ended; the frames ended by one return, at most.
+    pub waiting: u64,
+    pub longest: usize,
     /// Readings of damaged images, by the damage and by the kind of the corrupted pair they were made from.
     pub damages: BTreeMap<usize, Answers>,
     pub kinds: BTreeMap<usize, Answers>,
@@ -49,6 +53,9 @@ impl Counts {
         if let Some(number) = seldom(&self.loads, &OF_LOADS) {
             return Some(format!("a load seldom answered {number}"));
         }
+        if self.waiting < OFTEN || self.longest < 3 {
+            return Some("images with waiting frames were seldom met".to_string());
+        }
         let damage = (0..DAMAGES.len()).find(|damage| !self.damages.contains_key(damage));
         let kind = (0..KINDS.len()).find(|kind| !self.kinds.contains_key(kind));
         damage
@@ -66,6 +73,10 @@ impl Counts {
         let mut lines = vec![
             format!("saves: {}", answers(&self.saves)),
             format!("loads: {}", answers(&self.loads)),
+            format!(
+                "images with waiting frames, gone on with until Main ended: {}; one return ended at most {} frames",
+                self.waiting, self.longest
+            ),
         ];
         for (&damage, met) in &self.damages {
             lines.push(format!("  {:24}{}", DAMAGES[damage].name, answers(met)));
@@ -90,7 +101,7 @@ pub fn compare_sizes() -> Result<(), Failure> {
     let wraps = (0..=128).map(|times: u32| times.wrapping_mul(127 << 18));
     let mut sizes = (0..=MOST_NODES as u32)
         .chain(powers)
-        .chain(wraps.flat_map(|nodes| [nodes, nodes.wrapping_sub(228), nodes.wrapping_sub(227)]))
+        .chain(wraps.flat_map(|nodes| [0, 227, 228, 243, 244].map(|less| nodes.wrapping_sub(less))))
         .chain([u32::MAX - 1, u32::MAX]);
     let wrong = sizes.find(|&nodes| {
         let bytes = image::bytes(nodes);
@@ -120,6 +131,9 @@ pub fn image(seed: u64, session: &mut Session, counts: &mut Counts) -> Result<()
     count(&mut counts.loads, &loaded);
     expect_read(&pair, &load, &loaded)?;
     let last = go_on(&pair, &loaded, &random, session)?;
+    if pair.state.frames.iter().any(|frame| frame.returning == 1) {
+        go_home(&loaded, &random, session, counts)?;
+    }
     let again = Call {
         state: last.state,
         pool: last.pool,
@@ -138,8 +152,8 @@ fn pair(random: &Random) -> Pair {
             base::played(splitters, (MAX_NODES - random.below(3)) as u32, random)
         }
         1..100 => {
-            // 122 nodes fill 11 blocks, and 127 nodes four more
-            let nodes = 121 + random.word_below(4) + 127 * random.word_below(3);
+            // 106 nodes fill 11 blocks, and 127 nodes four more
+            let nodes = 105 + random.word_below(4) + 127 * random.word_below(3);
             base::played(1 + random.below(50), nodes, random)
         }
         _ => base::any(random),
@@ -278,6 +292,42 @@ fn go_on(
     })
 }
 
+/// From what was read, as many returns as bring Main's end; then every node is free.
+fn go_home(
+    loaded: &Outcome,
+    random: &Random,
+    session: &mut Session,
+    counts: &mut Counts,
+) -> Result<(), Failure> {
+    let Some(state) = loaded.state.state() else {
+        return Err("a part of another length was read".to_string());
+    };
+    let live = |state: &State| state.frames.iter().filter(|frame| frame.live == 1).count();
+    let mut sketch = Sketch::new(state, loaded.pool.clone(), random);
+    while sketch.state.main_lives() {
+        let before = live(&sketch.state);
+        let accepted = sketch.push(steps::homeward(&sketch.state));
+        expect(accepted, "a return of the deepest frame was refused")?;
+        counts.longest = counts.longest.max(before - live(&sketch.state));
+    }
+    let bytes = sketch.bytes();
+    let nodes = sketch.state.nodes;
+    let answers = bytes.len() / plain::RECORD_BYTES * 2;
+    let after = session.both(&Call {
+        state: loaded.state.clone(),
+        pool: loaded.pool.clone(),
+        work: random.words(nodes as usize),
+        entry: Entry::Tape {
+            answers: random.words(answers),
+            bytes,
+        },
+    })?;
+    counts.waiting += 1;
+    expect(after.answers.ends_with(&[102, 3]), "Main has not ended")?;
+    let ended = after.state.state().is_some_and(|state| !state.main_lives());
+    expect(ended && sketch.free_nodes == nodes, "a node is not free")
+}
+
 /// Up to PER_SEED damaged images from one base.
 pub fn group(
     seed: u64,
@@ -287,17 +337,19 @@ pub fn group(
 ) -> Result<(), Failure> {
     let random = Random::new(!seed ^ 0x1333_5777);
     let mut pair = base::any(&random);
-    let older = damage::image_of(&pair);
+    let version = u32::from(!random.one_in(4));
+    let older = damage::image_of(&pair, version);
     base::play(&mut pair, random.below(30), &random);
     let source = Source {
-        image: damage::image_of(&pair),
+        image: damage::image_of(&pair, version),
+        otherwise: damage::image_of(&pair, 1 - version),
         older,
-        other: damage::image_of(&base::any(&random)),
+        other: damage::image_of(&base::any(&random), version),
     };
     let mut read = 0;
     while read < images.min(PER_SEED) {
         let made = if random.one_in(3) {
-            corrupted(&pair, &random)
+            corrupted(&pair, version, &random)
         } else {
             damaged(&source, &random)
         };
@@ -317,20 +369,21 @@ struct Made {
     answers: &'static [u32],
 }
 
-/// The image of a corrupted pair.
-fn corrupted(pair: &Pair, random: &Random) -> Option<Made> {
+/// The image of a corrupted pair. Version 0 has no seventh words: without them, what was unsound may be sound.
+fn corrupted(pair: &Pair, version: u32, random: &Random) -> Option<Made> {
     let mut pair = pair.clone();
     pair.turn = random.below(plain::STATE_WORDS);
     let kind = corrupt::choose(random);
     (KINDS[kind].change)(&mut pair, random)?;
     let cut = KINDS[kind].name == "pool cut off"; // an image has all its nodes
+    let lost = version == 0 && pair.state.frames.iter().any(|frame| frame.returning != 0);
     Some(Made {
-        image: damage::image_of(&pair),
+        image: damage::image_of(&pair, version),
         damage: None,
         kind: Some(kind),
         answers: match KINDS[kind].expected {
             Expected::Sound => &[0],
-            Expected::Unsound if !cut => &[6],
+            Expected::Unsound if !cut && !lost => &[6],
             _ => &[],
         },
     })

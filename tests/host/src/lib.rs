@@ -19,6 +19,7 @@ pub mod sketch;
 pub mod soundness;
 pub mod steps;
 pub mod tally;
+pub mod waits;
 
 #[cfg(test)]
 mod tests;

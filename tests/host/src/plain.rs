@@ -1,6 +1,7 @@
-//! Document 01's engine, with R-2 of document 02, in plain, fast, safe Rust: copying of what is shared of a path, reference counts, free
-//! lists, recursive release. Written from the documents alone. It is what the library is compared with, and the peer it is timed
-//! against: what a tape and a single step share is inlined in both, so that each is as fast as if the other were not there.
+//! Document 01's engine, with of document 02, in plain, fast, safe Rust: copying of what is shared of a path, reference
+//! counts, free lists, recursive release, returns that wait. Written from the documents alone. It is what the library is compared with,
+//! and the peer it is timed against: what a tape and a single step share is inlined in both, so that each is as fast as if the other
+//! were not there.
 
 use std::array;
 
@@ -11,7 +12,7 @@ pub const MAX_SPLITTERS: usize = 256;
 pub const MAX_NODES: usize = 16_384;
 
 const DEQUE_WORDS: usize = 1 + MAX_FRAMES;
-const FRAME_WORDS: usize = 6;
+pub const FRAME_WORDS: usize = 7;
 pub const NUMBERS_WORDS: usize = 5;
 pub const DEQUES_WORDS: usize = MAX_WORKERS * DEQUE_WORDS;
 pub const FRAMES_WORDS: usize = MAX_FRAMES * FRAME_WORDS;
@@ -32,7 +33,7 @@ pub const SYNC: u32 = 4;
 pub const READ: u32 = 5;
 pub const WRITE: u32 = 6;
 
-/// Document 01's refusals, with their numbers.
+/// The documents' refusals, with their numbers; 14 no longer occurs.
 #[derive(Clone, Copy, Debug, PartialEq, Eq)]
 #[repr(u32)]
 pub enum Refusal {
@@ -49,13 +50,14 @@ pub enum Refusal {
     ThiefBusy,
     NoVictim,
     FramesFull,
-    ChildLives,
-    NoSplitter,
+    NoSplitter = 15,
     PoolFull,
 }
 
-/// A frame place. `parent` of a free place is the next free place, or none.
+/// A frame place. `parent` of a free place is the next free place, or none. `returning` is 1 on a suspended frame that ends with its last
+/// child, else 0. In memory it takes eight words, so that a place is found by a shift.
 #[derive(Clone, Copy, Debug, Default, PartialEq, Eq)]
+#[repr(align(16))]
 pub struct Frame {
     pub live: u32,
     pub parent: u32,
@@ -63,6 +65,7 @@ pub struct Frame {
     pub outstanding: u32,
     pub suspended: u32,
     pub root: u32,
+    pub returning: u32,
 }
 
 impl Frame {
@@ -141,7 +144,7 @@ impl State {
     }
 }
 
-/// The state's words in R-1's order: the five numbers, the deques, the frame records.
+/// The state's words in the image's order: the five numbers, the deques, the frame records.
 #[derive(Clone, Debug, PartialEq, Eq)]
 pub struct Words {
     pub numbers: [u32; NUMBERS_WORDS],
@@ -175,6 +178,7 @@ pub fn to_words(state: &State) -> Words {
             f.outstanding,
             f.suspended,
             f.root,
+            f.returning,
         ]);
     }
     words
@@ -204,6 +208,7 @@ pub fn from_words(words: &Words) -> State {
                 outstanding: words[3],
                 suspended: words[4],
                 root: words[5],
+                returning: words[6],
             }
         }),
     }
@@ -446,6 +451,7 @@ impl<'a> Engine<'a> {
             outstanding: 0,
             suspended: 0,
             root: parent.root,
+            returning: 0,
         };
         self.retain(child.root);
         self.state.vacant = self.state.frames[place as usize].parent;
@@ -454,34 +460,70 @@ impl<'a> Engine<'a> {
         Ok(child.depth)
     }
 
-    /// A return's outcome.
+    /// A return's outcome. A bottom frame with a live child is alone in its deque.
     #[inline(always)]
     fn end(&mut self, worker: u32) -> Result<u32, Refusal> {
         let bottom = self.bottom(worker)?;
         let frame = self.state.frames[bottom];
+        self.state.deques[worker as usize].pop();
         if frame.outstanding > 0 {
-            return Err(Refusal::ChildLives);
+            self.state.frames[bottom].suspended = 1;
+            self.state.frames[bottom].returning = 1;
+            return Ok(4);
         }
-        self.state.frames[bottom] = Frame::vacant(self.state.vacant);
-        self.state.vacant = bottom as u32;
-        self.release(frame.root);
-        let deque = &mut self.state.deques[worker as usize];
-        deque.pop();
+        self.vacate(bottom as u32, frame.root);
         if frame.parent == NONE {
             self.main_lives = false;
             return Ok(3);
         }
         let parent = &mut self.state.frames[frame.parent as usize];
         parent.outstanding -= 1;
+        let deque = &mut self.state.deques[worker as usize];
         if deque.length > 0 {
             return Ok(0);
         }
         if parent.suspended == 0 || parent.outstanding > 0 {
             return Ok(1);
         }
+        if parent.returning == 1 {
+            return Ok(self.end_waiting(worker, frame.parent));
+        }
         parent.suspended = 0;
         deque.push(frame.parent);
         Ok(2)
+    }
+
+    /// Frees the place of a frame that has ended, and releases its tree.
+    #[inline(always)]
+    fn vacate(&mut self, place: u32, root: u32) {
+        self.state.frames[place as usize] = Frame::vacant(self.state.vacant);
+        self.state.vacant = place;
+        self.release(root);
+    }
+
+    /// Ends frames that wait as returning, from this one upward, each after its last child; the worker's deque is empty.
+    #[cold]
+    #[inline(never)]
+    fn end_waiting(&mut self, worker: u32, mut ending: u32) -> u32 {
+        loop {
+            let Frame { parent, root, .. } = self.state.frames[ending as usize];
+            self.vacate(ending, root);
+            if parent == NONE {
+                self.main_lives = false;
+                return 3;
+            }
+            let above = &mut self.state.frames[parent as usize];
+            above.outstanding -= 1;
+            if above.suspended == 0 || above.outstanding > 0 {
+                return 1;
+            }
+            if above.returning == 0 {
+                above.suspended = 0;
+                self.state.deques[worker as usize].push(parent);
+                return 2;
+            }
+            ending = parent;
+        }
     }
 
     /// The stolen frame's depth.
@@ -694,8 +736,8 @@ fn live_frames_sound(state: &State, queued: u64) -> bool {
     for (number, frame) in state.frames.iter().enumerate() {
         match (frame.live, frame.suspended, queued >> number & 1) {
             (0, _, _) => continue,
-            (1, 0, 1) => {}
-            (1, 1, 0) if frame.outstanding > 0 => {}
+            (1, 0, 1) if frame.returning == 0 => {}
+            (1, 1, 0) if frame.outstanding > 0 && frame.returning <= 1 => {}
             _ => return false,
         }
         live += 1;

@@ -14,13 +14,13 @@ const POOL_FULL: u32 = Refusal::PoolFull as u32;
 const WRITTEN: u32 = 106;
 const SIZES: [usize; 12] = [1, 2, 3, 5, 7, 8, 16, 31, 64, 100, 255, 256];
 
-/// The run of one seed: one of four is aimed at R-2's cases.
+/// The run of one seed: three of twelve are aimed at R-2's cases, two at R-3's.
 pub fn run(seed: u64, session: &mut Session) -> Result<(), Failure> {
     let random = Random::new(seed);
-    if random.one_in(4) {
-        aimed(random, session)
-    } else {
-        mixed(random, session)
+    match random.below(12) {
+        0..3 => aimed(random, session),
+        3 | 4 => chained(random, session),
+        _ => mixed(random, session),
     }
 }
 
@@ -64,6 +64,45 @@ fn aimed(random: Random, session: &mut Session) -> Result<(), Failure> {
         }
     }
     run.end(session)
+}
+
+/// Lines of frames that wait one for the other, and the returns that end them.
+fn chained(random: Random, session: &mut Session) -> Result<(), Failure> {
+    let Some(mut run) = Run::begin(starting_wide(&random), random, session)? else {
+        return Ok(());
+    };
+    for _ in 0..1 + run.random.below(6) {
+        run.vary_pool();
+        let draw = |sketch: &mut Sketch, driver: &mut Driver, random: &Random| {
+            for _ in 0..random.below(12) {
+                sketch.push(driver.next(&sketch.state, random));
+            }
+            sketch.chain(random.pick(&[1, 2, 3, 4, 7, 20, 63]));
+        };
+        if run.random.one_in(4) {
+            run.make_steps(session, draw)?;
+        } else {
+            run.make_tape(session, draw)?;
+        }
+    }
+    run.end(session)
+}
+
+/// A start with two workers or more and room for a path in each frame.
+fn starting_wide(random: &Random) -> Call {
+    let splitters = random.pick(&SIZES);
+    let path = plain::height(splitters as u32) as usize + 1;
+    let nodes = plain::tree_nodes(splitters as u32) as usize + random.below(70) * path;
+    let pool_words = 4 * nodes + random.below(4);
+    Call {
+        state: Parts::garbage(random),
+        pool: random.words(pool_words),
+        work: Vec::new(),
+        entry: Entry::Start {
+            workers: 2 + random.word_below(7),
+            values: random.words(splitters),
+        },
+    }
 }
 
 /// A start with the tree and a few paths in the pool, or with just room for a few large trees.
@@ -170,6 +209,7 @@ impl Run {
         if matches!(after.result[0], 0 | POOL_FULL | WRITTEN) {
             cases.iter().for_each(|case| session.sharing.add(case));
         }
+        session.waits.add(call, &after);
         self.adopt(after)
     }
 

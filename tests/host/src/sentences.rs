@@ -1,5 +1,6 @@
-//! Document 01's "Soundness", sentence by sentence, over the words of a state and a pool: for clarity, not for speed. It shares nothing
-//! with plain.rs. Every sentence can be asked of every state, so that one can tell which ones are broken.
+//! Document 01's "Soundness", with what of document 02 ask, sentence by sentence, over the words of a state and a pool: for
+//! clarity, not for speed. It shares nothing with plain.rs. Every sentence can be asked of every state, so that one can tell which ones are
+//! broken.
 
 use crate::parts::Parts;
 use std::collections::{HashMap, HashSet};
@@ -7,9 +8,9 @@ use std::collections::{HashMap, HashSet};
 const NONE: u32 = 4_294_967_295;
 const FRAMES: usize = 64;
 
-/// R-1's layout: 5 numbers, 8 deques of 65 words, 64 frame records of 6 words.
+/// R-1's layout with R-3's word: 5 numbers, 8 deques of 65 words, 64 frame records of 7 words.
 const DEQUE_WORDS: usize = 65;
-const FRAME_WORDS: usize = 6;
+const FRAME_WORDS: usize = 7;
 
 /// A sentence and what it asks.
 pub struct Sentence {
@@ -17,7 +18,7 @@ pub struct Sentence {
     holds: fn(&Pair) -> bool,
 }
 
-pub const SENTENCES: [Sentence; 18] = [
+pub const SENTENCES: [Sentence; 19] = [
     Sentence {
         text: "workers are 1 to 8",
         holds: workers_are_1_to_8,
@@ -33,6 +34,10 @@ pub const SENTENCES: [Sentence; 18] = [
     Sentence {
         text: "live and suspended are 0 or 1",
         holds: flags_are_0_or_1,
+    },
+    Sentence {
+        text: "returning is 1 on a suspended frame that waits so, else 0",
+        holds: returning_is_1_or_0,
     },
     Sentence {
         text: "a deque has 64 places",
@@ -107,6 +112,7 @@ struct Frame {
     outstanding: u32,
     suspended: u32,
     root: u32,
+    returning: u32,
 }
 
 struct Node {
@@ -210,6 +216,7 @@ fn read_frames(words: &[u32]) -> Vec<Frame> {
         outstanding: record[3],
         suspended: record[4],
         root: record[5],
+        returning: record[6],
     };
     records.map(read).collect()
 }
@@ -285,6 +292,15 @@ fn flags_are_0_or_1(pair: &Pair) -> bool {
     pair.frames
         .iter()
         .all(|frame| frame.live <= 1 && frame.suspended <= 1)
+}
+
+/// "1 on a frame waiting so, which is suspended, else 0; anything else there is unsound" (document 02, R-3)
+fn returning_is_1_or_0(pair: &Pair) -> bool {
+    pair.frames.iter().all(|frame| match frame.returning {
+        0 => true,
+        1 => frame.suspended == 1,
+        _ => false,
+    })
 }
 
 /// "for each of 8 workers its deque length and 64 places for its frames" (document 02, R-1)
@@ -426,7 +442,15 @@ fn other_nodes_are_free(pair: &Pair) -> bool {
 fn free_places_are_chained(pair: &Pair) -> bool {
     let free: HashSet<u32> = (0..).take(FRAMES).filter(|&p| !pair.is_live(p)).collect();
     let is_zero = |frame: &Frame| {
-        frame.depth == 0 && frame.outstanding == 0 && frame.suspended == 0 && frame.root == 0
+        let Frame {
+            depth,
+            outstanding,
+            suspended,
+            root,
+            returning,
+            ..
+        } = *frame;
+        [depth, outstanding, suspended, root, returning] == [0; 5]
     };
     let all_zero = free
         .iter()

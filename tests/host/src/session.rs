@@ -5,6 +5,7 @@ use crate::plain::RECORD_BYTES;
 use crate::record::Recorder;
 use crate::sharing::Sharing;
 use crate::tally::Tally;
+use crate::waits::Waits;
 
 /// Why a comparison stopped.
 pub type Failure = String;
@@ -15,6 +16,7 @@ pub struct Session {
     pub recorder: Option<Recorder>,
     pub tally: Tally,
     pub sharing: Sharing,
+    pub waits: Waits,
     pub calls: u64,
     pub records: u64,
 }
@@ -26,6 +28,7 @@ impl Session {
             recorder,
             tally: Tally::default(),
             sharing: Sharing::default(),
+            waits: Waits::default(),
             calls: 0,
             records: 0,
         }

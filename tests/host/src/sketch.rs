@@ -1,6 +1,6 @@
 //! A tape under way: each record is made for what those before it leave in plain.rs.
 
-use crate::plain::{self, State, NONE, RETURN, SPAWN, STEAL, WRITE};
+use crate::plain::{self, State, NONE, RETURN, SPAWN, STEAL, SYNC, WRITE};
 use crate::random::Random;
 use crate::sharing::{self, Case};
 use crate::steps::{self, StepWords};
@@ -99,6 +99,61 @@ impl<'a> Sketch<'a> {
                 }
             }
         }
+    }
+
+    /// A line of frames that wait, and the return that ends them.
+    pub fn chain(&mut self, length: usize) {
+        if let Some(worker) = self.line(length) {
+            self.push([RETURN, worker, 0, 0]);
+        }
+    }
+
+    /// A worker's frames and so many below them, then all but the last are stolen one by one: most of them return, and wait; now and then
+    /// one waits at a sync, goes on, or has one more child. The worker, if it has only the last then.
+    pub fn line(&mut self, length: usize) -> Option<u32> {
+        let random = self.random;
+        let worker = self.busy_worker()?;
+        for _ in 0..length {
+            self.push([SPAWN, worker, 0, 0]);
+            if random.one_in(3) {
+                self.push([
+                    WRITE,
+                    worker,
+                    random.word_below(self.state.splitters),
+                    random.word(),
+                ]);
+            }
+        }
+        while self.state.deques[worker as usize].length > 1 {
+            let thief = self.idle_worker()?;
+            self.push([STEAL, thief, worker, 0]);
+            self.leave(thief);
+        }
+        Some(worker)
+    }
+
+    /// The thief's frame, which has a child elsewhere, waits as returning, or something else happens to it.
+    fn leave(&mut self, thief: u32) {
+        let bottom = self.bottom(thief);
+        let main = bottom.is_some_and(|frame| self.state.frames[frame as usize].parent == NONE);
+        match self.random.below(if main { 3 } else { 40 }) {
+            0 => self.push([SYNC, thief, 0, 0]),
+            1 if main => true, // goes on
+            1 => self.push([SPAWN, thief, 0, 0]) && self.give_up(thief),
+            _ => self.push([RETURN, thief, 0, 0]),
+        };
+    }
+
+    /// The worker's top frame is stolen by another that is idle, and returns.
+    fn give_up(&mut self, worker: u32) -> bool {
+        let Some(thief) = self.idle_worker() else {
+            return false;
+        };
+        self.push([STEAL, thief, worker, 0]) && self.push([RETURN, thief, 0, 0])
+    }
+
+    fn idle_worker(&self) -> Option<u32> {
+        (0..self.state.workers).find(|&worker| self.bottom(worker).is_none())
     }
 
     /// The nodes from the root to a leaf.

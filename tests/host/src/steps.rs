@@ -7,13 +7,14 @@ use crate::random::Random;
 pub type StepWords = [u32; 4];
 
 /// What a run is bent on for a while: the weights of spawn, return, steal, sync, read and write.
-const MOODS: [[usize; 6]; 6] = [
+const MOODS: [[usize; 6]; 7] = [
     [60, 2, 15, 3, 5, 15],
     [90, 1, 1, 1, 2, 5],
     [25, 8, 35, 12, 5, 15],
     [5, 3, 5, 2, 15, 70],
     [2, 45, 15, 25, 5, 8],
     [10, 10, 10, 10, 10, 10],
+    [15, 35, 40, 4, 2, 4],
 ];
 
 /// Makes one step after another; its mood changes now and then.
@@ -53,7 +54,7 @@ impl Driver {
     }
 }
 
-/// Whether the step is a return and Main the worker's bottom frame.
+/// Whether the step is a return and Main the worker's bottom frame. With a live child Main waits, and then its end cannot be put off.
 fn ends_main(state: &State, [kind, worker, ..]: StepWords) -> bool {
     let deque = state.deques.get(worker as usize);
     let bottom = deque.and_then(|deque| deque.bottom());
@@ -73,9 +74,14 @@ fn weighted(weights: &[usize; 6], random: &Random) -> u32 {
 
 /// A step of this kind that the state is likely to accept.
 pub fn plausible(state: &State, kind: u32, random: &Random) -> StepWords {
-    let workers: Vec<u32> = (0..state.workers)
+    let mut workers: Vec<u32> = (0..state.workers)
         .filter(|&worker| suits(state, kind, worker))
         .collect();
+    // a return by a frame that has a live child waits
+    let waits = |worker: &u32| suits(state, SYNC, *worker);
+    if kind == RETURN && workers.iter().any(waits) && random.one_in(2) {
+        workers.retain(waits);
+    }
     let worker = match random.some(&workers) {
         Some(worker) if !random.one_in(40) => worker,
         _ => random.word_below(state.workers.max(1)),
@@ -99,7 +105,6 @@ fn suits(state: &State, kind: u32, worker: u32) -> bool {
     let outstanding = state.frames[bottom as usize].outstanding;
     match kind {
         STEAL => false,
-        RETURN => outstanding == 0,
         SYNC => outstanding > 0,
         _ => true,
     }

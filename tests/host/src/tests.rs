@@ -1,4 +1,7 @@
-//! Document 01's example and edges, as R-2 changes them, through plain.rs and the library, and the sentences on states corrupted by hand.
+//! Document 01's example and edges, as change them, through plain.rs and the library, and the sentences on states corrupted by
+//! hand.
+
+mod waiting;
 
 use crate::call::{Call, Entry, Outcome, BAD_STATE};
 use crate::parts::{Parts, LENGTHS};
@@ -39,7 +42,7 @@ fn starting(workers: u32, values: &[u32], nodes: usize) -> Call {
     }
 }
 
-fn both(call: &Call) -> Outcome {
+pub fn both(call: &Call) -> Outcome {
     let outcome = call.by_plain();
     assert!(call.by_library(3).as_ref() == Some(&outcome));
     outcome
@@ -203,7 +206,7 @@ fn steal_from_a_deque_of_one() {
 #[test]
 fn return_by_main_while_its_child_runs_elsewhere() {
     let entries = [[SPAWN, 0, 0, 0], [STEAL, 1, 0, 0], [RETURN, 1, 0, 0]];
-    assert_eq!(answers(2, &FIVE, 20, &entries)[2], [14, 0]);
+    assert_eq!(answers(2, &FIVE, 20, &entries)[2], [102, 4]);
 }
 
 #[test]
@@ -379,7 +382,7 @@ fn broken(change: fn(&mut Parts, &mut [u32])) -> Vec<&'static str> {
 /// Word 0 of a worker's deque, of a frame record, of a node.
 const DEQUE_1: usize = 65;
 const FRAME_0: usize = 0;
-const FRAME_1: usize = 6;
+const FRAME_1: usize = 7;
 const NODE_3: usize = 12;
 const NODE_7: usize = 28;
 
@@ -402,6 +405,9 @@ fn corrupted_frames() {
     alone("live and suspended are 0 or 1", |state, _| {
         state.frames[FRAME_0] = 2
     });
+    let returning = "returning is 1 on a suspended frame that waits so, else 0";
+    alone(returning, |state, _| state.frames[FRAME_0 + 6] = 1);
+    alone(returning, |state, _| state.frames[FRAME_0 + 6] = NONE);
     alone("outstanding counts are right", |state, _| {
         state.frames[FRAME_0 + 3] = 1
     });
@@ -416,6 +422,10 @@ fn corrupted_frames() {
     let places = "free frame places are zero and once on their chain";
     alone(places, |state, _| state.frames[FRAME_1 + 2] = 1);
     alone(places, |state, _| state.frames[FRAME_1 + 1] = 1);
+    assert_eq!(
+        broken(|state, _| state.frames[FRAME_1 + 6] = 1),
+        [returning, places]
+    );
     let main = "no frame and empty deques, or one of depth 0, parent none";
     alone(main, |state, _| state.frames[FRAME_0 + 1] = 5);
 }

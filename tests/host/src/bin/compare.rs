@@ -122,12 +122,16 @@ fn compare_runs(options: &Options, session: &mut Session) -> Result<(), Failure>
     );
     println!("{}", session.tally.line());
     if options.runs > 0 {
-        let lines = session.sharing.lines();
+        let lines = [session.sharing.lines(), session.waits.lines()].concat();
         lines.iter().for_each(|line| println!("{line}"));
     }
     let missing = session.tally.missing();
     if options.runs >= ENOUGH_RUNS && !missing.is_empty() {
         return Err(format!("never met: {missing:?}"));
+    }
+    let missing = session.waits.missing();
+    if options.runs >= ENOUGH_RUNS && !missing.is_empty() {
+        return Err(format!("returns not met: {missing:?}"));
     }
     let missing = session.sharing.missing();
     if options.runs >= ENOUGH_WRITES && !missing.is_empty() {

@@ -4,6 +4,9 @@ use super::Pair;
 use crate::plain::{Deque, Frame, MAX_FRAMES, MAX_WORKERS, NONE};
 use crate::random::Random;
 
+/// Words that no flag can have.
+const OVER_1: [u32; 5] = [2, 3, 256, NONE, 1 << 31];
+
 fn workers(pair: &Pair, test: impl Fn(&Deque) -> bool) -> Vec<usize> {
     (0..pair.state.workers as usize)
         .filter(|&worker| test(&pair.state.deques[worker]))
@@ -22,6 +25,12 @@ fn free_places(pair: &Pair) -> Vec<usize> {
     (0..MAX_FRAMES)
         .filter(|&place| pair.state.frames[place].live == 0)
         .collect()
+}
+
+fn suspended(pair: &Pair) -> Vec<usize> {
+    let mut frames = pair.live();
+    frames.retain(|&place| pair.state.frames[place].suspended != 0);
+    frames
 }
 
 fn deque_of(frames: &[u32]) -> Deque {
@@ -92,11 +101,12 @@ pub fn place_not_zero(pair: &mut Pair, random: &Random) -> Option<()> {
     let place = random.some(&free_places(pair))?;
     let word = random.pick(&[1, NONE, random.word() | 1]);
     let frame = &mut pair.state.frames[place];
-    match random.below(4) {
+    match random.below(5) {
         0 => frame.depth = word,
         1 => frame.outstanding = word,
         2 => frame.suspended = word,
-        _ => frame.root = word,
+        3 => frame.root = word,
+        _ => frame.returning = word,
     }
     Some(())
 }
@@ -149,16 +159,18 @@ pub fn put_to_sleep(pair: &mut Pair, random: &Random) -> Option<()> {
     let worker = random.some(&workers(pair, |deque| deque.length == 1))?;
     let frame = pair.state.deques[worker].take_top();
     pair.state.frames[frame as usize].suspended = u32::from(!random.one_in(4));
+    pair.state.frames[frame as usize].returning = random.word_below(2);
     Some(())
 }
 
-/// A suspended frame goes on, on an idle worker. This is sound if it is no longer called suspended.
+/// A suspended frame goes on, on an idle worker. This is sound if it is no longer called suspended, nor returning.
 pub fn woken(pair: &mut Pair, random: &Random) -> Option<()> {
-    let mut frames = pair.live();
-    frames.retain(|&place| pair.state.frames[place].suspended != 0);
-    let frame = random.some(&frames)?;
+    let frame = random.some(&suspended(pair))?;
     let worker = idle(pair, random)?;
     pair.state.frames[frame].suspended = u32::from(random.one_in(4));
+    if !random.one_in(4) {
+        pair.state.frames[frame].returning = 0;
+    }
     pair.state.deques[worker].push(frame as u32);
     Some(())
 }
@@ -299,6 +311,7 @@ pub fn child_by_hand(pair: &mut Pair, random: &Random) -> Option<()> {
         outstanding: 0,
         suspended: 0,
         root: above.root,
+        returning: 0,
     };
     pair.retain(child.root);
     pair.state.frames[place as usize] = child;
@@ -309,12 +322,42 @@ pub fn child_by_hand(pair: &mut Pair, random: &Random) -> Option<()> {
 
 pub fn flag_over_1(pair: &mut Pair, random: &Random) -> Option<()> {
     let place = random.some(&pair.live())?;
-    let word = random.pick(&[2, 3, 256, NONE, 1 << 31]);
+    let word = random.pick(&OVER_1);
     let frame = &mut pair.state.frames[place];
     if random.one_in(2) {
         frame.live = word;
     } else {
         frame.suspended = word;
     }
+    Some(())
+}
+
+/// A frame in a deque is called returning.
+pub fn returning_awake(pair: &mut Pair, random: &Random) -> Option<()> {
+    let mut frames = pair.live();
+    frames.retain(|&place| pair.state.frames[place].suspended == 0);
+    pair.state.frames[random.some(&frames)?].returning = 1;
+    Some(())
+}
+
+/// A suspended frame, or any live one, has a word that is neither 0 nor 1 there.
+pub fn returning_over_1(pair: &mut Pair, random: &Random) -> Option<()> {
+    let live = random.some(&pair.live())?;
+    let place = random.some(&suspended(pair)).unwrap_or(live);
+    pair.state.frames[place].returning = random.pick(&OVER_1);
+    Some(())
+}
+
+/// A free place is called returning, and perhaps suspended too.
+pub fn free_place_returning(pair: &mut Pair, random: &Random) -> Option<()> {
+    let place = random.some(&free_places(pair))?;
+    pair.state.frames[place].returning = random.pick(&[1, 1, 2, NONE]);
+    pair.state.frames[place].suspended = random.word_below(2);
+    Some(())
+}
+
+/// A frame that waits at a sync waits as returning, or the other way round.
+pub fn wait_turned(pair: &mut Pair, random: &Random) -> Option<()> {
+    pair.state.frames[random.some(&suspended(pair))?].returning ^= 1;
     Some(())
 }

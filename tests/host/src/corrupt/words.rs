@@ -101,6 +101,7 @@ pub fn garbage_frames(pair: &mut Pair, random: &Random) -> Option<()> {
             frame.outstanding = random.word_below(3);
             frame.suspended = random.word_below(2);
             frame.root = random.word_below(pair.state.nodes + 1);
+            frame.returning = random.pick(&[0, 0, 1]);
         }
     }
     Some(())
