@@ -13,6 +13,8 @@ pub const SHARED_WRITES: usize = 48;
 /// Steps in calls of their own, and their workers.
 pub const SINGLE_STEPS: usize = 256;
 pub const SINGLE_WORKERS: usize = 2;
+/// The frames of a chain that wait, each for the next one, the last for the frame whose return ends them all.
+pub const WAITING: usize = 63;
 /// Frames that a control record lets live at most.
 pub const MAX_LIVE: usize = 24;
 
@@ -26,15 +28,18 @@ pub enum Workload {
     WritesShared,
     Control,
     Mix,
+    /// One return that ends a chain of waiting frames, Main too.
+    Chain,
 }
 
-pub const WORKLOADS: [Workload; 6] = [
+pub const WORKLOADS: [Workload; 7] = [
     Workload::Reads,
     Workload::Writes,
     Workload::WritesAlone,
     Workload::WritesShared,
     Workload::Control,
     Workload::Mix,
+    Workload::Chain,
 ];
 
 /// Those whose tapes have 8,192 records.
@@ -55,6 +60,7 @@ impl Workload {
             Workload::WritesShared => "writes shared",
             Workload::Control => "control",
             Workload::Mix => "mix",
+            Workload::Chain => "chain",
         }
     }
 
@@ -64,10 +70,11 @@ impl Workload {
             .find(|workload| workload.name() == name)
     }
 
-    /// The records of a tape that are counted.
+    /// The records of a tape that are counted; of a chain, the frames that its one record ends.
     pub fn counted(self) -> usize {
         match self {
             Workload::WritesShared => SHARED_WRITES,
+            Workload::Chain => WAITING + 1,
             _ => RECORDS,
         }
     }
@@ -122,6 +129,7 @@ impl Case {
     pub fn records(workload: Workload, n: usize) -> Self {
         match workload {
             Workload::WritesShared => Case::shared(n),
+            Workload::Chain => Case::chain(n),
             _ => Case::new(workload, n, WORKERS, POOL_VIEWS * tree_nodes(n), RECORDS),
         }
     }
@@ -182,6 +190,29 @@ impl Case {
         }
     }
 
+    /// A line of frames from Main down, each with a write of its own; all but the last are stolen and return, and wait. Then the last one
+    /// returns. All nodes are in use before, if each write takes a whole path.
+    fn chain(n: usize) -> Self {
+        let mut generator = Generator::new(4, 2, n, 1 + WAITING);
+        for _ in 0..WAITING {
+            generator.spawn(0);
+            generator.write(0);
+        }
+        for _ in 0..WAITING {
+            generator.steal(1, 0);
+            generator.wait(1);
+        }
+        let prelude = generator.take();
+        generator.end(0);
+        Case {
+            workers: 2,
+            values: values(n),
+            nodes: tree_nodes(n) + WAITING * path_nodes(n),
+            prelude,
+            tape: generator.take(),
+        }
+    }
+
     /// The same without the records that are counted: an empty tape, but for the spawns among shared writes.
     pub fn rest(mut self, workload: Workload) -> Self {
         self.tape = match workload {
@@ -233,7 +264,7 @@ fn one_record(generator: &mut Generator, workload: Workload) {
     match workload {
         Workload::Reads => read(generator),
         Workload::Writes | Workload::WritesAlone | Workload::WritesShared => write(generator),
-        Workload::Control => generator.control(),
+        Workload::Control | Workload::Chain => generator.control(),
         Workload::Mix => match generator.choice(100) {
             0..70 => read(generator),
             70..92 => write(generator),

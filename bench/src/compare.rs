@@ -1,6 +1,6 @@
 //! Every peer must answer as the library does, before anything is measured.
 
-use crate::case::{path_nodes, Case, Workload, SHARED_WRITES};
+use crate::case::{path_nodes, Case, Workload, SHARED_WRITES, WAITING};
 use crate::images;
 use crate::measure::{answers, step_answers};
 use crate::peer::{Peer, PEERS};
@@ -65,6 +65,29 @@ fn assert_nodes_taken(n: usize) {
     assert_same_answers(&rest, &format!("spawns of writes shared {n}"));
 }
 
+/// A chain's frames wait, and its one record ends them all. No return of another tape waits.
+fn assert_waits(workload: Workload, n: usize) {
+    let mut case = Case::records(workload, n);
+    if workload == Workload::Chain {
+        assert_eq!(answers(Peer::Library, &case), [102, 3], "chain {n}");
+        case.tape = case.prelude;
+        case.prelude = Vec::new();
+    }
+    let answers = answers(Peer::Library, &case);
+    let waits = answers.chunks(2).filter(|pair| *pair == [102, 4]).count();
+    let expected = if workload == Workload::Chain {
+        WAITING
+    } else {
+        0
+    };
+    assert_eq!(
+        waits,
+        expected,
+        "{} {n}: returns that wait",
+        workload.name()
+    );
+}
+
 /// Every workload at every size, the single steps, and the images.
 pub fn all(workloads: &[Workload], sizes: &[usize]) {
     images::compare();
@@ -79,6 +102,7 @@ pub fn all(workloads: &[Workload], sizes: &[usize]) {
                 &Case::records(workload, n),
                 &format!("{} {n}", workload.name()),
             );
+            assert_waits(workload, n);
         }
     }
 }

@@ -5,7 +5,7 @@ use crate::measure::answers;
 use crate::peer::Peer;
 use crate::table::Table;
 
-const HEADER: [&str; 9] = [
+const HEADER: [&str; 10] = [
     "workload",
     "reads",
     "writes",
@@ -15,6 +15,7 @@ const HEADER: [&str; 9] = [
     "of them suspend",
     "returns",
     "of them resume",
+    "of them wait",
 ];
 
 /// The tapes at one n; others differ in their random choices only.
@@ -36,6 +37,7 @@ pub fn table(n: usize) -> Table {
             outcome(104, 1),
             kind(102),
             outcome(102, 2),
+            outcome(102, 4),
         ];
         let numbers = counts.map(|count| count.to_string());
         table.row([vec![workload.name().to_string()], numbers.to_vec()].concat());

@@ -1,4 +1,4 @@
-//! Makes tapes whose records are all accepted, by keeping the frames and deques beside them.
+//! Makes tapes whose records are all accepted, by keeping the frames and deques beside them. But for the chains, no return waits.
 
 use crate::random::Random;
 use crate::tape::{record, READ, RETURN, SPAWN, STEAL, SYNC, WRITE};
@@ -94,7 +94,15 @@ impl Generator {
         self.push(SYNC, worker, 0, 0);
     }
 
-    /// The bottom frame ends; it is not Main.
+    /// The bottom frame returns while a child of it lives: it is alone in its deque, and waits.
+    pub fn wait(&mut self, worker: usize) {
+        let frame = self.bottom(worker);
+        assert!(self.frames[frame].outstanding > 0, "no live child");
+        self.deques[worker].pop();
+        self.push(RETURN, worker, 0, 0);
+    }
+
+    /// The bottom frame ends; it is not Main. If a frame waits for it as returning, nothing more can be generated.
     pub fn end(&mut self, worker: usize) {
         let ended = self.bottom(worker);
         self.deques[worker].pop();

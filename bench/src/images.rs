@@ -133,8 +133,8 @@ pub fn images(run: &mut dyn Run) -> &mut dyn Images {
     run.images().expect("it has nodes")
 }
 
-/// The image by `tests/host/src/image.rs`, of plain.rs's state.
-fn by_document(case: &Case) -> Vec<u8> {
+/// The images by `tests/host/src/image.rs`, of plain.rs's state: as it is saved, and in the form from before R-3.
+fn by_document(case: &Case) -> [Vec<u8>; 2] {
     let (mut pool, mut work) = (vec![0; 4 * case.nodes], vec![0; case.nodes]);
     let (mut state, started) = plain::start(case.workers as u32, &case.values, &mut pool);
     let mut answers = vec![0; case.prelude.len() / 4];
@@ -145,17 +145,20 @@ fn by_document(case: &Case) -> Vec<u8> {
         &case.prelude,
         &mut answers,
     );
+    let state = Parts::of(&state);
     let mut target = vec![FILL; image::bytes(case.nodes as u32) as usize];
-    let saved = image::save(&Parts::of(&state), &pool, &mut work, &mut target);
+    let saved = image::save(&state, &pool, &mut work, &mut target);
     assert_eq!([started, ran, saved], [0; 3], "the document's image");
-    target
+    let mut before = vec![FILL; image::bytes_of(0, case.nodes as u32) as usize];
+    image::put(image::image_words(0, &state, &pool), &mut before);
+    [target, before]
 }
 
-/// Library and plain Rust save the document's bytes, and save them again after reading them into another run.
+/// Library and plain Rust save the document's bytes, and save them again after reading them, in either form, into another run.
 pub fn compare() {
     for standing in standings() {
         let case = Case::standing(standing);
-        let expected = by_document(&case);
+        let [expected, before] = by_document(&case);
         let what = format!("images, {} nodes", standing.nodes);
         let bytes = library::image_bytes(standing.nodes);
         assert_eq!(
@@ -166,8 +169,10 @@ pub fn compare() {
         for peer in IMAGE_PEERS {
             let same = saved(peer, &case) == expected;
             assert!(same, "{what}: {} saves other bytes", peer.name());
-            let same = read_and_saved(peer, &case, &expected) == expected;
-            assert!(same, "{what}: {} reads something else", peer.name());
+            for image in [&expected, &before] {
+                let same = read_and_saved(peer, &case, image) == expected;
+                assert!(same, "{what}: {} reads something else", peer.name());
+            }
         }
     }
 }

@@ -1,4 +1,4 @@
-//! Document 01's plain machine in Rust: each live frame has its own values, spawn copies them. Refusals 7 to 15;
+//! Document 01's plain machine, with R-3 of document 02, in Rust: each live frame has its own values, spawn copies them. Refusals 7 to 15;
 //! there are no nodes, so 16 never comes and a write answers 0.
 
 use crate::tape::{READ, RETURN, SPAWN, STEAL, SYNC, WRITE};
@@ -13,6 +13,8 @@ struct Frame<V> {
     depth: u32,
     outstanding: u32,
     suspended: bool,
+    /// Suspended, and ends with its last child.
+    returning: bool,
     values: V,
 }
 
@@ -96,30 +98,45 @@ impl<V: Values> Machine<V> {
 
     fn end(&mut self, worker: usize) -> Result<u32, u32> {
         let bottom = self.bottom(worker)?;
+        self.deques[worker].pop();
         let frame = &mut self.frames[bottom];
         if frame.outstanding > 0 {
-            return Err(14);
+            frame.suspended = true;
+            frame.returning = true;
+            return Ok(4);
         }
-        frame.values.drop_values();
-        let parent = frame.parent;
-        self.free.push(bottom);
-        let deque = &mut self.deques[worker];
-        deque.pop();
-        if parent == NONE {
-            self.main_lives = false;
-            return Ok(3);
-        }
-        let above = &mut self.frames[parent];
-        above.outstanding -= 1;
-        if !deque.is_empty() {
-            return Ok(0);
-        }
-        if above.suspended && above.outstanding == 0 {
+        Ok(self.end_upward(worker, bottom))
+    }
+
+    /// Ends a frame that its worker's deque no longer has, then its parents that wait for it as returning.
+    fn end_upward(&mut self, worker: usize, mut ending: usize) -> u32 {
+        loop {
+            let frame = &mut self.frames[ending];
+            frame.values.drop_values();
+            let parent = frame.parent;
+            self.free.push(ending);
+            if parent == NONE {
+                self.main_lives = false;
+                return 3;
+            }
+            let above = &mut self.frames[parent];
+            above.outstanding -= 1;
+            let deque = &mut self.deques[worker];
+            if !deque.is_empty() {
+                return 0;
+            }
+            if !above.suspended || above.outstanding > 0 {
+                return 1;
+            }
+            if !above.returning {
+                above.suspended = false;
+                deque.push(parent);
+                return 2;
+            }
             above.suspended = false;
-            deque.push(parent);
-            return Ok(2);
+            above.returning = false;
+            ending = parent;
         }
-        Ok(1)
     }
 
     fn steal(&mut self, thief: usize, victim: usize) -> Result<u32, u32> {
@@ -173,6 +190,7 @@ fn no_frame<V: Values>() -> Frame<V> {
         depth: 0,
         outstanding: 0,
         suspended: false,
+        returning: false,
         values: V::default(),
     }
 }

@@ -1,6 +1,6 @@
 //! The two pictures: instructions per record against n, and the check against nodes and frames.
 
-use crate::case::WORKLOADS;
+use crate::case::{Workload, WORKLOADS};
 use crate::checks::CheckCost;
 use crate::peer::{Peer, PEERS};
 use crate::plot::{Axis, Panel, Picture, Series};
@@ -42,7 +42,8 @@ fn axis(label: &str, scale: Scale) -> Axis {
 }
 
 pub fn records(costs: &[Cost]) -> Picture {
-    let panels = WORKLOADS.map(|workload| {
+    let of_records = |workload: &Workload| *workload != Workload::Chain;
+    let panels = WORKLOADS.into_iter().filter(of_records).map(|workload| {
         let series = PEERS.map(|peer| {
             let of_peer = costs
                 .iter()
@@ -66,7 +67,7 @@ pub fn records(costs: &[Cost]) -> Picture {
     Picture {
         title: "Instructions per further record of a tape".into(),
         columns: 2,
-        panels: panels.into(),
+        panels: panels.collect(),
     }
 }
 

@@ -1,8 +1,10 @@
-//! R-1's saving and reading in fast plain Rust, over the state of plain.rs: words are moved a block's run at a time, and a check is summed
+//! R-1's saving and reading, as R-3 changes them, in fast plain Rust, over the state of plain.rs: words are moved a block's run at a time, and a check is summed
 //! over its bytes in one of two ways. `tests/host/src/image.rs` says the same without a thought of speed; the bench compares the two.
 
-use host_tests::image::{self, BLOCK_BYTES, DATA_BYTES, NOT_ITS_BLOCKS, SHORT_TARGET, WRONG_CHECK};
-use host_tests::plain::{sound, Deque, Frame, Refusal, State, MAX_FRAMES};
+use host_tests::image::{
+    self, BLOCK_BYTES, DATA_BYTES, NOT_ITS_BLOCKS, PER_VERSION, SHORT_TARGET, VERSION, WRONG_CHECK,
+};
+use host_tests::plain::{sound, Deque, Frame, Refusal, State, FRAME_WORDS, MAX_FRAMES};
 use std::slice::{ChunksExact, ChunksExactMut};
 
 /// 0 with the image in the front of the target, or 5, 6, 19.
@@ -42,20 +44,23 @@ fn take(
     image: &[u8],
     sum: Sum,
 ) -> Result<(), u32> {
-    let nodes = recorded(image)
-        .filter(|&nodes| image::bytes(nodes) == image.len() as u64)
+    let (version, nodes) = recorded(image)
+        .filter(|&(version, nodes)| {
+            version <= VERSION && image::bytes_of(version, nodes) == image.len() as u64
+        })
         .ok_or(NOT_ITS_BLOCKS)?;
     let right = match sum {
         Sum::ByFours => checks_right(image, by_fours),
         Sum::ByBytes => checks_right(image, image::check),
     };
-    if !right || rest(image, nodes).iter().any(|&byte| byte != 0) {
+    let rest = rest(image, image::words_of(version, nodes));
+    if !right || rest.iter().any(|&byte| byte != 0) {
         return Err(WRONG_CHECK);
     }
     if work.len() < nodes as usize {
         return Err(Refusal::ShortWork as u32);
     }
-    read(state, pool, nodes as usize, image);
+    read(state, pool, version, nodes as usize, image);
     if sound(state, pool, work).is_none() {
         pool.as_chunks_mut::<4>().0.fill([0; 4]);
         return Err(Refusal::Unsound as u32);
@@ -102,16 +107,18 @@ fn by_fours(data: &[u8]) -> u32 {
     })
 }
 
-/// The nodes in the third word, if there is a whole block.
-fn recorded(image: &[u8]) -> Option<u32> {
+/// The version in the first word and the nodes in the third, if there is a whole block.
+fn recorded(image: &[u8]) -> Option<(u32, u32)> {
     let block = blocks(image).next()?;
-    block.as_chunks().0.get(2).copied().map(u32::from_le_bytes)
+    let (words, _) = block.as_chunks();
+    let first = u32::from_le_bytes(words[0]);
+    Some((first / PER_VERSION, u32::from_le_bytes(words[2])))
 }
 
-/// The data after the last word, before the last check.
-fn rest(image: &[u8], nodes: u32) -> &[u8] {
+/// The data after so many words, before the last check.
+fn rest(image: &[u8], words: u64) -> &[u8] {
     let data = image.len() / BLOCK_BYTES * DATA_BYTES;
-    let rest = data - 4 * image::words(nodes) as usize;
+    let rest = data - 4 * words as usize;
     let (before_check, _) = image.split_at(image.len() - (BLOCK_BYTES - DATA_BYTES));
     &before_check[before_check.len() - rest..]
 }
@@ -130,7 +137,8 @@ fn write(state: &State, pool: &[u32], image: &mut [u8]) {
         vacant,
         ..
     } = *state;
-    writer.put(&[workers, splitters, nodes, free, vacant]);
+    let first = workers + VERSION * PER_VERSION;
+    writer.put(&[first, splitters, nodes, free, vacant]);
     for deque in &state.deques {
         writer.put(&[deque.length]);
         writer.put(&deque.places);
@@ -143,6 +151,7 @@ fn write(state: &State, pool: &[u32], image: &mut [u8]) {
             f.outstanding,
             f.suspended,
             f.root,
+            f.returning,
         ]
     });
     writer.put(frames.as_flattened());
@@ -176,7 +185,7 @@ impl Writer<'_> {
 }
 
 /// Reads an image of so many nodes. A pool with fewer stays as it is: the count alone makes it unsound.
-fn read(state: &mut State, pool: &mut [u32], nodes: usize, image: &[u8]) {
+fn read(state: &mut State, pool: &mut [u32], version: u32, nodes: usize, image: &[u8]) {
     let mut reader = Reader {
         data: &[],
         blocks: blocks(image),
@@ -190,22 +199,17 @@ fn read(state: &mut State, pool: &mut [u32], nodes: usize, image: &[u8]) {
         state.free,
         state.vacant,
     ] = numbers;
+    state.workers -= version * PER_VERSION;
     for Deque { length, places } in &mut state.deques {
         reader.take(std::slice::from_mut(length));
         reader.take(places);
     }
-    let mut frames = [[0; 6]; MAX_FRAMES];
-    reader.take(frames.as_flattened_mut());
-    state.frames = frames.map(
-        |[live, parent, depth, outstanding, suspended, root]| Frame {
-            live,
-            parent,
-            depth,
-            outstanding,
-            suspended,
-            root,
-        },
-    );
+    state.frames = match version {
+        0 => reader.frames(|[live, parent, depth, outstanding, suspended, root]| {
+            [live, parent, depth, outstanding, suspended, root, 0]
+        }),
+        _ => reader.frames(|record: [u32; FRAME_WORDS]| record),
+    };
     if let Some(front) = pool.get_mut(..4 * nodes) {
         reader.take(front);
     }
@@ -218,6 +222,27 @@ struct Reader<'a> {
 }
 
 impl Reader<'_> {
+    /// The frame records, of so many words, each made one of seven.
+    fn frames<const WORDS: usize>(
+        &mut self,
+        whole: impl Fn([u32; WORDS]) -> [u32; FRAME_WORDS],
+    ) -> [Frame; MAX_FRAMES] {
+        let mut records = [[0; WORDS]; MAX_FRAMES];
+        self.take(records.as_flattened_mut());
+        records.map(|record| {
+            let [live, parent, depth, outstanding, suspended, root, returning] = whole(record);
+            Frame {
+                live,
+                parent,
+                depth,
+                outstanding,
+                suspended,
+                root,
+                returning,
+            }
+        })
+    }
+
     /// So many blocks are left as the words need.
     fn take(&mut self, mut words: &mut [u32]) {
         while !words.is_empty() {

@@ -1,8 +1,8 @@
 //! docs/BENCH.md, from the figures alone.
 
 use crate::case::{
-    LONG_WORKLOADS, MAX_LIVE, POOL_VIEWS, SHARED_WRITES, SINGLE_STEPS, SINGLE_WORKERS, WORKERS,
-    WORKLOADS,
+    LONG_WORKLOADS, MAX_LIVE, POOL_VIEWS, SHARED_WRITES, SINGLE_STEPS, SINGLE_WORKERS, WAITING,
+    WORKERS, WORKLOADS,
 };
 use crate::checks::CheckCost;
 use crate::contents;
@@ -29,7 +29,8 @@ All are fed the same tapes and give the same answer words, which the bench compa
 
 - library: `splitter_tape` of libsplitter.a through its C interface, and `splitter_step` for single steps.
 - plain: the same algorithm in plain Rust on `&mut` state (`tests/host/src/plain.rs`), with the same soundness check in each call. A
-  write alters the nodes that one holder has where they are and copies the rest of the path from the first node with more (R-2).
+  write alters the nodes that one holder has where they are and copies the rest of the path from the first node with more (R-2); a
+  return waits for the frame's children, and the last child's end ends the waiting frames above it in a loop (R-3).
 - copying: a machine in Rust that keeps a `Vec<u32>` of values for each live frame; spawn copies it into the buffer of its frame's
   place, which later frames in this place use again.
 - im-rc: the same machine with `im_rc::Vector<u32>` for each frame; spawn clones it, a write sets a place. It is left out where
@@ -87,7 +88,8 @@ fn how() -> String {
 A tape has 8,192 records, all accepted, made from a seed. Before it, not measured, comes a fresh start with {WORKERS} workers and
 {POOL_VIEWS} T(n) nodes and a prelude: each worker gets a frame, and each frame makes n / 2 writes (rounded up) to random splitters, so
 that their trees share some nodes. Reads and writes take a random busy worker and a random splitter. Mix is 70 in 100 reads, 22 writes,
-8 control. At most {MAX_LIVE} frames live. The tapes of reads, writes, control and mix are those from before R-2.
+8 control. At most {MAX_LIVE} frames live. The tapes of reads, writes, control and mix are those from before R-2; no return in them waits for a
+child (R-3).
 
 Writes alone: in the prelude each frame writes to every splitter instead, so that no node has two holders. Then a write takes no node:
 it stores one value. The bench also sees this tape accepted in a pool without a free node.
@@ -95,6 +97,11 @@ it stores one value. The bench also sees this tape accepted in a pool without a 
 Writes shared has another tape: one worker, {SHARED_WRITES} times a spawn and then a write to a random splitter in the new frame. This frame and its
 parent hold one root, so that the write takes a whole path, H + 1 nodes. The pool has T(n) + {SHARED_WRITES} (H + 1) nodes: none is free after the
 last write. The prelude is {SHARED_WRITES} spawns and as many returns, after which copying has its buffers and no spawn allocates.
+
+Chain has one record: a return that ends {ended} frames, Main too (R-3). Before it, not measured, two workers, T(n) + {WAITING} (H + 1) nodes; Main
+and {WAITING} frames below it, each the child of the one before, each with a write to a random splitter; then worker 1 steals and returns {WAITING}
+times, and each of these frames waits for its child. Its figure is per ended frame: the call less a call with an empty tape, divided by
+{ended}; it is left out with the check, among the times and in the picture.
 
 Instructions are callgrind's, of the one call and nothing else, after one such call that is not counted. \"Per further record\" is a
 call with all records less a call with an empty tape, divided by 8,192: the check, once per call, is not in it. Of writes shared it is
@@ -106,7 +113,8 @@ instruction. Time is the best of {ROUNDS} calls, the peers by turns in one proce
 No buffer is cleared by the bench between calls: the work slice is as the call before left it, the answer words are those of the call
 before. The state is in the caller's memory for every peer; what the C interface does to it is part of each call of the library.
 
-"
+",
+        ended = WAITING + 1,
     )
 }
 
@@ -115,7 +123,7 @@ fn records(figures: &Figures) -> String {
     let ratio = "Ratios below 1: the library needs fewer.";
     section(
         "Instructions per further record",
-        ratio,
+        &format!("{ratio} Of a chain: per ended frame."),
         tables::instructions(costs, &WORKLOADS, &PEERS, Cost::marginal),
     ) + &section(
         "Instructions per record, with the check",
@@ -174,9 +182,10 @@ random splitters in every frame after its spawn.";
 fn saving(figures: &Figures) -> String {
     let intro = format!(
         "\
-R-1's calls, `splitter_save` and `splitter_load`, all accepted. n is 16 with 1,024 nodes and 256 with 16,384; one worker, {frames} live
-frames as for the soundness check, {writes} writes each. Before anything is counted the bench compares: each peer saves the very bytes that
-`tests/host/src/image.rs` writes, leaves those past them alone, and a run that was only started reads the image and saves it again.
+R-1's calls, `splitter_save` and `splitter_load`, all accepted, with images of R-3's form. n is 16 with 1,024 nodes and 256 with 16,384;
+one worker, {frames} live frames as for the soundness check, {writes} writes each. Before anything is counted the bench compares: each peer saves
+the very bytes that `tests/host/src/image.rs` writes and leaves those past them alone; a run that was only started reads the image, or
+the same in the form from before R-3, and saves it again.
 
 - plain: `bench/src/plain_image.rs`, on plain's state and with its soundness check. Words are moved a block's run at a time; a check is
   summed over the bytes by fours, of which the compiler makes words.
