@@ -24,18 +24,23 @@ static void records(void) {
     EXPECT(memcmp(record, wanted, sizeof wanted) == 0, 1);
 }
 
+/* Is this a number of the interface? 14 was one before R-3. */
+static unsigned is_number(uint32_t i) {
+    return (i <= SPLITTER_SHORT_TARGET && i != 14) || i == SPLITTER_BAD_STATE || (i >= SPLITTER_SPAWNED && i <= SPLITTER_WRITTEN);
+}
+
 /* Each number of the interface has its own text, and no other number has one. */
 static void names(void) {
     unsigned named = 0;
     for (uint32_t i = 0; i < 1000; i++) {
-        unsigned known = i <= SPLITTER_SHORT_TARGET || i == SPLITTER_BAD_STATE || (i >= SPLITTER_SPAWNED && i <= SPLITTER_WRITTEN);
+        unsigned known = is_number(i);
         EXPECT(strcmp(splitter_name(i), "unknown number") != 0, known);
         named += known;
         for (uint32_t j = 0; known && j < i; j++) {
             EXPECT(strcmp(splitter_name(i), splitter_name(j)) == 0, 0);
         }
     }
-    EXPECT(named, 27);
+    EXPECT(named, 26);
 }
 
 /* The parts lie one after the other, with nothing between them. */
@@ -46,7 +51,9 @@ static void layout(void) {
     EXPECT(offsetof(struct splitter_state, frames), (SPLITTER_NUMBERS_WORDS + SPLITTER_DEQUES_WORDS) * word);
     EXPECT(sizeof(struct splitter_state), (SPLITTER_NUMBERS_WORDS + SPLITTER_DEQUES_WORDS + SPLITTER_FRAMES_WORDS) * word);
     EXPECT(SPLITTER_DEQUES_WORDS, SPLITTER_MAX_WORKERS * (1 + SPLITTER_MAX_FRAMES));
-    EXPECT(SPLITTER_FRAMES_WORDS, SPLITTER_MAX_FRAMES * 6);
+    EXPECT(SPLITTER_FRAMES_WORDS, SPLITTER_MAX_FRAMES * SPLITTER_FRAME_WORDS);
+    EXPECT(SPLITTER_FRAME_WORDS, SPLITTER_FRAME_RETURNING + 1);
+    EXPECT(SPLITTER_STATE_WORDS, 973);
 }
 
 static void sizes(void) {
@@ -54,8 +61,9 @@ static void sizes(void) {
     EXPECT(splitter_tree_nodes(5), 11);
     EXPECT(splitter_tree_nodes(256), 511);
     EXPECT(splitter_tree_nodes(UINT32_MAX), UINT64_C(8589934590));
-    EXPECT(splitter_image_bytes(1), 4096);
-    EXPECT(splitter_image_bytes(UINT32_MAX), UINT64_C(69260578816));
+    EXPECT(splitter_image_bytes(10), 4096);
+    EXPECT(splitter_image_bytes(11), 4608);
+    EXPECT(splitter_image_bytes(UINT32_MAX), UINT64_C(69260579328));
     for (uint32_t nodes = 0; nodes <= SPLITTER_MAX_NODES; nodes++) {
         EXPECT(splitter_image_bytes(nodes), SPLITTER_IMAGE_BYTES(nodes));
     }
@@ -69,6 +77,24 @@ static void steps(const struct splitter_lent *lent) {
     ANSWER(splitter_sync(lent, 1), SPLITTER_SYNCED, SPLITTER_SUSPENDED);
     ANSWER(splitter_return(lent, 0), SPLITTER_RETURNED, SPLITTER_RESUMED);
     ANSWER(splitter_read(lent, 0, 1), SPLITTER_VALUE, 99);
+}
+
+/* What the header says of frame records: Main and its child, after Main's return on another worker, and after the child's. */
+static void returns(const struct splitter_lent *lent) {
+    const uint32_t *main_frame = lent->state->frames, *child = main_frame + SPLITTER_FRAME_WORDS;
+    ANSWER(splitter_spawn(lent, 0), SPLITTER_SPAWNED, 1);
+    ANSWER(splitter_steal(lent, 1, 0), SPLITTER_STOLEN, 0);
+    ANSWER(splitter_return(lent, 1), SPLITTER_RETURNED, SPLITTER_WAITS);
+    EXPECT(main_frame[SPLITTER_FRAME_LIVE] == 1 && main_frame[SPLITTER_FRAME_PARENT] == UINT32_MAX, 1);
+    EXPECT(main_frame[SPLITTER_FRAME_OUTSTANDING] == 1 && main_frame[SPLITTER_FRAME_DEPTH] == 0, 1);
+    EXPECT(main_frame[SPLITTER_FRAME_SUSPENDED] == 1 && main_frame[SPLITTER_FRAME_RETURNING] == 1, 1);
+    EXPECT(child[SPLITTER_FRAME_LIVE] == 1 && child[SPLITTER_FRAME_PARENT] == 0 && child[SPLITTER_FRAME_DEPTH] == 1, 1);
+    EXPECT(child[SPLITTER_FRAME_SUSPENDED] == 0 && child[SPLITTER_FRAME_RETURNING] == 0, 1);
+    EXPECT(main_frame[SPLITTER_FRAME_ROOT], child[SPLITTER_FRAME_ROOT]);
+    ANSWER(splitter_return(lent, 0), SPLITTER_RETURNED, SPLITTER_FINISHED);
+    EXPECT(main_frame[SPLITTER_FRAME_LIVE] == 0 && main_frame[SPLITTER_FRAME_PARENT] == 1, 1);
+    EXPECT(main_frame[SPLITTER_FRAME_SUSPENDED] == 0 && main_frame[SPLITTER_FRAME_RETURNING] == 0, 1);
+    ANSWER(splitter_spawn(lent, 0), SPLITTER_MAIN_RETURNED, 0);
 }
 
 /* The numbers after a start with 2 workers, 2 splitters and 6 nodes: 3 are Main's, and Main has place 0. */
@@ -103,6 +129,7 @@ static void images(const struct splitter_lent *lent) {
            SPLITTER_BAD_BLOCKS);
     EXPECT(lent->state->numbers[SPLITTER_NUMBER_WORKERS], 0);
     EXPECT(splitter_state_load(lent->state, lent->pool, lent->pool_len, lent->work, lent->work_len, image, sizeof image), SPLITTER_OK);
+    EXPECT(image[0] | (uint32_t)image[1] << 8, SPLITTER_IMAGE_VERSION + lent->state->numbers[SPLITTER_NUMBER_WORKERS]);
     EXPECT(splitter_state_save(lent->state, lent->pool, lent->pool_len, lent->work, lent->work_len, again, sizeof again), SPLITTER_OK);
     EXPECT(memcmp(image, again, sizeof image) == 0 && again[sizeof image] == 7, 1);
     ANSWER(splitter_write(lent, 0, 1, 98), SPLITTER_WRITTEN, 3);
@@ -138,5 +165,7 @@ int main(void) {
     tapes(&lent);
     images(&lent);
     wide_fields(&lent);
+    EXPECT(splitter_lent_start(&lent, 2, values, 2), SPLITTER_OK);
+    returns(&lent);
     return failures == 0 ? 0 : 1;
 }

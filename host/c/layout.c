@@ -5,7 +5,7 @@
 
 #include "search.h"
 
-enum { FIRST_SPARE = 12, BAD_BLOCKS = 2, BRANCHES = 16, BRANCH_WORDS = 6, SEARCH_WORDS = 8 };
+enum { FIRST_SPARE = 12, BAD_BLOCKS = 2, BRANCHES = 16, BRANCH_WORDS = 6, SEARCH_WORDS = 9 };
 
 /* A block's state, kept in its splitter. A spare in use holds STANDS_FOR plus the number of the bad block. */
 enum { GOOD = 0, BAD = 1, SPARE = 2, STANDS_FOR = 100 };
@@ -24,7 +24,7 @@ void lend(unsigned nodes) {
     run.lent = lent;
 }
 
-enum stage { TAKE, LOOK, WAIT, SCORE, END };
+enum stage { TAKE, LOOK, WAIT, SCORE, END, RETURNED };
 
 /* What the host keeps of a frame: how far this branch of the search has come. */
 struct branch {
@@ -140,11 +140,16 @@ static void mark_failed(unsigned worker, struct branch *b, unsigned spare) {
     tell(worker, b, "%u fails its erase test: %s", spare, marked ? "marks it bad" : "no room for a mark");
 }
 
+/* Must this branch sync before it returns? */
+static bool syncs(const struct branch *b) {
+    return search.syncs == ALL_SYNC || (search.syncs == MAIN_SYNCS && b->depth == 0);
+}
+
 static bool look_turn(unsigned worker, struct branch *b) {
     unsigned spare = b->next++;
     unsigned is = read_block(worker, spare);
     if (b->next == BLOCKS) {
-        b->stage = WAIT;
+        b->stage = syncs(b) ? WAIT : END;
     }
     if (is != SPARE) {
         tell(worker, b, "%u is %s", spare, is == BAD ? "bad" : "taken");
@@ -186,17 +191,32 @@ static bool score_turn(unsigned worker, struct branch *b) {
     return true;
 }
 
+/* The branch that a worker runs after a return. Branches above that had returned and waited so have ended too: where one resumes, it is the
+ * first above that had not. */
+static struct branch *next_after(const struct branch *b, unsigned outcome) {
+    if (outcome != SPLITTER_CONTINUED && outcome != SPLITTER_RESUMED) {
+        return NULL;
+    }
+    struct branch *next = b->parent;
+    while (next->stage == RETURNED) {
+        next = next->parent;
+    }
+    return next;
+}
+
 static bool end_turn(unsigned worker, struct branch *b) {
-    static const char *const outcomes[] = {"its parent goes on here", "the worker is idle", "its parent resumes here",
-                                           "the search is over"};
+    static const char *const outcomes[] = {"ends; its parent goes on here", "ends; the worker is idle", "ends; its parent resumes here",
+                                           "ends; the search is over", "returns; waits for its branches"};
     if (b->failed != 0) {
         same("own mark", read_block(worker, b->failed), BAD);
         tell(worker, b, "%u still reads bad", b->failed);
     }
     unsigned outcome = splitter_answer_number(checked_return(&run, worker));
-    runs[worker] = outcome == SPLITTER_CONTINUED || outcome == SPLITTER_RESUMED ? b->parent : NULL;
+    b->stage = RETURNED;
+    runs[worker] = next_after(b, outcome);
     search.finished = outcome == SPLITTER_FINISHED;
-    tell(worker, b, "ends; %s", outcomes[outcome]);
+    bool further = outcome == SPLITTER_RESUMED && runs[worker] != b->parent;
+    tell(worker, b, "%s", further ? "ends; a branch above its parent resumes here" : outcomes[outcome]);
     return true;
 }
 
@@ -227,8 +247,9 @@ static void give_up_a_branch(void) {
     surprise("no worker runs a branch");
 }
 
-void begin(unsigned workers, unsigned nodes, bool told) {
-    struct search begun = {.told = told, .workers = workers, .made = 1, .least_free = nodes - (unsigned)splitter_tree_nodes(BLOCKS)};
+void begin(unsigned workers, unsigned nodes, enum syncs syncs, bool told) {
+    struct search begun = {.told = told, .syncs = syncs, .workers = workers, .made = 1,
+                           .least_free = nodes - (unsigned)splitter_tree_nodes(BLOCKS)};
     struct branch main_branch = {.stage = LOOK, .next = FIRST_SPARE};
     lend(nodes);
     same("start", checked_start(&run, workers, factory_marks, BLOCKS), SPLITTER_OK);
@@ -270,7 +291,7 @@ static struct branch *branch_of(uint32_t word) {
 
 void put_search(uint32_t *words) {
     const uint32_t numbers[SEARCH_WORDS] = {search.made, search.turn, search.waits, search.given_up, search.least_free,
-                                            search.layouts, search.least_cost, branch_word(search.best)};
+                                            search.layouts, search.least_cost, branch_word(search.best), (uint32_t)search.syncs};
     for (unsigned i = 0; i < SEARCH_WORDS; i++) {
         *words++ = numbers[i];
     }
@@ -288,7 +309,7 @@ void put_search(uint32_t *words) {
 void get_search(const uint32_t *words, bool told) {
     struct search read = {.told = told, .workers = run.lent.state->numbers[SPLITTER_NUMBER_WORKERS], .made = words[0], .turn = words[1],
                           .waits = words[2], .given_up = words[3], .least_free = words[4], .layouts = words[5],
-                          .least_cost = words[6], .best = branch_of(words[7])};
+                          .least_cost = words[6], .best = branch_of(words[7]), .syncs = (enum syncs)words[8]};
     search = read;
     words += SEARCH_WORDS;
     for (unsigned worker = 0; worker < WORKERS; worker++) {

@@ -94,7 +94,7 @@ static uint32_t steal_refusal(const struct plain *machine, uint32_t thief, uint3
     return victim >= machine->workers || machine->lengths[victim] < 2 ? SPLITTER_NO_VICTIM : 0;
 }
 
-/* Document 01's refusals 7 to 15, in its order; 0 where none refuses. The last, 16, is the write's. */
+/* Document 01's refusals 7 to 15, in its order, without 14; 0 where none refuses. The last, 16, is the write's. */
 static uint32_t refusal(const struct plain *machine, uint32_t kind, uint32_t worker, uint32_t field, uint32_t value) {
     int names_splitter = kind == SPLITTER_READ || kind == SPLITTER_WRITE;
     if (kind < SPLITTER_SPAWN || kind > SPLITTER_WRITE || (field != 0 && !names_splitter && kind != SPLITTER_STEAL)
@@ -116,9 +116,6 @@ static uint32_t refusal(const struct plain *machine, uint32_t kind, uint32_t wor
     if (kind == SPLITTER_SPAWN && machine->live == SPLITTER_MAX_FRAMES) {
         return SPLITTER_FRAMES_FULL;
     }
-    if (kind == SPLITTER_RETURN && machine->frames[bottom(machine, worker)].children > 0) {
-        return SPLITTER_CHILD_LIVES;
-    }
     return names_splitter && field >= machine->splitters ? SPLITTER_NO_SPLITTER : 0;
 }
 
@@ -138,25 +135,41 @@ static uint64_t spawn(struct plain *machine, unsigned worker) {
     return splitter_answer(SPLITTER_SPAWNED, frame->depth);
 }
 
-static uint64_t end(struct plain *machine, unsigned worker) {
-    struct plain_frame *frame = &machine->frames[bottom(machine, worker)];
-    struct plain_frame *parent = &machine->frames[frame->parent];
+/* The frame, in no deque any more, ends. If it was the last child of a parent that waits as returning, the parent ends too (document 02,
+ * R-3), and so on upward. The outcome tells where that stopped. */
+static uint32_t end(struct plain *machine, unsigned worker, unsigned place) {
+    struct plain_frame *frame = &machine->frames[place], *parent = &machine->frames[frame->parent];
     frame->live = 0;
     machine->live -= 1;
-    machine->lengths[worker] -= 1;
     if (frame == parent) {
-        return splitter_answer(SPLITTER_RETURNED, SPLITTER_FINISHED);
+        return SPLITTER_FINISHED;
     }
     parent->children -= 1;
     if (machine->lengths[worker] > 0) {
-        return splitter_answer(SPLITTER_RETURNED, SPLITTER_CONTINUED);
+        return SPLITTER_CONTINUED;
     }
     if (!parent->suspended || parent->children > 0) {
-        return splitter_answer(SPLITTER_RETURNED, SPLITTER_IDLE);
+        return SPLITTER_IDLE;
+    }
+    if (parent->returning) {
+        return end(machine, worker, frame->parent);
     }
     parent->suspended = 0;
     push(machine, worker, frame->parent);
-    return splitter_answer(SPLITTER_RETURNED, SPLITTER_RESUMED);
+    return SPLITTER_RESUMED;
+}
+
+/* The bottom frame ends, or, with a live child, waits as returning. */
+static uint64_t return_from(struct plain *machine, unsigned worker) {
+    unsigned place = bottom(machine, worker);
+    struct plain_frame *frame = &machine->frames[place];
+    machine->lengths[worker] -= 1;
+    if (frame->children > 0) {
+        frame->suspended = 1;
+        frame->returning = 1;
+        return splitter_answer(SPLITTER_RETURNED, SPLITTER_WAITS);
+    }
+    return splitter_answer(SPLITTER_RETURNED, end(machine, worker, place));
 }
 
 static uint64_t steal(struct plain *machine, unsigned thief, unsigned victim) {
@@ -201,7 +214,7 @@ uint64_t plain_step(struct plain *machine, uint32_t kind, uint32_t worker, uint3
     }
     switch (kind) {
     case SPLITTER_SPAWN: return spawn(machine, worker);
-    case SPLITTER_RETURN: return end(machine, worker);
+    case SPLITTER_RETURN: return return_from(machine, worker);
     case SPLITTER_STEAL: return steal(machine, worker, field);
     case SPLITTER_SYNC: return sync(machine, worker);
     case SPLITTER_READ: return splitter_answer(SPLITTER_VALUE, machine->frames[bottom(machine, worker)].values[field]);

@@ -1,4 +1,4 @@
-/* The plain machine of documents 01 and 02 (R-2): a full list of values for each frame, free nodes by counting the distinct triples.
+/* The plain machine of documents 01 and 02 (R-2, R-3): a full list of values for each frame, free nodes by counting the distinct triples.
  * The worked hosts compare the library's answers with it. A product needs no such thing. */
 #ifndef PLAIN_H
 #define PLAIN_H
@@ -6,7 +6,7 @@
 #include "splitter.h"
 
 struct plain_frame {
-    int live, suspended;
+    int live, suspended, returning;           /* one that waits as returning is suspended too */
     unsigned parent, depth, children;         /* Main is its own parent */
     uint32_t values[SPLITTER_MAX_SPLITTERS];
     unsigned written[SPLITTER_MAX_SPLITTERS]; /* which write was the last to each splitter; the start is write 0 */
@@ -22,7 +22,7 @@ struct plain {
 /* What splitter_start answers: SPLITTER_OK or a refusal. */
 uint32_t plain_start(struct plain *machine, uint32_t workers, const uint32_t *values, size_t values_len, size_t nodes);
 
-/* What splitter_step answers to a sound state and a long enough work slice: 101 to 106, or a refusal 7 to 16. */
+/* What splitter_step answers to a sound state and a long enough work slice: 101 to 106, or a refusal 7 to 13, 15, 16. */
 uint64_t plain_step(struct plain *machine, uint32_t kind, uint32_t worker, uint32_t field, uint32_t value);
 
 #endif

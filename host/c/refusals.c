@@ -68,6 +68,9 @@ static void refused_images(void) {
     image[0] ^= 1;
     show(splitter_lent_load(&lent, image, len), SPLITTER_BAD_CHECK, "a bit of the image has flipped");
     image[0] ^= 1;
+    image[1] += 1;
+    show(splitter_lent_load(&lent, image, len), SPLITTER_BAD_BLOCKS, "an image of a later form");
+    image[1] -= 1;
     lent.pool_len -= SPLITTER_NODE_WORDS;
     show(splitter_lent_load(&lent, image, len), SPLITTER_UNSOUND, "an image read into a pool with a node too few");
     same("state of zeros", lent.state->numbers[SPLITTER_NUMBER_WORKERS], 0);
@@ -91,10 +94,9 @@ static void refused_steals(void) {
 }
 
 /* Main moves to worker 1; its child stays on worker 0. */
-static void refused_return(void) {
+static void move_main(void) {
     checked_spawn(&run, 0);
     checked_steal(&run, 1, 0);
-    show(checked_return(&run, 1), SPLITTER_CHILD_LIVES, "Main returns while its child runs elsewhere");
 }
 
 static void write_and_tell(const char *what, unsigned worker, unsigned block, uint32_t value) {
@@ -127,6 +129,19 @@ static void full_frames(void) {
     show(checked_read(&run, 1, 3), SPLITTER_MAIN_RETURNED, "a read after Main's return");
 }
 
+/* What 14 refused before: the frame waits as returning, and can do nothing more. Main has returned only when it has ended. */
+static void waiting_main(void) {
+    same("start", checked_start(&run, 2, factory_marks, BLOCKS), SPLITTER_OK);
+    move_main();
+    same("return", checked_return(&run, 1), splitter_answer(SPLITTER_RETURNED, SPLITTER_WAITS));
+    printf("    Main returns while its child runs elsewhere: it waits\n");
+    show(checked_read(&run, 1, 3), SPLITTER_WORKER_IDLE, "its worker reads block 3");
+    show(checked_steal(&run, 1, 0), SPLITTER_NO_VICTIM, "and cannot steal the child");
+    printf("    the child reads block 3: %u\n", splitter_answer_number(checked_read(&run, 0, 3)));
+    same("return", checked_return(&run, 0), splitter_answer(SPLITTER_RETURNED, SPLITTER_FINISHED));
+    show(checked_spawn(&run, 0), SPLITTER_MAIN_RETURNED, "the child has ended, and Main with it");
+}
+
 void show_refusals(void) {
     printf("\nRefusals\n");
     refused_starts();
@@ -136,7 +151,8 @@ void show_refusals(void) {
     refused_images();
     refused_steps();
     refused_steals();
-    refused_return();
+    move_main();
     full_pool();
     full_frames();
+    waiting_main();
 }

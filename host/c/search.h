@@ -6,7 +6,7 @@
 
 #include "checked.h"
 
-enum { BLOCKS = 16, NODES = 72, MOST_NODES = 96, WORKERS = 3, OWN_WORDS = 107 };
+enum { BLOCKS = 16, NODES = 72, MOST_NODES = 96, WORKERS = 3, OWN_WORDS = 108 };
 
 /* The run, its lent memory, and the blocks as the factory marked them. */
 extern struct checked run;
@@ -15,16 +15,20 @@ extern const uint32_t factory_marks[BLOCKS];
 /* Lends the state, and pool and work for so many nodes, at most MOST_NODES. */
 void lend(unsigned nodes);
 
+/* Which branches sync before they return: all, Main alone, or none. The others return at once and wait as returning, as Cilk has it. */
+enum syncs { NONE_SYNCS, MAIN_SYNCS, ALL_SYNC };
+
 /* The search so far. */
 struct search {
     bool told, finished;
+    enum syncs syncs;
     unsigned workers, made, turn, waits, given_up, least_free, layouts, least_cost;
     const struct branch *best;
 };
 extern struct search search;
 
 /* Begins the search, takes a turn of each worker, prints what was found. */
-void begin(unsigned workers, unsigned nodes, bool told);
+void begin(unsigned workers, unsigned nodes, enum syncs syncs, bool told);
 void take_turns(void);
 void tell_result(void);
 

@@ -87,7 +87,7 @@ void work_a_shift(const char *folder, unsigned turns, unsigned more) {
     uint32_t sequence = read_newest(folder);
     if (sequence == 0) {
         printf("    no image can be read: begins\n");
-        begin(WORKERS, NODES, true);
+        begin(WORKERS, NODES, ALL_SYNC, true);
     }
     for (unsigned i = 0; i < turns && !search.finished; i++) {
         take_turns();

@@ -41,6 +41,17 @@ static void steps_up(void) {
     }
 }
 
+/* All frames but the last wait as returning, each stolen from the worker that went on in its child; then one return ends all. */
+static void chain(void) {
+    for (unsigned i = 1; i < FRAMES; i++) {
+        splitter_spawn(&lent, 0);
+        splitter_write(&lent, 0, SPLITTER_MAX_SPLITTERS - i, i);
+        splitter_steal(&lent, 1, 0);
+        splitter_return(&lent, 1);
+    }
+    splitter_return(&lent, 0);
+}
+
 static void save(void) {
     saved = splitter_lent_save(&lent, image, sizeof image);
 }
@@ -111,6 +122,9 @@ int main(void) {
     size_t saves = stack_of(save), loads = stack_of(load);
     check_image();
     stepped = larger(stepped, stack_of(steps_up));
+    check_end();
+    start();
+    stepped = larger(stepped, stack_of(chain));
     check_end();
     start();
     size_t taped = stack_of(tapes);

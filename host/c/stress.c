@@ -2,12 +2,14 @@
  *
  * Beyond the answers: words around the state, past each other slice and past the last whole node never change; the work slice is zero
  * after each call; a refused call or step leaves state and pool as they were; a pool with a wrong count of holders is refused, and so is a
- * part of the state with another length. Runs are saved and read back into garbage, and go on as the plain machine of that moment does. */
+ * part of the state with another length. Runs are saved and read back into garbage, and go on as the plain machine of that moment does;
+ * where no frame waited as returning, now and then from an image of the form before. */
 #include <stdio.h>
 #include <stdlib.h>
 #include <string.h>
 
 #include "checked.h"
+#include "older.h"
 
 enum { NODES = 1024, GUARD = 3, STEPS = 300, RECORDS = 20 };
 #define GUARD_WORD 0xdeadbeefu
@@ -24,8 +26,13 @@ static uint32_t work[NODES + GUARD], answers[2 * RECORDS + GUARD], values[SPLITT
 static struct checked run;
 static uint8_t image[SPLITTER_IMAGE_BYTES(NODES) + GUARD], spare[SPLITTER_IMAGE_BYTES(NODES)];
 static size_t image_len;         /* of the run's last save, or 0 */
+static uint8_t older[OLDER_IMAGE_BYTES(NODES)];
+static size_t older_len;         /* of the same run in the form before, or 0 */
 static struct plain saved_plain; /* the plain machine of that moment */
 static unsigned long counts[SPLITTER_WRITTEN + 1]; /* by first answer word */
+static unsigned long outcomes[SPLITTER_WAITS + 1]; /* of returns */
+static unsigned long chains[SPLITTER_WAITS + 1];   /* of those by which more than one frame ended */
+static unsigned long read_older;
 
 static uint32_t seed;
 
@@ -104,11 +111,21 @@ static struct step any_step(void) {
     return step;
 }
 
+/* Counts the outcome of a return, and whether waiting frames ended with the returning one. */
+static void count_outcome(uint64_t answer, unsigned live_before) {
+    if (splitter_answer_kind(answer) == SPLITTER_RETURNED) {
+        outcomes[splitter_answer_number(answer)] += 1;
+        chains[splitter_answer_number(answer)] += live_before > run.plain.live + 1;
+    }
+}
+
 static void stress_step(void) {
     struct step s = any_step();
+    unsigned live_before = run.plain.live;
     soil_work();
     remember();
     uint64_t wanted = plain_step(&run.plain, s.kind, s.worker, s.field, s.value);
+    count_outcome(wanted, live_before);
     same("step", splitter_lent_step(&run.lent, s.kind, s.worker, s.field, s.value), wanted);
     counts[splitter_answer_kind(wanted)] += 1;
     if (splitter_answer_kind(wanted) < SPLITTER_SPAWNED) {
@@ -168,15 +185,18 @@ static void stress_save(void) {
     for (unsigned i = 0; i < GUARD; i++) {
         same("byte past the image", image[image_len + i], 0x5a);
     }
+    older_len = older_fits(state) ? older_image(state, pool, older) : 0;
     saved_plain = run.plain;
 }
 
 /* Whatever state and pool hold, the run is the saved one again. */
 static void stress_load(void) {
+    int from_older = older_len > 0 && any(3) == 0;
     memset(state, 0xa5, sizeof *state);
     memset(pool, 0xa5, run.plain.nodes * SPLITTER_NODE_WORDS * sizeof pool[0]);
     soil_work();
-    same("load", splitter_lent_load(&run.lent, image, image_len), SPLITTER_OK);
+    same("load", splitter_lent_load(&run.lent, from_older ? older : image, from_older ? older_len : image_len), SPLITTER_OK);
+    read_older += (unsigned long)from_older;
     run.plain = saved_plain;
 }
 
@@ -292,6 +312,7 @@ static void stress_run(void) {
     }
     memset(work, 0, sizeof work);
     image_len = 0;
+    older_len = 0;
     guard(guarded.before);
     guard(guarded.after);
     guard(pool + nodes * SPLITTER_NODE_WORDS);
@@ -313,11 +334,25 @@ static unsigned long argument(const char *text) {
     return number;
 }
 
+/* Every outcome of a return has come, every end of a chain of waiting frames, and readings of the form before. */
+static void check_outcomes(void) {
+    for (unsigned outcome = SPLITTER_CONTINUED; outcome <= SPLITTER_WAITS; outcome++) {
+        int ends_chains = outcome == SPLITTER_IDLE || outcome == SPLITTER_RESUMED || outcome == SPLITTER_FINISHED;
+        if (outcomes[outcome] == 0 || ends_chains != (chains[outcome] > 0)) {
+            printf("outcome %u: %lu returns, %lu chains\n", outcome, outcomes[outcome], chains[outcome]);
+            exit(1);
+        }
+    }
+    if (read_older == 0) {
+        surprise("no image of the form before was read");
+    }
+}
+
 /* Every answer and refusal of a step has come, or the runs show too little. */
 static unsigned long count_answers(void) {
     unsigned long sum = 0;
     for (uint32_t kind = SPLITTER_SHORT_WORK; kind <= SPLITTER_WRITTEN; kind++) {
-        int comes = kind <= SPLITTER_SHORT_TARGET || kind == SPLITTER_BAD_STATE || kind >= SPLITTER_SPAWNED;
+        int comes = (kind <= SPLITTER_SHORT_TARGET && kind != 14) || kind == SPLITTER_BAD_STATE || kind >= SPLITTER_SPAWNED;
         if (comes && counts[kind] == 0) {
             printf("never answered: %u (%s)\n", kind, splitter_name(kind));
             exit(1);
@@ -334,5 +369,6 @@ int main(int argc, char **argv) {
         stress_run();
     }
     printf("stress: %lu random runs, %lu answers, each as the plain machine gives it\n", runs, count_answers());
+    check_outcomes();
     return 0;
 }

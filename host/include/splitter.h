@@ -18,11 +18,15 @@
  * pool as the call before left them. Every call checks what it is handed: state and pool that are not sound are refused
  * (SPLITTER_UNSOUND), not used. A foreign change that leaves them sound, such as another value in a leaf, cannot be seen.
  *
+ * A return with a live child is no mistake: the frame waits for its children and ends when the last of them ends (SPLITTER_WAITS). So a
+ * frame that has nothing to do after its children needs no sync.
+ *
  * An image is a whole run between two calls: its state and its pool's nodes, the same bytes on every machine. splitter_load goes on from
  * it, in another process or on another day, as at the save; what came after the save is forgotten. The host's own part of the search is
  * not in it. Each block has a check, a sum: it finds a changed byte, but not blocks that changed places, nor words that did within a
  * block. Such an image is read if it is sound. A host that needs more keeps a sequence number and a CRC of its own around the image
- * (docs/INTEGRATION.md, host/c/kept.c).
+ * (docs/INTEGRATION.md, host/c/kept.c). A save writes version 1: the workers plus 256 in the first word, seven words to a frame record.
+ * Version 0, from before, has the workers alone there and six words to a record. It is read too, with no frame waiting as returning.
  *
  * The seven functions are the library. Below them are inline helpers: the same calls over struct splitter_state and over struct
  * splitter_lent, a call for each kind of step, records, texts. A host needs no others than those over struct splitter_lent.
@@ -39,7 +43,8 @@ extern "C" {
 
 #define SPLITTER_NUMBERS_WORDS 5u  /* SPLITTER_NUMBER_WORKERS to SPLITTER_NUMBER_FREE_FRAME */
 #define SPLITTER_DEQUES_WORDS 520u /* for each of 8 workers its deque's length, then 64 places for its frames from the top */
-#define SPLITTER_FRAMES_WORDS 384u /* 64 records: live, parent or next free place, depth, outstanding, suspended, root */
+#define SPLITTER_FRAMES_WORDS 448u /* 64 records of SPLITTER_FRAME_WORDS words */
+#define SPLITTER_FRAME_WORDS 7u    /* SPLITTER_FRAME_LIVE to SPLITTER_FRAME_RETURNING */
 #define SPLITTER_NODE_WORDS 4u
 #define SPLITTER_MAX_NODES 16384u
 #define SPLITTER_MAX_SPLITTERS 256u
@@ -48,6 +53,7 @@ extern "C" {
 #define SPLITTER_RECORD_BYTES 8u
 #define SPLITTER_BLOCK_BYTES 512u  /* of an image: data, then a check of 4 bytes */
 #define SPLITTER_BLOCK_WORDS 127u  /* of a block's data */
+#define SPLITTER_IMAGE_VERSION 256u /* added to the workers in an image's first word */
 #define SPLITTER_STACK_BYTES 2048u /* a call takes at most this much stack, on x86-64; measured (host/c/stack.c) */
 
 /* splitter_image_bytes as a constant, to size an array: for 0 to SPLITTER_MAX_NODES nodes. */
@@ -72,6 +78,17 @@ enum {
     SPLITTER_NUMBER_FREE_FRAME = 4 /* the first free frame place, or none */
 };
 
+/* The words of a frame record. All but the second are zero in a free place. */
+enum {
+    SPLITTER_FRAME_LIVE = 0,        /* 1, or 0 in a free place */
+    SPLITTER_FRAME_PARENT = 1,      /* the parent's place, none for Main; in a free place the next free one, or none */
+    SPLITTER_FRAME_DEPTH = 2,
+    SPLITTER_FRAME_OUTSTANDING = 3, /* its live children */
+    SPLITTER_FRAME_SUSPENDED = 4,   /* 1 on a frame that waits, at a sync or as returning, else 0 */
+    SPLITTER_FRAME_ROOT = 5,        /* the root of its tree in the pool */
+    SPLITTER_FRAME_RETURNING = 6    /* 1 on a suspended frame that waits as returning, else 0 */
+};
+
 /* Kinds of steps: a record's first byte, and splitter_step's kind. */
 enum {
     SPLITTER_SPAWN = 1,
@@ -86,19 +103,21 @@ enum {
 enum {
     SPLITTER_OK = 0,
     SPLITTER_SPAWNED = 101,  /* second word: the child's depth */
-    SPLITTER_RETURNED = 102, /* second word: SPLITTER_CONTINUED to SPLITTER_FINISHED */
+    SPLITTER_RETURNED = 102, /* second word: SPLITTER_CONTINUED to SPLITTER_WAITS */
     SPLITTER_STOLEN = 103,   /* second word: the stolen frame's depth */
     SPLITTER_SYNCED = 104,   /* second word: SPLITTER_PASSED or SPLITTER_SUSPENDED */
     SPLITTER_VALUE = 105,    /* second word: the value read */
     SPLITTER_WRITTEN = 106   /* second word: the free nodes left */
 };
 
-/* Outcomes of a return. */
+/* Outcomes of a return. If the worker's deque is empty and the parent waits as returning, with no other live child, the parent ends too,
+ * and so on upward: 1, 2 and 3 tell where that stopped. */
 enum {
     SPLITTER_CONTINUED = 0, /* the parent is now the bottom frame of the same deque */
-    SPLITTER_IDLE = 1,      /* the worker's deque is empty */
-    SPLITTER_RESUMED = 2,   /* the suspended parent goes on, on this worker, with its own view */
-    SPLITTER_FINISHED = 3   /* Main has returned */
+    SPLITTER_IDLE = 1,      /* the worker is idle: the frame above those that ended has other live children, or is in a deque */
+    SPLITTER_RESUMED = 2,   /* the frame above those that ended waited at a sync: it goes on, on this worker, with its own view */
+    SPLITTER_FINISHED = 3,  /* Main has ended */
+    SPLITTER_WAITS = 4      /* the frame has a live child: it has not ended, but waits as returning; the worker is idle */
 };
 
 /* Outcomes of a sync. */
@@ -119,16 +138,17 @@ enum {
     /* Of one step or record: state and pool are as they were. */
     SPLITTER_BAD_RECORD = 7,    /* the kind is not 1 to 6, or an unused field is not zero */
     SPLITTER_NO_WORKER = 8,     /* the worker does not exist */
-    SPLITTER_MAIN_RETURNED = 9, /* Main has returned */
+    SPLITTER_MAIN_RETURNED = 9, /* Main has returned: it has ended, and no frame lives */
     SPLITTER_WORKER_IDLE = 10,  /* not a steal, and the worker is idle */
     SPLITTER_THIEF_BUSY = 11,   /* a steal, and the thief is not idle */
     SPLITTER_NO_VICTIM = 12,    /* a steal, and the victim does not exist or has fewer than two frames */
     SPLITTER_FRAMES_FULL = 13,  /* a spawn, and 64 frames live */
-    SPLITTER_CHILD_LIVES = 14,  /* a return, and the frame has a live child */
+    /* 14 no longer comes: such a return is accepted, SPLITTER_WAITS. */
     SPLITTER_NO_SPLITTER = 15,  /* a read or write, and the splitter is not below n */
     SPLITTER_POOL_FULL = 16,    /* a write, and fewer nodes are free than the shared rest of its path has */
     /* Of a reading, before 5 and 6, and of a save, after 6. */
-    SPLITTER_BAD_BLOCKS = 17,   /* the image is not just as many whole blocks as its first block calls for, or has no whole block */
+    SPLITTER_BAD_BLOCKS = 17,   /* the image is not just as many whole blocks as its first block calls for, has no whole block, or its
+                                 * first word is 512 or more: a version that this library does not read */
     SPLITTER_BAD_CHECK = 18,    /* a check is wrong or the rest of the last block is not zero */
     SPLITTER_SHORT_TARGET = 19, /* the target is too short */
     /* Of the interface, before all others: a part of the state has another length than it must have; nothing at all has changed. */
@@ -140,7 +160,8 @@ uint32_t splitter_start(uint32_t *numbers, size_t numbers_len, uint32_t *deques,
                         uint32_t workers, const uint32_t *values, size_t values_len, uint32_t *pool, size_t pool_len);
 
 /* One step. field is the splitter of a read or write, the victim of a steal, else 0; value is a write's, else 0.
- * The low half of the result is the first answer word (101 to 106, or a refusal: 99, 5, 6, then 7 to 16), the high half the second. */
+ * The low half of the result is the first answer word (101 to 106, or a refusal: 99, 5, 6, then 7 to 13, 15, 16), the high half the
+ * second. */
 uint64_t splitter_step(uint32_t *numbers, size_t numbers_len, uint32_t *deques, size_t deques_len, uint32_t *frames, size_t frames_len,
                        uint32_t *pool, size_t pool_len, uint32_t *work, size_t work_len,
                        uint32_t kind, uint32_t worker, uint32_t field, uint32_t value);
@@ -151,19 +172,20 @@ uint32_t splitter_tape(uint32_t *numbers, size_t numbers_len, uint32_t *deques, 
                        uint32_t *pool, size_t pool_len, uint32_t *work, size_t work_len,
                        const uint8_t *tape, size_t tape_len, uint32_t *answers, size_t answers_len);
 
-/* Saves the run: its image in the front of the target. State and pool are only read. SPLITTER_OK, or a refusal: 99, 5, 6, 19; then nothing
- * has changed but the work slice. Target bytes past the image never change. */
+/* Saves the run: its image, of version 1, in the front of the target. State and pool are only read. SPLITTER_OK, or a refusal: 99, 5, 6,
+ * 19; then nothing has changed but the work slice. Target bytes past the image never change. */
 uint32_t splitter_save(const uint32_t *numbers, size_t numbers_len, const uint32_t *deques, size_t deques_len,
                        const uint32_t *frames, size_t frames_len, const uint32_t *pool, size_t pool_len, uint32_t *work, size_t work_len,
                        uint8_t *target, size_t target_len);
 
-/* Reads an image of just image_len bytes, whatever state and pool hold before. SPLITTER_OK, and the run goes on as at its save, or a
- * refusal: 99, 17, 18, 5, 6. Refused by 99 nothing has changed. Refused by another, the three parts of the state are zero, and by 6
- * every whole node of the pool too. The pool may be longer than the image's nodes: pool words past these never change but by 6. */
+/* Reads an image of just image_len bytes, of version 0 or 1, whatever state and pool hold. SPLITTER_OK, and the run goes on
+ * as at its save, or a refusal: 99, 17, 18, 5, 6. Refused by 99 nothing has changed. Refused by another, the three parts of the state are
+ * zero, and by 6 every whole node of the pool too. The pool may be longer than the image's nodes: pool words past these never change but
+ * by 6. */
 uint32_t splitter_load(uint32_t *numbers, size_t numbers_len, uint32_t *deques, size_t deques_len, uint32_t *frames, size_t frames_len,
                        uint32_t *pool, size_t pool_len, uint32_t *work, size_t work_len, const uint8_t *image, size_t image_len);
 
-/* The bytes of an image of so many nodes, for any number of them: whole blocks. */
+/* The bytes of an image that a save writes, of so many nodes, for any number of them: whole blocks. */
 uint64_t splitter_image_bytes(uint32_t nodes);
 
 /* T(n): the nodes that one full view of n splitters takes, the least that a pool can have. The sum over the tree's levels for any n, 0 for 0;
@@ -308,10 +330,9 @@ static inline const char *splitter_name(uint32_t number) {
     case SPLITTER_THIEF_BUSY: return "the thief is not idle";
     case SPLITTER_NO_VICTIM: return "the victim has no frame to steal";
     case SPLITTER_FRAMES_FULL: return "64 frames live";
-    case SPLITTER_CHILD_LIVES: return "the frame has a live child";
     case SPLITTER_NO_SPLITTER: return "no such splitter";
     case SPLITTER_POOL_FULL: return "too few free nodes";
-    case SPLITTER_BAD_BLOCKS: return "the image is not just as many whole blocks as it calls for";
+    case SPLITTER_BAD_BLOCKS: return "the image is not just as many whole blocks as it calls for, or of no readable form";
     case SPLITTER_BAD_CHECK: return "a check is wrong or the rest of the last block is not zero";
     case SPLITTER_SHORT_TARGET: return "the target is too short";
     case SPLITTER_BAD_STATE: return "a part of the state has another length than it must have";

@@ -15,17 +15,20 @@ pub enum Done {
     Written(u32),
 }
 
-/// The outcome of a return.
+/// The outcome of a return. If the worker's deque is empty and the parent waits as returning, with no other
+/// live child, the parent ends too, and so on upward: idle, resumed and finished tell where that stopped.
 #[derive(Clone, Copy, Debug, PartialEq, Eq, Hash)]
 pub enum Returned {
     /// The parent is now the bottom frame of the same deque.
     Continued,
-    /// The worker's deque is empty.
+    /// The worker is idle: the frame above those that ended has other live children, or is in a deque.
     Idle,
-    /// The suspended parent goes on, on this worker, with its own view.
+    /// The frame above those that ended waited at a sync: it goes on, on this worker, with its own view.
     Resumed,
-    /// Main has returned.
+    /// Main has ended.
     Finished,
+    /// The frame has a live child: it has not ended, but waits as returning; the worker is idle.
+    Waits,
 }
 
 /// The outcome of a sync.
@@ -58,7 +61,7 @@ pub enum Refusal {
     BadRecord,
     /// The worker does not exist.
     NoWorker,
-    /// Main has returned.
+    /// Main has returned: it has ended, and no frame lives.
     MainReturned,
     /// The worker of a step that is no steal is idle.
     WorkerIdle,
@@ -68,13 +71,12 @@ pub enum Refusal {
     NoVictim,
     /// A spawn while 64 frames live.
     FramesFull,
-    /// A return while the frame has a live child.
-    ChildLives,
     /// The splitter is not below n.
     NoSplitter,
     /// A write while fewer nodes are free than the shared rest of its path has.
     PoolFull,
-    /// An image that is not just as many whole blocks as its first block calls for, or has no whole block.
+    /// An image that is not just as many whole blocks as its first block calls for, has no whole block, or
+    /// whose first word is 512 or more: a form that this library does not read.
     BadBlocks,
     /// An image with a wrong check, or with a rest of its last block that is not zero.
     BadCheck,
@@ -91,7 +93,7 @@ pub enum Refusal {
 pub type Answer = Result<Done, Refusal>;
 
 /// The known refusals, with their numbers and texts.
-const REFUSALS: [(Refusal, u32, &str); 20] = [
+const REFUSALS: [(Refusal, u32, &str); 19] = [
     (Refusal::NoValues, 1, "0 or more than 256 initial values"),
     (Refusal::NoWorkers, 2, "0 or more than 8 workers"),
     (Refusal::NoNodes, 3, "too few or too many nodes in the pool"),
@@ -105,10 +107,9 @@ const REFUSALS: [(Refusal, u32, &str); 20] = [
     (Refusal::ThiefBusy, 11, "the thief is not idle"),
     (Refusal::NoVictim, 12, "the victim has no frame to steal"),
     (Refusal::FramesFull, 13, "64 frames live"),
-    (Refusal::ChildLives, 14, "the frame has a live child"),
     (Refusal::NoSplitter, 15, "no such splitter"),
     (Refusal::PoolFull, 16, "too few free nodes"),
-    (Refusal::BadBlocks, 17, "the image is not just as many whole blocks as it calls for"),
+    (Refusal::BadBlocks, 17, "the image is not just as many whole blocks as it calls for, or of no readable form"),
     (Refusal::BadCheck, 18, "a check is wrong or the rest of the last block is not zero"),
     (Refusal::ShortTarget, 19, "the target is too short"),
     (Refusal::BadState, 99, "a part of the state has another length than it must have"),
@@ -176,6 +177,7 @@ pub fn answer(words: [u32; 2]) -> Answer {
         [102, 1] => Done::Returned(Returned::Idle),
         [102, 2] => Done::Returned(Returned::Resumed),
         [102, 3] => Done::Returned(Returned::Finished),
+        [102, 4] => Done::Returned(Returned::Waits),
         [103, depth] => Done::Stolen(depth),
         [104, 0] => Done::Synced(Synced::Passed),
         [104, 1] => Done::Synced(Synced::Suspended),

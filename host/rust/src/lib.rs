@@ -21,6 +21,21 @@
 //! # Ok::<(), splitter::Refusal>(())
 //! ```
 //!
+//! A return needs no sync before it: a frame with a live child waits, and ends with its last child.
+//!
+//! ```
+//! use splitter::{Engine, Returned, State, NODE_WORDS};
+//!
+//! let (mut state, mut pool, mut work) = (State::ZERO, [0; 20 * NODE_WORDS], [0; 20]);
+//! let mut engine = Engine { state: &mut state, pool: &mut pool, work: &mut work };
+//! engine.start(2, &[10, 20, 30, 40, 50])?;
+//! engine.spawn(0)?;
+//! engine.steal(1, 0)?;
+//! assert_eq!(engine.ret(1)?, Returned::Waits); // Main has returned, but its child runs
+//! assert_eq!(engine.ret(0)?, Returned::Finished); // the child ends, and Main with it
+//! # Ok::<(), splitter::Refusal>(())
+//! ```
+//!
 //! A run can be saved as an image and read back, in another process too:
 //!
 //! ```
@@ -56,7 +71,9 @@ pub const NUMBERS_WORDS: usize = 5;
 /// The words of the state's deques.
 pub const DEQUES_WORDS: usize = 520;
 /// The words of the state's frame records.
-pub const FRAMES_WORDS: usize = 384;
+pub const FRAMES_WORDS: usize = MAX_FRAMES * FRAME_WORDS;
+/// The words of a frame record.
+pub const FRAME_WORDS: usize = 7;
 /// The words of a node.
 pub const NODE_WORDS: usize = 4;
 /// The most nodes of a pool.
@@ -72,8 +89,10 @@ pub const MAX_FRAMES: usize = 64;
 pub const BLOCK_BYTES: usize = 512;
 /// The words of a block's data; its check follows them.
 pub const BLOCK_WORDS: usize = 127;
+/// Added to the workers in an image's first word.
+pub const IMAGE_VERSION: u32 = 256;
 
-/// The bytes of an image of so many nodes, whole blocks.
+/// The bytes of an image that a save writes, of so many nodes: whole blocks.
 pub fn image_bytes(nodes: u32) -> u64 {
     raw::image_bytes(nodes)
 }
@@ -121,7 +140,7 @@ impl Engine<'_> {
         }
     }
 
-    /// The bottom frame ends.
+    /// The bottom frame ends; with a live child it waits and ends with its last child.
     pub fn ret(&mut self, worker: u8) -> Result<Returned, Refusal> {
         match self.step(Step::Return { worker })? {
             Done::Returned(outcome) => Ok(outcome),
@@ -174,7 +193,8 @@ impl Engine<'_> {
     }
 
     /// Goes on with a saved run as it was at its save, whatever the lent memory holds. The image is just its
-    /// bytes; the pool may be longer than its nodes. A refused reading leaves [`State::ZERO`], by
+    /// bytes, of the form that [`Engine::save`] writes or of the one before, in which no frame waits as
+    /// returning; the pool may be longer than its nodes. A refused reading leaves [`State::ZERO`], by
     /// [`Refusal::Unsound`] every whole node of the pool zero as well.
     pub fn load(&mut self, image: &[u8]) -> Result<(), Refusal> {
         call(raw::load(self.state.parts(), self.pool, self.work, image))

@@ -9,7 +9,9 @@ pub struct State {
     pub numbers: [u32; NUMBERS_WORDS],
     /// For each of 8 workers its deque's length, then 64 places for its frames from the top.
     pub deques: [u32; DEQUES_WORDS],
-    /// 64 records: live, parent or next free place, depth, outstanding, suspended, root.
+    /// 64 records of [`FRAME_WORDS`](crate::FRAME_WORDS) words: live, parent or next free place, depth,
+    /// outstanding, suspended, root, returning. The last is 1 on a suspended frame that waits as returning,
+    /// else 0.
     pub frames: [u32; FRAMES_WORDS],
 }
 

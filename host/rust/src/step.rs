@@ -3,7 +3,7 @@
 pub enum Step {
     /// A new frame, child of the worker's bottom frame.
     Spawn { worker: u8 },
-    /// The bottom frame ends.
+    /// The bottom frame ends; with a live child it waits and ends with its last child.
     Return { worker: u8 },
     /// An idle worker takes the victim's top frame.
     Steal { worker: u8, victim: u16 },

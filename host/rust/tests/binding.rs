@@ -1,16 +1,19 @@
 //! The binding's numbers, and document 01's example through it.
 
 use splitter::{answer, answers, raw, tree_nodes, Done, Engine, Refusal, Returned, State, Step, Synced};
-use splitter::{image_array_bytes, image_bytes, BLOCK_BYTES, BLOCK_WORDS};
-use splitter::{DEQUES_WORDS, FRAMES_WORDS, NODE_WORDS, NUMBERS_WORDS};
+use splitter::{image_array_bytes, image_bytes, BLOCK_BYTES, BLOCK_WORDS, IMAGE_VERSION};
+use splitter::{DEQUES_WORDS, FRAMES_WORDS, FRAME_WORDS, NODE_WORDS, NUMBERS_WORDS};
 use splitter::{MAX_FRAMES, MAX_NODES, MAX_SPLITTERS, MAX_WORKERS};
 use std::mem::{offset_of, size_of};
+
+/// The numbers of the refusals; 14 was one before R-3.
+const REFUSALS: [u32; 19] = [1, 2, 3, 4, 5, 6, 7, 8, 9, 10, 11, 12, 13, 15, 16, 17, 18, 19, 99];
 
 #[test]
 fn refusals_keep_their_numbers() {
     for number in 0..200 {
         let refusal = Refusal::from_number(number);
-        let known = (1..=19).contains(&number) || number == 99;
+        let known = REFUSALS.contains(&number);
         assert_eq!(refusal.number(), number);
         assert_eq!(refusal == Refusal::Unknown(number), !known);
         assert_eq!(refusal.to_string() == format!("unknown number {number}"), !known);
@@ -31,7 +34,7 @@ fn answers_keep_their_words() {
             }
         }
     }
-    assert_eq!(accepted, 4 * 6 + 4 + 2);
+    assert_eq!(accepted, 4 * 6 + 5 + 2);
 }
 
 const HEADER: &str = include_str!("../../include/splitter.h");
@@ -44,7 +47,7 @@ fn name_in_c(name: &str) -> String {
 
 #[test]
 fn the_header_has_the_same_refusals() {
-    for number in (1..=19).chain([99]) {
+    for number in REFUSALS {
         let refusal = Refusal::from_number(number);
         let name = format!("SPLITTER_{}", name_in_c(&format!("{refusal:?}")));
         let given = HEADER.split_once(&format!(" {name} = ")).expect(&name).1;
@@ -55,11 +58,24 @@ fn the_header_has_the_same_refusals() {
 }
 
 #[test]
+fn the_header_has_the_same_outcomes() {
+    for outcome in [Returned::Continued, Returned::Idle, Returned::Resumed, Returned::Finished, Returned::Waits] {
+        let name = name_in_c(&format!("{outcome:?}"));
+        assert!(HEADER.contains(&format!(" SPLITTER_{name} = {}", outcome as u32)), "{name}");
+    }
+    for outcome in [Synced::Passed, Synced::Suspended] {
+        let name = name_in_c(&format!("{outcome:?}"));
+        assert!(HEADER.contains(&format!(" SPLITTER_{name} = {}", outcome as u32)), "{name}");
+    }
+}
+
+#[test]
 fn the_header_has_the_same_sizes() {
     for (name, size) in [
         ("NUMBERS_WORDS", NUMBERS_WORDS),
         ("DEQUES_WORDS", DEQUES_WORDS),
         ("FRAMES_WORDS", FRAMES_WORDS),
+        ("FRAME_WORDS", FRAME_WORDS),
         ("NODE_WORDS", NODE_WORDS),
         ("MAX_NODES", MAX_NODES),
         ("MAX_SPLITTERS", MAX_SPLITTERS),
@@ -68,6 +84,7 @@ fn the_header_has_the_same_sizes() {
         ("RECORD_BYTES", Step::RECORD_BYTES),
         ("BLOCK_BYTES", BLOCK_BYTES),
         ("BLOCK_WORDS", BLOCK_WORDS),
+        ("IMAGE_VERSION", IMAGE_VERSION as usize),
     ] {
         assert!(HEADER.contains(&format!("#define SPLITTER_{name} {size}u")), "{name}");
     }
@@ -95,7 +112,7 @@ fn sizes_of_trees() {
 
 #[test]
 fn sizes_of_images() {
-    assert_eq!(image_bytes(u32::MAX), 69_260_578_816);
+    assert_eq!(image_bytes(u32::MAX), 69_260_579_328);
     for nodes in 0..=MAX_NODES {
         assert_eq!(image_bytes(nodes as u32), image_array_bytes(nodes) as u64);
     }
@@ -160,6 +177,54 @@ fn a_write_takes_nodes_only_for_what_is_shared() {
     assert_eq!((engine.ret(0), engine.write(1, 4, 8)), (Ok(Returned::Idle), Ok(4)));
 }
 
+/// A run of 4 workers with 5 splitters.
+fn with_workers(test: impl FnOnce(&mut Engine)) {
+    let (mut state, mut pool, mut work) = (State::ZERO, [0; 40 * NODE_WORDS], [0; 40]);
+    let mut engine = Engine { state: &mut state, pool: &mut pool, work: &mut work };
+    engine.start(4, &[10, 20, 30, 40, 50]).expect("at least T(5) nodes");
+    test(&mut engine);
+}
+
+/// The worker's bottom frame spawns; the thief takes it and returns it. Then it waits, in this place.
+fn spawn_and_wait(engine: &mut Engine, worker: u8, thief: u8, place: usize) {
+    engine.spawn(worker).expect("a place is free");
+    engine.steal(thief, worker.into()).expect("a deque of two");
+    assert_eq!(engine.ret(thief), Ok(Returned::Waits));
+    assert_eq!(engine.state.frames[FRAME_WORDS * place..][4..7], [1, engine.state.frames[FRAME_WORDS * place + 5], 1]);
+    assert_eq!(engine.read(thief, 0), Err(Refusal::WorkerIdle));
+}
+
+/// Document 02's R-3: 63 frames wait, and one return ends them all.
+#[test]
+fn a_chain_of_waiting_frames_ends_by_one_return() {
+    with_workers(|engine| {
+        for place in 0..MAX_FRAMES - 1 {
+            spawn_and_wait(engine, 0, 1 + place as u8 % 3, place);
+        }
+        assert_eq!(engine.spawn(0), Err(Refusal::FramesFull));
+        assert_eq!(engine.ret(0), Ok(Returned::Finished));
+        assert_eq!(engine.spawn(0), Err(Refusal::MainReturned));
+        assert_eq!((engine.state.numbers[4], &engine.state.deques[..2]), (0, &[0, 0][..]));
+    });
+}
+
+/// Where the ends stop: at a frame in a deque, at one with another live child, at one that waits at a sync.
+#[test]
+fn where_a_chain_stops() {
+    with_workers(|engine| {
+        assert_eq!((engine.spawn(0), engine.steal(1, 0)), (Ok(1), Ok(0)));
+        spawn_and_wait(engine, 0, 2, 1);
+        assert_eq!(engine.ret(0), Ok(Returned::Idle));
+        assert_eq!((engine.spawn(1), engine.steal(0, 1)), (Ok(1), Ok(0)));
+        assert_eq!((engine.spawn(0), engine.steal(2, 0)), (Ok(1), Ok(0)));
+        assert_eq!((engine.write(2, 4, 51), engine.sync(2)), (Ok(25), Ok(Synced::Suspended)));
+        assert_eq!(engine.ret(1), Ok(Returned::Idle));
+        spawn_and_wait(engine, 0, 3, 2);
+        assert_eq!(engine.ret(0), Ok(Returned::Resumed));
+        assert_eq!((engine.read(0, 4), engine.ret(0)), (Ok(51), Ok(Returned::Finished)));
+    });
+}
+
 #[test]
 fn memory_without_a_start_is_refused() {
     let (mut state, mut pool, mut work) = (State::ZERO, [0; 20 * NODE_WORDS], [0; 20]);
@@ -192,6 +257,49 @@ fn the_example_saved_and_read_at_each_step() {
         assert!(pool[20 * NODE_WORDS..].iter().all(|word| *word == 7) && work[20] == 9);
     }
     assert_eq!(image[image_array_bytes(20)], 0);
+}
+
+/// Blocks of 127 words, each with the sum of its words.
+fn blocks(words: &[u32]) -> Vec<u8> {
+    let mut image = Vec::new();
+    for block in words.chunks(BLOCK_WORDS) {
+        let rest = vec![0; BLOCK_WORDS - block.len()];
+        let sum = block.iter().fold(0, |sum: u32, word| sum.wrapping_add(*word));
+        image.extend(block.iter().chain(&rest).chain([&sum]).flat_map(|word| word.to_le_bytes()));
+    }
+    image
+}
+
+/// The run as an image with this first word and so many words to a frame record.
+fn image_of(engine: &Engine, first: u32, frame_words: usize) -> Vec<u8> {
+    let mut words = [&engine.state.numbers[..], &engine.state.deques].concat();
+    words[0] = first;
+    words.extend(engine.state.frames.chunks(FRAME_WORDS).flat_map(|record| &record[..frame_words]));
+    words.extend(&*engine.pool);
+    blocks(&words)
+}
+
+/// Document 02's R-3: a save adds 256 to the first word; an image from before has six words to a record.
+#[test]
+fn both_forms_of_an_image() {
+    with_example(|engine| {
+        let mut image = [0; image_array_bytes(20)];
+        for (step, answer) in EXAMPLE {
+            assert_eq!(engine.step(step), answer);
+            engine.save(&mut image).expect("room for the image");
+            assert_eq!(image[..], image_of(engine, IMAGE_VERSION + 2, FRAME_WORDS));
+            let (state, pool, older) =
+                (engine.state.clone(), engine.pool.to_vec(), image_of(engine, 2, FRAME_WORDS - 1));
+            assert!(older.len() < image.len());
+            engine.pool.fill(7);
+            engine.load(&older).expect("an image from before");
+            assert!(*engine.state == state && engine.pool == pool);
+        }
+        let wrong = [(512 + 2, FRAME_WORDS), (u32::MAX, FRAME_WORDS), (2, FRAME_WORDS), (256 + 2, FRAME_WORDS - 1)];
+        for image in wrong.map(|(first, frame_words)| image_of(engine, first, frame_words)) {
+            assert_eq!(engine.load(&image), Err(Refusal::BadBlocks));
+        }
+    });
 }
 
 #[test]

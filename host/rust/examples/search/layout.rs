@@ -33,16 +33,28 @@ impl Memory {
 }
 
 /// What a branch does in its next turn.
-#[derive(Clone, Copy)]
+#[derive(Clone, Copy, PartialEq)]
 enum Stage {
     Take,
     Look,
     Wait,
     Score,
     End,
+    /// Nothing more: it has ended, or waits as returning.
+    Returned,
 }
 
-const STAGES: [Stage; 5] = [Stage::Take, Stage::Look, Stage::Wait, Stage::Score, Stage::End];
+const STAGES: [Stage; 6] = [Stage::Take, Stage::Look, Stage::Wait, Stage::Score, Stage::End, Stage::Returned];
+
+/// Which branches sync before they return. The others return at once and wait as returning, as Cilk has it.
+#[derive(Clone, Copy)]
+pub enum Syncs {
+    None,
+    Main,
+    All,
+}
+
+pub const SYNCS: [Syncs; 3] = [Syncs::None, Syncs::Main, Syncs::All];
 
 /// What the host keeps of a frame: how far this branch of the search has come.
 #[derive(Clone, Copy)]
@@ -59,8 +71,8 @@ struct Branch {
     failed: Option<u16>,
 }
 
-/// The most words of the host's own part of a search: 8 numbers, a branch for each worker, 16 branches of 6.
-pub const OWN_WORDS: usize = 8 + MAX_WORKERS + 16 * 6;
+/// The most words of the host's own part of a search: 9 numbers, a branch for each worker, 16 branches of 6.
+pub const OWN_WORDS: usize = 9 + MAX_WORKERS + 16 * 6;
 
 /// A branch as a word: its place and 1, or 0 for none.
 fn branch_word(branch: Option<usize>) -> u32 {
@@ -77,7 +89,8 @@ pub struct Search<'a> {
     branches: Vec<Branch>,
     /// The branch that each worker runs.
     runs: [Option<usize>; MAX_WORKERS],
-    told: bool,
+    syncs: Syncs,
+    pub told: bool,
     pub turn: u32,
     pub finished: bool,
     pub least_free: u32,
@@ -94,7 +107,7 @@ fn passes_erase_test(block: u16) -> bool {
 }
 
 impl<'a> Search<'a> {
-    pub fn begin(mut engine: Engine<'a>, workers: u32, told: bool) -> Result<Search<'a>, Refusal> {
+    pub fn begin(mut engine: Engine<'a>, workers: u32, syncs: Syncs) -> Result<Search<'a>, Refusal> {
         engine.start(workers, &FACTORY_MARKS)?;
         let main = Branch { parent: None, stage: Stage::Look, depth: 0, spare: 0, next: FIRST_SPARE, failed: None };
         let nodes = (engine.pool.len() / NODE_WORDS) as u32;
@@ -102,7 +115,8 @@ impl<'a> Search<'a> {
             engine,
             branches: vec![main],
             runs: [Some(0), None, None],
-            told,
+            syncs,
+            told: true,
             turn: 0,
             finished: false,
             least_free: nodes - tree_nodes(BLOCKS.into()) as u32,
@@ -117,7 +131,7 @@ impl<'a> Search<'a> {
     pub fn own_words(&self) -> Vec<u32> {
         let (best, cost) = self.best.map_or((None, 0), |(branch, cost)| (Some(branch), cost));
         let mut words = vec![self.branches.len() as u32, self.turn, self.waits, self.given_up];
-        words.extend([self.least_free, self.layouts, cost, branch_word(best)]);
+        words.extend([self.least_free, self.layouts, cost, branch_word(best), self.syncs as u32]);
         words.extend(self.runs.map(branch_word));
         for b in &self.branches {
             let failed = b.failed.map_or(0, u32::from);
@@ -143,12 +157,13 @@ impl<'a> Search<'a> {
             next: b[4] as u16,
             failed: Some(b[5] as u16).filter(|spare| *spare != 0),
         };
-        let (numbers, rest) = words.split_at(8);
+        let (numbers, rest) = words.split_at(9);
         let (runs, branches) = rest.split_at(MAX_WORKERS);
         Search {
             engine,
             branches: branches.chunks_exact(6).take(numbers[0] as usize).map(branch).collect(),
             runs: [0, 1, 2].map(|worker| branch_of(runs[worker])),
+            syncs: SYNCS[numbers[8] as usize],
             told: true,
             turn: numbers[1],
             finished: false,
@@ -232,7 +247,7 @@ impl<'a> Search<'a> {
             Stage::Look => self.look(worker, branch)?,
             Stage::Wait => self.wait(worker, branch)?,
             Stage::Score => self.score(worker, branch)?,
-            Stage::End => self.end(worker, branch)?,
+            Stage::End | Stage::Returned => self.end(worker, branch)?,
         }
         Ok(true)
     }
@@ -274,11 +289,20 @@ impl<'a> Search<'a> {
         Ok(true)
     }
 
+    /// Must this branch sync before it returns?
+    fn must_sync(&self, branch: usize) -> bool {
+        match self.syncs {
+            Syncs::None => false,
+            Syncs::Main => self.branches[branch].depth == 0,
+            Syncs::All => true,
+        }
+    }
+
     fn look(&mut self, worker: u8, branch: usize) -> Result<(), Refusal> {
         let spare = self.branches[branch].next;
         self.branches[branch].next += 1;
         if self.branches[branch].next == BLOCKS {
-            self.branches[branch].stage = Stage::Wait;
+            self.branches[branch].stage = if self.must_sync(branch) { Stage::Wait } else { Stage::End };
         }
         match self.engine.read(worker, spare)? {
             SPARE if passes_erase_test(spare) => self.spawn(worker, branch, spare),
@@ -355,17 +379,30 @@ impl<'a> Search<'a> {
             self.tell(worker, branch, &format!("{failed} still reads bad"));
         }
         let outcome = self.engine.ret(worker)?;
-        let parent = self.branches[branch].parent;
+        self.branches[branch].stage = Stage::Returned;
+        let (parent, above) = (self.branches[branch].parent, self.above(branch));
         let (next, what) = match outcome {
-            Returned::Continued => (parent, "its parent goes on here"),
-            Returned::Idle => (None, "the worker is idle"),
-            Returned::Resumed => (parent, "its parent resumes here"),
-            Returned::Finished => (None, "the search is over"),
+            Returned::Continued => (parent, "ends; its parent goes on here"),
+            Returned::Idle => (None, "ends; the worker is idle"),
+            Returned::Resumed if above == parent => (above, "ends; its parent resumes here"),
+            Returned::Resumed => (above, "ends; a branch above its parent resumes here"),
+            Returned::Finished => (None, "ends; the search is over"),
+            Returned::Waits => (None, "returns; waits for its branches"),
         };
         self.runs[usize::from(worker)] = next;
         self.finished = outcome == Returned::Finished;
-        self.tell(worker, branch, &format!("ends; {what}"));
+        self.tell(worker, branch, what);
         Ok(())
+    }
+
+    /// The first branch above that has not returned. Those between had, waited so and have ended too when it
+    /// resumes.
+    fn above(&self, branch: usize) -> Option<usize> {
+        let mut above = self.branches[branch].parent;
+        while let Some(returned) = above.filter(|branch| self.branches[*branch].stage == Stage::Returned) {
+            above = self.branches[returned].parent;
+        }
+        above
     }
 
     /// Every running branch waits for room, so none will end: one must, without its search.

@@ -14,7 +14,7 @@ mod shift;
 #[cfg(test)]
 mod threads;
 
-use layout::{Memory, Search, BLOCKS, MAX_WORKERS};
+use layout::{Memory, Search, Syncs, BLOCKS, MAX_WORKERS};
 use splitter::{tree_nodes, Refusal};
 use std::env;
 use std::error::Error;
@@ -22,11 +22,15 @@ use std::path::Path;
 
 const NODES: usize = 72;
 
-/// Searches and reports; gives the number of branches given up.
-fn search(workers: u8, nodes: usize, told: bool) -> Result<u32, Refusal> {
+/// A search that is not told.
+const NEVER: u32 = u32::MAX;
+
+/// Searches and reports, with its turns from one on; gives the number of branches given up.
+fn search(workers: u8, nodes: usize, syncs: Syncs, told_from: u32) -> Result<u32, Refusal> {
     let mut memory = Memory::new(nodes);
-    let mut search = Search::begin(memory.lend(), workers.into(), told)?;
+    let mut search = Search::begin(memory.lend(), workers.into(), syncs)?;
     while !search.finished {
+        search.told = search.turn + 1 >= told_from;
         search.take_turns(workers)?;
     }
     search.tell_result(nodes, workers);
@@ -38,17 +42,28 @@ fn search(workers: u8, nodes: usize, told: bool) -> Result<u32, Refusal> {
 fn smaller_pools() -> Result<(), Refusal> {
     println!("\nThe same in smaller pools; a view of {BLOCKS} blocks has {} nodes", tree_nodes(BLOCKS.into()));
     for nodes in [62, 57, 52, 47, 42, 36, 31] {
-        if search(MAX_WORKERS as u8, nodes, false)? > 0 {
-            search(1, nodes, false)?;
+        if search(MAX_WORKERS as u8, nodes, Syncs::All, NEVER)? > 0 {
+            search(1, nodes, Syncs::All, NEVER)?;
         }
     }
     Ok(())
 }
 
+/// As ported from Cilk, whose functions sync by themselves before they return: a branch just returns, and the
+/// library lets it wait. The last turns are told, where branches wait as returning.
+fn without_syncs() -> Result<(), Refusal> {
+    println!("\nThe same without a sync: a branch returns and waits so for its branches; from turn 13 on");
+    search(MAX_WORKERS as u8, NODES, Syncs::None, 13)?;
+    println!("\nThe same where Main alone syncs, in a smaller pool, from turn 16 on");
+    search(MAX_WORKERS as u8, 47, Syncs::Main, 16)?;
+    Ok(())
+}
+
 fn show_all() -> Result<(), Box<dyn Error>> {
     println!("Search: bad blocks 3 and 9, spares 12 to 15");
-    search(MAX_WORKERS as u8, NODES, true)?;
+    search(MAX_WORKERS as u8, NODES, Syncs::All, 1)?;
     smaller_pools()?;
+    without_syncs()?;
     refusals::tape()?;
     refusals::refusals()
 }

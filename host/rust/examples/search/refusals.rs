@@ -90,6 +90,9 @@ fn refused_images(memory: &mut Memory) -> Outcome {
     image[0] ^= 1;
     show(engine.load(&image), Refusal::BadCheck, "a bit of the image has flipped")?;
     image[0] ^= 1;
+    image[1] += 1;
+    show(engine.load(&image), Refusal::BadBlocks, "an image of a later form")?;
+    image[1] -= 1;
     let Memory { state, pool, work } = memory;
     let short = pool.len() - NODE_WORDS;
     let mut engine = Engine { state, pool: &mut pool[..short], work };
@@ -116,10 +119,10 @@ fn refused_steals(engine: &mut Engine) -> Outcome {
 }
 
 /// Main moves to worker 1; its child stays on worker 0.
-fn refused_return(engine: &mut Engine) -> Outcome {
+fn move_main(engine: &mut Engine) -> Outcome {
     engine.spawn(0)?;
     engine.steal(1, 0)?;
-    show(engine.ret(1), Refusal::ChildLives, "Main returns while its child runs elsewhere")
+    Ok(())
 }
 
 /// The pool has room for one path beside the first view: Main's. Then Main and its child each have a path
@@ -147,6 +150,20 @@ fn full_frames(engine: &mut Engine) -> Outcome {
     show(engine.read(1, 3), Refusal::MainReturned, "a read after Main's return")
 }
 
+/// What 14 refused before: the frame waits as returning, and can do nothing more. Main has returned only
+/// when it has ended.
+fn waiting_main(engine: &mut Engine) -> Outcome {
+    engine.start(2, &FACTORY_MARKS)?;
+    move_main(engine)?;
+    assert_eq!(engine.ret(1)?, Returned::Waits);
+    println!("    Main returns while its child runs elsewhere: it waits");
+    show(engine.read(1, 3), Refusal::WorkerIdle, "its worker reads block 3")?;
+    show(engine.steal(1, 0), Refusal::NoVictim, "and cannot steal the child")?;
+    println!("    the child reads block 3: {}", engine.read(0, 3)?);
+    assert_eq!(engine.ret(0)?, Returned::Finished);
+    show(engine.spawn(0), Refusal::MainReturned, "the child has ended, and Main with it")
+}
+
 /// Each refusal once, and what a host does about some.
 pub fn refusals() -> Outcome {
     println!("\nRefusals");
@@ -158,7 +175,8 @@ pub fn refusals() -> Outcome {
     let engine = &mut memory.lend();
     refused_steps(engine)?;
     refused_steals(engine)?;
-    refused_return(engine)?;
+    move_main(engine)?;
     full_pool(engine)?;
-    full_frames(engine)
+    full_frames(engine)?;
+    waiting_main(engine)
 }

@@ -2,7 +2,7 @@
 //! it goes. At the end of the shift the power goes off, and what came after the last save is forgotten.
 
 use crate::kept::{self, Kept};
-use crate::layout::{Memory, Search, MAX_WORKERS};
+use crate::layout::{Memory, Search, Syncs, MAX_WORKERS};
 use crate::NODES;
 use splitter::{Engine, Refusal, State, NODE_WORDS};
 use std::error::Error;
@@ -90,6 +90,6 @@ pub fn work(folder: &Path, turns: u32, more: usize) -> Result<(), Box<dyn Error>
     }
     println!("    no image can be read: begins");
     let mut memory = soiled(0);
-    let mut search = Search::begin(memory.lend(), WORKERS.into(), true)?;
+    let mut search = Search::begin(memory.lend(), WORKERS.into(), Syncs::All)?;
     take_turns(&mut search, turns, folder, 0)
 }

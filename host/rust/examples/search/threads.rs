@@ -1,7 +1,8 @@
-//! The search on threads, one for each worker, with a lock around each turn: however they
-//! interleave, the same layout is the best.
+//! The search on threads, one for each worker, with a lock around each turn, and with turns in any order:
+//! however they interleave, the same layout is the best.
 
-use crate::layout::{Memory, Search, MAX_WORKERS};
+use crate::layout::{Memory, Search, Syncs, MAX_WORKERS, SYNCS};
+use splitter::FRAME_WORDS;
 use std::sync::Mutex;
 use std::thread;
 
@@ -20,20 +21,57 @@ fn work(search: &Mutex<Search>, worker: u8) {
     }
 }
 
+/// What each search must find.
+fn check_found(search: &Search) {
+    assert_eq!(search.best(), "3>12 9>14, cost 106");
+    assert_eq!((search.layouts, search.waits, search.given_up), (6, 0, 0));
+}
+
+/// A search to its end.
+fn search_on_threads(syncs: Syncs) {
+    let mut memory = Memory::new(NODES);
+    let mut search = Search::begin(memory.lend(), MAX_WORKERS as u32, syncs).expect("a fit start");
+    search.told = false;
+    let search = Mutex::new(search);
+    thread::scope(|scope| {
+        for worker in 0..MAX_WORKERS as u8 {
+            let search = &search;
+            scope.spawn(move || work(search, worker));
+        }
+    });
+    check_found(&search.into_inner().expect("no thread has panicked"));
+}
+
+/// A search whose turns are taken in an order that the seed gives; the most frames that waited as returning.
+fn search_in_order(syncs: Syncs, mut seed: u32) -> usize {
+    let mut memory = Memory::new(NODES);
+    let mut search = Search::begin(memory.lend(), MAX_WORKERS as u32, syncs).expect("a fit start");
+    let mut most = 0;
+    search.told = false;
+    while !search.finished {
+        seed = seed.wrapping_mul(1_664_525).wrapping_add(1_013_904_223);
+        let worker = (seed >> 16) as u8 % MAX_WORKERS as u8;
+        search.take_a_turn(worker).expect("a turn that the host knows");
+        let waiting = search.engine.state.frames.chunks(FRAME_WORDS).filter(|record| record[6] == 1);
+        most = most.max(waiting.count());
+    }
+    check_found(&search);
+    most
+}
+
+/// Branches wait as returning only where they do not sync: at most three at a time, or two where Main syncs.
+#[test]
+fn any_order_finds_the_same_layout() {
+    let most = SYNCS.map(|syncs| (0..200).map(|seed| search_in_order(syncs, seed)).max());
+    assert_eq!(most, [Some(3), Some(2), Some(0)]);
+}
+
+/// Whether all branches sync, Main alone or none.
 #[test]
 fn threads_find_the_same_layout() {
-    for _ in 0..50 {
-        let mut memory = Memory::new(NODES);
-        let search = Search::begin(memory.lend(), MAX_WORKERS as u32, false).expect("a fit start");
-        let search = Mutex::new(search);
-        thread::scope(|scope| {
-            for worker in 0..MAX_WORKERS as u8 {
-                let search = &search;
-                scope.spawn(move || work(search, worker));
-            }
-        });
-        let search = search.into_inner().expect("no thread has panicked");
-        assert_eq!(search.best(), "3>12 9>14, cost 106");
-        assert_eq!((search.layouts, search.waits, search.given_up), (6, 0, 0));
+    for syncs in SYNCS {
+        for _ in 0..50 {
+            search_on_threads(syncs);
+        }
     }
 }

@@ -1,0 +1,53 @@
+#include "older.h"
+
+/* Words into blocks. The check is a sum of bytes, each times 256 raised to its offset modulo 4: a sum of words. */
+struct blocks {
+    uint8_t *to;
+    unsigned words; /* of the block so far */
+    uint32_t sum;
+};
+
+static void put_bytes(struct blocks *blocks, uint32_t word) {
+    for (unsigned i = 0; i < 4; i++) {
+        *blocks->to++ = (uint8_t)(word >> 8 * i & 0xffu);
+    }
+}
+
+static void put_word(struct blocks *blocks, uint32_t word) {
+    put_bytes(blocks, word);
+    blocks->sum += word;
+    blocks->words += 1;
+    if (blocks->words == SPLITTER_BLOCK_WORDS) {
+        put_bytes(blocks, blocks->sum);
+        blocks->words = 0;
+        blocks->sum = 0;
+    }
+}
+
+static void put_words(struct blocks *blocks, const uint32_t *words, size_t len) {
+    for (size_t i = 0; i < len; i++) {
+        put_word(blocks, words[i]);
+    }
+}
+
+int older_fits(const struct splitter_state *state) {
+    uint32_t waiting = 0;
+    for (unsigned place = 0; place < SPLITTER_MAX_FRAMES; place++) {
+        waiting |= state->frames[place * SPLITTER_FRAME_WORDS + SPLITTER_FRAME_RETURNING];
+    }
+    return waiting == 0;
+}
+
+size_t older_image(const struct splitter_state *state, const uint32_t *pool, uint8_t *target) {
+    struct blocks blocks = {target, 0, 0};
+    put_words(&blocks, state->numbers, SPLITTER_NUMBERS_WORDS);
+    put_words(&blocks, state->deques, SPLITTER_DEQUES_WORDS);
+    for (unsigned place = 0; place < SPLITTER_MAX_FRAMES; place++) {
+        put_words(&blocks, state->frames + place * SPLITTER_FRAME_WORDS, OLDER_FRAME_WORDS);
+    }
+    put_words(&blocks, pool, SPLITTER_NODE_WORDS * (size_t)state->numbers[SPLITTER_NUMBER_NODES]);
+    while (blocks.words > 0) {
+        put_word(&blocks, 0);
+    }
+    return (size_t)(blocks.to - target);
+}
