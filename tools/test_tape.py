@@ -193,6 +193,35 @@ WRITES = {
 }
 
 
+# Document 02's R-3: returns that wait, and splitrun's lines after the first.
+LONE = "start 8 600\nvalues 1\n"
+CHAIN = "".join(f"0 write 0 {k}\n0 spawn\n{1 + k % 7} steal 0\n{1 + k % 7} return\n" for k in range(63))
+RETURNS = {
+    # the starred edge: Main returns while its child runs elsewhere; it has returned only when it has ended
+    f"start 2 20{FORKED}1 return\n1 read 0\n0 read 0\n0 return\n0 spawn\n": "101 1|103 0|102 4|10 0|105 1|102 3|9 0|free 20",
+    # 63 waiting frames end by one return; 64 live before it
+    f"{LONE}{CHAIN}0 spawn\n0 return\n0 spawn\n": "|".join(
+        [f"106 {599 - k}|101 {k + 1}|103 {k}|102 4" for k in range(63)] + ["13 0|102 3|9 0|free 600"]
+    ),
+    # a waiting frame cannot be stolen, and is not resumed; Main, in a deque, is where the ends stop: outcome 1
+    f"start 3 20{FORKED}0 spawn\n2 steal 0\n2 return\n2 steal 0\n2 steal 1\n0 return\n0 sync\n1 sync\n1 return\n": (
+        "101 1|103 0|101 2|103 1|102 4|12 0|12 0|102 1|10 0|104 0|102 3|free 20"
+    ),
+    # the parent reached has another live child: 1; that one's end goes on upward
+    f"start 3 20{FORKED}1 spawn\n2 steal 1\n2 return\n0 return\n1 return\n": "101 1|103 0|101 1|103 0|102 4|102 1|102 3|free 20",
+    # the parent reached waits at a sync: 2, with its own value
+    f"start 3 20{FORKED}1 write 0 9\n1 sync\n0 spawn\n2 steal 0\n2 return\n0 return\n0 read 0\n0 return\n": (
+        "101 1|103 0|106 5|104 1|101 2|103 1|102 4|102 2|105 9|102 3|free 20"
+    ),
+    # where the deque is not empty the outcome is 0 as before, also if the frame above that one waits
+    f"start 2 20{FORKED}1 return\n0 spawn\n0 return\n0 return\n": "101 1|103 0|102 4|101 2|102 0|102 3|free 20",
+    # a waiting frame holds its tree
+    "start 3 5\nvalues 7\n0 spawn\n1 steal 0\n0 write 0 8\n0 spawn\n2 steal 0\n0 write 0 9\n2 return\n0 return\n1 return\n": (
+        "101 1|103 0|106 3|101 2|103 1|106 2|102 4|102 1|102 3|free 5"
+    ),
+}
+
+
 class Node:
     """A node of a split tree: its links, and how many links and frames hold it."""
 
@@ -273,10 +302,37 @@ class Writes(unittest.TestCase):
                     trees.write(event.frame, event.low)
                 elif not event.refusal and event.kind == "spawn":
                     trees.spawn(event.frame, event.other)
-                elif not event.refusal and event.kind == "return":
-                    trees.release(trees.roots.pop(event.frame))
+                for name in event.ended:
+                    trees.release(trees.roots.pop(name))
                 self.assertEqual(event.free, trees.free)
         self.assertTrue(refused and new >= {0, 1, 2, 3, 4, 8})
+
+
+class Returns(unittest.TestCase):
+    def test_returns_that_wait(self):
+        for text, lines in RETURNS.items():
+            self.assertEqual(machine.run(script.encode(text)).lines[1:], lines.split("|"), text)
+
+    def test_random_scripts_have_every_outcome(self):
+        """And in each: who lives, who waits, and that a chain ends child first."""
+        ends = set()
+        for seed in range(60):
+            lives, waits = {()}, set()
+            for event in machine.run(script.encode(random_script(seed))).events:
+                if event.refusal or event.kind not in ("spawn", "return"):
+                    self.assertNotIn(event.frame if not event.refusal else None, waits)
+                    continue
+                if event.kind == "spawn":
+                    lives.add(event.other)
+                    continue
+                below = [name for name in lives if name[:-1] == event.frame and name]
+                self.assertEqual((event.number == 4, event.ended == ()), (bool(below), bool(below)))
+                self.assertTrue(all(name in waits for name in event.ended[1:]))
+                self.assertTrue(all(b == a[:-1] for a, b in zip(event.ended, event.ended[1:])))
+                waits = waits | {event.frame} if below else waits - set(event.ended)
+                lives -= set(event.ended)
+                ends.add((event.number, len(event.ended) > 1))
+        self.assertEqual(ends, {(0, False), (1, False), (1, True), (2, False), (2, True), (3, False), (3, True), (4, False)})
 
 
 class Words(unittest.TestCase):
@@ -312,6 +368,22 @@ class Words(unittest.TestCase):
         words = explain.run_words(machine.run(script.encode(f"start 2 15{FORKED}1 write 0 7\n0 write 1 7\n")))
         self.assertIn(f"{sentence} The rest has 1 node, 0 are free. (bottom frame: 1)", words[4])
 
+    def test_returns(self):
+        words = explain.run_words(machine.run(example("waits")))
+        for place, part in (
+            (9, "frame 1 returns, has a live child and waits as returning; worker 2 is idle. Free nodes: 5"),
+            (11, "frame 1.1 ends; worker 0 is idle. Free nodes: 5"),
+            (12, "frame 1.2 ends, and with it frame 1, which waited; Main resumes on worker 1, past its sync. Free nodes: 9"),
+            (18, "Main returns, has a live child and waits as returning; worker 0 is idle. Free nodes: 9"),
+            (20, "frame 2.1 ends, and with it frame 2, Main, which waited; the run is over. Free nodes: 20"),
+            (21, "refused 9: Main has returned. Nothing changes. Free nodes: 20"),
+            (22, "the free nodes at the end; Main has returned"),
+        ):
+            self.assertEqual(part, words[place])
+        self.assertNotIn(14, explain.REFUSED)
+        waiting = machine.run(script.encode(f"start 2 20{FORKED}1 return\n"))
+        self.assertEqual(explain.run_words(waiting)[-1], "the free nodes at the end; Main has not returned")
+
     def test_a_difference_is_loud(self):
         data = example("document01")
         printed = [*DOCUMENT01[:8], "105 50", *DOCUMENT01[9:]]
@@ -345,16 +417,19 @@ class Documents(unittest.TestCase):
             self.assertIn(f"    {line}\n" if line else "\n", page)
 
     def test_the_worked_examples_are_what_the_tool_prints(self):
-        for name in ("note_b", "shared"):
+        for name in ("note_b", "shared", "waits"):
             data, text = example(name), (HERE / f"examples/{name}.tape").read_text()
             own = machine.run(data)
             self.on_the_page(text, explain.explained(data, own, own.lines)[0])
 
-    def test_note_b_and_its_picture_are_what_the_tool_prints(self):
+    def test_note_b_is_what_the_tool_prints(self):
         data = example("note_b")
-        own = machine.run(data)
-        self.on_the_page(explain.side_by_side(data, own, machine.run(data, note_b=True))[0])
-        self.assertEqual((ROOT / "docs/note_b.svg").read_text(encoding="utf-8"), draw.picture(own))
+        self.on_the_page(explain.side_by_side(data, machine.run(data), machine.run(data, note_b=True))[0])
+
+    def test_the_pictures_are_what_the_tool_draws(self):
+        for name in ("note_b", "waits"):
+            picture = draw.picture(machine.run(example(name)))
+            self.assertEqual((ROOT / f"docs/{name}.svg").read_text(encoding="utf-8"), picture)
 
 
 def text_boxes(svg):
@@ -380,6 +455,15 @@ class Pictures(unittest.TestCase):
                     apart = a[2] <= b[0] or b[2] <= a[0] or a[3] <= b[1] or b[3] <= a[1]
                     self.assertTrue(apart, (a, b))
 
+    def test_waits_are_told_apart(self):
+        svg = draw.picture(machine.run(example("waits")))
+        shapes = xml.dom.minidom.parseString(svg).getElementsByTagName("rect")
+        dashes = [shape.getAttribute("stroke-dasharray") for shape in shapes]
+        self.assertEqual((dashes.count("5 3"), dashes.count("1.5 3")), (1, 3))
+        words = [box[4] for box in text_boxes(svg)]
+        for part in ("Main waits", "1 returns", "Main returns", "2 returns", "return, 2 end", "return, 3 end"):
+            self.assertIn(part, words)
+
     def test_the_largest_numbers_are_shown_whole(self):
         values = "values " + "7 " * 255 + "4294967295"
         svg = draw.picture(machine.run(script.encode(f"start 1 600\n{values}\n0 write 255 4294967294\n0 read 255\n")))
@@ -403,8 +487,8 @@ def start_words(workers, values, nodes):
     tree += [(1, NONE, NONE, value) for value in values]
     used = len(tree)
     tree += [(0, at + 1 if at + 1 < nodes else NONE, 0, 0) for at in range(used, nodes)]
-    frames = [(1, NONE, 0, 0, 0, 0)] + [(0, at + 1 if at < 63 else NONE, 0, 0, 0, 0) for at in range(1, 64)]
-    numbers = [workers, len(values), nodes, used if used < nodes else NONE, 1]
+    frames = [(1, NONE, 0, 0, 0, 0, 0)] + [(0, at + 1 if at < 63 else NONE, 0, 0, 0, 0, 0) for at in range(1, 64)]
+    numbers = [workers + 256, len(values), nodes, used if used < nodes else NONE, 1]
     return numbers + [1] + [0] * (8 * 65 - 1) + [word for record in frames + tree for word in record]
 
 
@@ -416,7 +500,7 @@ def image_bytes(words):
 
 
 FIVE = start_words(2, [10, 20, 30, 40, 50], 20)
-DEQUES, RECORDS, POOL = 5, 525, 909  # the first words of the deques, the frame records, the pool
+DEQUES, RECORDS, POOL = 5, 525, 973  # the first words of the deques, the frame records, the pool
 
 
 def changed(changes, words=FIVE):
@@ -424,12 +508,18 @@ def changed(changes, words=FIVE):
     return [changes.get(at, word) for at, word in enumerate(words)]
 
 
-def stolen():
-    """Main, stolen by worker 1, waits in its sync; its child, in place 1, is on worker 0, and both hold the tree."""
-    main, child = {3: 1, 4: 1}, {0: 1, 1: 0, 2: 1}
+def older(words):
+    """The image from before R-3: the workers alone in the first word, six words to a record."""
+    records = [word for at, word in enumerate(words[RECORDS:POOL]) if at % 7 != 6]
+    return [words[0] - 256] + words[1:RECORDS] + records + words[POOL:]
+
+
+def stolen(returning=0):
+    """Main, stolen by worker 1, waits in its sync or as returning; its child, in place 1, is on worker 0, and both hold the tree."""
+    main, child = {3: 1, 4: 1, 6: returning}, {0: 1, 1: 0, 2: 1}
     changes = {4: 2, DEQUES + 1: 1, POOL: 2}
     changes.update({RECORDS + at: word for at, word in main.items()})
-    changes.update({RECORDS + 6 + at: word for at, word in child.items()})
+    changes.update({RECORDS + 7 + at: word for at, word in child.items()})
     return changed(changes)
 
 
@@ -448,19 +538,21 @@ class Images(unittest.TestCase):
             data[offset] = 3
             self.assertEqual(image.check(data), 3 << 8 * (offset % 4))
         self.assertEqual(image.check(bytes([255]) * 508), 2**32 - 127)
-        self.assertEqual([image.called_for(n) for n in (0, 26, 27, 122, 123, 16384)], [8, 8, 9, 11, 12, 524])
+        self.assertEqual([image.called_for(n) for n in (0, 10, 11, 106, 107, 16384)], [8, 8, 9, 11, 12, 524])
+        self.assertEqual([image.called_for(n, 0) for n in (0, 26, 27, 122, 123, 16384)], [8, 8, 9, 11, 12, 524])
 
     def test_a_good_image(self):
         text = self.told(
             image_bytes(FIVE),
             True,
-            "x: 4096 bytes, 8 blocks\n",
+            "x: 4608 bytes, 9 blocks\n",
+            "form     version 1: 7 words to a frame record\n",
             "2 workers, 5 splitters, 20 nodes, first free node 11, first free frame place 1\n",
             "worker 0: 0\n         worker 1: idle\n",
             "place 0: Main, depth 0, 0 outstanding, on worker 0, root 0\n",
             "free: 1 to 63\n",
             "11 nodes in use, 9 free\n",
-            "all 8 are right\n",
+            "all 9 are right\n",
             "a reading takes it, with 20 nodes of pool and 20 words of work, or more\n",
         )
         self.assertNotIn("refuse", text)
@@ -471,6 +563,34 @@ class Images(unittest.TestCase):
             for more in (0, 1, 100):
                 words = start_words(8, list(range(n)), nodes + more)
                 self.told(image_bytes(words), True, f"{nodes} nodes in use, {more} free\n")
+                self.told(image_bytes(older(words)), True, "version 0: 6 words", f"{nodes} nodes in use, {more} free\n")
+
+    def test_both_forms(self):
+        """Read alike, but for the version; each first word below 512 has a form, and none above."""
+        for words in (FIVE, stolen()):
+            new, old = (image.described("x", image_bytes(w))[0].split("\n") for w in (words, older(words)))
+            before = "form     version 0: 6 words to a frame record, from before R-3: no frame waits as returning"
+            self.assertEqual((new[0], old[0], old[1]), ("x: 4608 bytes, 9 blocks", "x: 4096 bytes, 8 blocks", before))
+            self.assertEqual(new[2:-3], old[2:-3])
+            self.assertEqual((new[-3], old[-3]), ("checks   all 9 are right", "checks   all 8 are right"))
+        for workers in (*range(12), 127, 254, 255):
+            taken = 1 <= workers <= 8
+            for words, version in ((FIVE, 256), (older(FIVE), 0)):
+                self.told(image_bytes(changed({0: version + workers}, words)), taken, f"{workers} workers, ", f"version {version // 256}")
+        for first in (512, 514, 768 + 2, 65536 + 258, NONE):
+            for words in (FIVE, older(FIVE)):
+                self.told(image_bytes(changed({0: first}, words)), False, "by 17", f"the first word is {first}, and only those below 512")
+        self.told(image_bytes(changed({0: 2})), False, "by 17", "20 nodes call for 8 blocks, 4096 bytes; the file has 4608")
+        self.told(image_bytes(changed({0: 258}, older(FIVE))), False, "by 17", "20 nodes call for 9 blocks, 4608 bytes; the file has 4096")
+
+    def test_a_frame_that_waits_as_returning(self):
+        self.told(image_bytes(stolen(1)), True, "place 0: Main, depth 0, 1 outstanding, suspended, returning, root 0\n")
+        sentence = "not: The last word of a record is 1 on a frame waiting as returning, which is suspended, else 0."
+        self.told(image_bytes(stolen(2)), False, "suspended, returning 2, root 0\n", f"{sentence} (frame place 0: the last word is 2")
+        running = changed({RECORDS + 13: 1}, stolen(1))
+        self.told(image_bytes(running), False, "on worker 0, returning, root 0\n", f"{sentence} (frame place 1: the last word is 1")
+        free = changed({RECORDS + 20: 1}, stolen(1))
+        self.told(image_bytes(free), False, sentence, "(free frame place 2 has a word that is not zero)")
 
     def test_a_run_under_way(self):
         words = stolen()
@@ -493,35 +613,40 @@ class Images(unittest.TestCase):
         self.told(bytes(data), False, "block 0 (bytes 0 to 511) is damaged", "by 18")
 
     def test_a_rest_that_is_not_zero(self):
-        words = FIVE + [0] * (1016 - len(FIVE))
-        words[1000] = 5
-        self.told(image_bytes(words), False, "word 1000 of the data is 5\n", "refuses it by 18")
+        words = FIVE + [0] * (1143 - len(FIVE))
+        words[1100] = 5
+        self.told(image_bytes(words), False, "word 1100 of the data is 5\n", "refuses it by 18")
 
     def test_cut_images(self):
         data = image_bytes(FIVE)
         for length in (1, 511):
             self.told(data[:length], False, "0 blocks", f"{length} bytes are no whole block", "by 17")
-        for length in (512, 513, 3584, 4095, 4097, 4608):
+        for length in (512, 513, 4096, 4607, 4609, 5120):
             whole = (data + bytes(600))[:length]
-            self.told(whole, False, "by 17", f"20 nodes call for 8 blocks, 4096 bytes; the file has {length}\n")
+            self.told(whole, False, "by 17", f"20 nodes call for 9 blocks, 4608 bytes; the file has {length}\n")
         large = image_bytes(start_words(1, [1], 200))
-        self.told(large[:-512], False, "185 of 200 nodes are in the file", "by 17")
+        self.told(large[:-512], False, "169 of 200 nodes are in the file", "by 17")
 
     def test_a_node_count_that_is_not_true(self):
-        for nodes in (27, 16384, 2**30 + 20, NONE):
+        for nodes in (0, 10, 43, 16384, 2**30 + 20, NONE):
             self.told(image_bytes(changed({2: nodes})), False, f"{nodes} nodes call for", "by 17")
-        for nodes in (0, 1, 10, 19):
+        for nodes in (27, 16384, 2**30 + 20, NONE):
+            self.told(image_bytes(changed({2: nodes}, older(FIVE))), False, f"{nodes} nodes call for", "by 17")
+        for nodes in (11, 12, 19):
             self.told(image_bytes(changed({2: nodes})), False, "by 18", "with right checks 6: not: ")
+        for nodes in (0, 1, 10, 19):
+            self.told(image_bytes(changed({2: nodes}, older(FIVE))), False, "by 18", "with right checks 6: not: ")
         others = "not: All other nodes are free and lie once on the free chain. (node 20 is not reached"
         self.told(image_bytes(changed({2: 21})), False, "by 6", others, "1 neither in use nor on the free chain")
 
     def test_each_sentence(self):
         node = lambda number, word: POOL + 4 * number + word  # noqa: E731
         one = {
-            "Workers are 1 to 8.": {0: 9},
+            "Workers are 1 to 8.": {0: 256 + 9},
             "n is 1 to 256.": {1: 257},
             "The recorded node count is T(n) to 16,384.": {1: 11},
             "Live and suspended are 0 or 1, and": {RECORDS: 2},
+            "The last word of a record is 1 on a frame": {RECORDS + 6: 1},
             "For each of 8 workers there are 64 places": {DEQUES: 65},
             "Either no frame lives and all deques": {RECORDS + 1: 5},
             "Every other live frame has a live parent one shallower.": {RECORDS + 2: 3},
@@ -534,13 +659,13 @@ class Images(unittest.TestCase):
             "Walking from each live frame gives a tree": {node(0, 3): 7},
             "Nodes reached have right holders.": {node(6, 0): 2},
             "All other nodes are free and lie once": {node(19, 1): 11},
-            "Free frame places lie once on their chain": {RECORDS + 8: 1},
+            "Free frame places lie once on their chain": {RECORDS + 9: 1},
         }
         for sentence, changes in one.items():
             self.told(image_bytes(changed(changes)), False, "refuses it by 6: State and pool are not sound\n", f"not: {sentence}")
         # Main, its child in place 1 and that one's in place 2 on one deque; place 3 is another child of 1, suspended
         chained = changed({DEQUES: 3, DEQUES + 2: 1, DEQUES + 3: 2, 4: 4, POOL: 4, RECORDS + 3: 1})
-        chained[RECORDS + 6 : RECORDS + 24] = [1, 0, 1, 2, 0, 0] + [1, 1, 2, 0, 0, 0] * 2
+        chained[RECORDS + 7 : RECORDS + 28] = [1, 0, 1, 2, 0, 0, 0] + [1, 1, 2, 0, 0, 0, 0] * 2
         top = "not: A frame that is not a top has only the child below it, if any. (worker 0: frame place 1 is not a top and has the child 3)"
         self.told(image_bytes(chained), False, top)
         asked = {*one, "A frame that is not a top has only the child below it, if any."}
@@ -549,7 +674,7 @@ class Images(unittest.TestCase):
     def test_no_image_is_too_bad_to_be_told(self):
         chance = random.Random(7)
         for turn in range(300):
-            words = list(chance.choice((FIVE, stolen())))
+            words = list(chance.choice((FIVE, stolen(), stolen(1), older(stolen()))))
             for _ in range(chance.choice((1, 2, 50, 2000))):
                 words[chance.randrange(len(words))] = chance.choice((0, 1, 2, 5, 63, 64, NONE, chance.randrange(2**32)))
             data = bytearray(image_bytes(words))
@@ -575,7 +700,7 @@ class Images(unittest.TestCase):
 
     def test_the_page_shows_what_the_tool_prints(self):
         page = (ROOT / "docs/TAPES.md").read_text()
-        data = bytearray(image_bytes(stolen()))
+        data = bytearray(image_bytes(stolen(1)))
         texts = [image.described("evening.image", bytes(data))[0]]
         data[4 * 512 + 80] ^= 1
         texts.append(image.described("evening.image", bytes(data))[0])
@@ -586,7 +711,7 @@ class Images(unittest.TestCase):
 @needs_splitrun
 class WithSplitrun(unittest.TestCase):
     def test_examples_and_random_scripts_agree(self):
-        texts = [path.read_text() for path in EXAMPLES] + [*WRITES] + [random_script(seed) for seed in range(40)]
+        texts = [path.read_text() for path in EXAMPLES] + [*WRITES, *RETURNS] + [random_script(seed) for seed in range(40)]
         for text in texts + ["start 1 10\nvalues 1 2 3 4 5\n", "raw 00\n", "start 1 9\nvalues 1\nraw 00\n"]:
             data = script.encode(text)
             self.assertEqual(cli.splitrun_lines(SPLITRUN, data), machine.run(data).lines)

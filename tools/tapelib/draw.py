@@ -44,25 +44,35 @@ def stretches(states):
     return out
 
 
+class Wait:
+    """A suspended frame: in which worker's lane, from which column to which, and whether as returning."""
+
+    def __init__(self, event, first, last):
+        self.frame, self.worker, self.first, self.last = event.frame, event.worker, first, last
+        self.returning = event.kind == "return"
+
+
 def waiting(events):
-    """(worker, first column, last column, frame) for each suspended stretch."""
-    out, since = [], {}
+    """The waits, in the order in which they began."""
+    out, open_waits = [], {}
     for column, event in enumerate(events, 1):
-        if event.kind == "sync" and not event.refusal and event.number == 1:
-            since[event.frame] = (event.worker, column)
-        if event.kind == "return" and not event.refusal and event.number == 2:
-            worker, first = since.pop(event.other)
-            out.append((worker, first, column, event.other))
-    out += [(worker, first, len(events) + 1, frame) for frame, (worker, first) in since.items()]
-    return sorted(out, key=lambda stretch: (stretch[1], stretch[2]))
+        if event.refusal or event.kind not in ("sync", "return"):
+            continue
+        if (event.kind, event.number) in (("sync", 1), ("return", 4)):
+            out.append(Wait(event, column, len(events) + 1))
+            open_waits[event.frame] = out[-1]
+        over = event.ended[1:] + ((event.other,) if (event.kind, event.number) == ("return", 2) else ())
+        for name in over:
+            open_waits.pop(name).last = column
+    return sorted(out, key=lambda wait: (wait.first, wait.last))
 
 
-def rows_of(stretches_of_lane):
-    """A row for each stretch so that none lie on one another."""
+def rows_of(waits_of_lane):
+    """A row for each wait so that none lie on one another."""
     ends, rows = [], []
-    for _, first, last, _ in stretches_of_lane:
-        row = next((k for k, end in enumerate(ends) if end <= first), len(ends))
-        ends[row : row + 1] = [last]
+    for wait in waits_of_lane:
+        row = next((k for k, end in enumerate(ends) if end <= wait.first), len(ends))
+        ends[row : row + 1] = [wait.last]
         rows.append(row)
     return rows
 
@@ -74,8 +84,8 @@ class Picture:
         self.run, self.events = run, run.events
         self.colours, self.parts = {}, []
         self.waits = {}
-        for stretch in waiting(self.events):
-            self.waits.setdefault(stretch[0], []).append(stretch)
+        for wait in waiting(self.events):
+            self.waits.setdefault(wait.worker, []).append(wait)
         strays = any(e.worker >= run.workers for e in self.events)
         self.lanes, y = [], TOP
         for worker in range(run.workers + strays):
@@ -117,13 +127,21 @@ class Picture:
         label = text(x + 9, y + 17, fit(name_text(name), 11), ' font-weight="bold"')
         self.parts.append(titled(f"frame {name_text(name)} is executed", shape, label))
 
-    def suspensions(self):
+    def waits_with_rows(self):
+        """Each wait with the y of its row."""
         for worker, lane in self.waits.items():
-            for (_, first, last, name), row in zip(lane, rows_of(lane)):
-                x, y = at(first), self.wait_y(worker, row)
-                shape = rect(x, y, at(last) - x, WAIT - 6, "#fff", f' stroke="{self.colour(name)}" stroke-width="2" stroke-dasharray="5 3"')
-                label = text(x + 9, y + 12, fit(name_text(name) + " waits", 12), ' fill="#555"')
-                self.parts.append(titled(f"frame {name_text(name)} is suspended", shape, label))
+            for wait, row in zip(lane, rows_of(lane)):
+                yield wait, self.wait_y(worker, row)
+
+    def suspensions(self):
+        """At a sync white and dashed, as returning grey and dotted."""
+        for wait, y in self.waits_with_rows():
+            x, name = at(wait.first), name_text(wait.frame)
+            fill, dash, word, how = ("#e6e6e6", "1.5 3", "returns", " as returning") if wait.returning else ("#fff", "5 3", "waits", "")
+            stroke = f' stroke="{self.colour(wait.frame)}" stroke-width="2" stroke-dasharray="{dash}"'
+            shape = rect(x, y, at(wait.last) - x, WAIT - 6, fill, stroke)
+            label = text(x + 9, y + 12, fit(f"{name} {word}", 12), ' fill="#555"')
+            self.parts.append(titled(f"frame {name} is suspended{how}", shape, label))
 
     def arrow(self, x, start, end, colour):
         """A vertical arrow in a record's column."""
@@ -137,13 +155,17 @@ class Picture:
         down = thief > victim
         self.arrow(x, victim + (BAR if down else 0), thief + (0 if down else BAR), "#1f4e9c")
 
-    def resumption(self, column, event):
-        for worker, lane in self.waits.items():
-            for (_, _, last, name), row in zip(lane, rows_of(lane)):
-                if (last, name) == (column, event.other):
-                    source, target = self.wait_y(worker, row), self.bar_y(event.worker)
-                    down = target > source
-                    self.arrow(at(column), source + (WAIT - 6 if down else 0), target + (0 if down else BAR), "#1a7a3c")
+    def wait_over(self, column, event):
+        """Green from the wait of a frame that resumes to the worker's bar; grey from the bar to the wait of each frame that ends."""
+        bar = self.bar_y(event.worker)
+        for wait, row in self.waits_with_rows():
+            if wait.last != column:
+                continue
+            near_bar, near_row = (bar, row + WAIT - 6) if bar > row else (bar + BAR, row)
+            if wait.returning:
+                self.arrow(at(column) - 5, near_bar, near_row, "#777")
+            else:
+                self.arrow(at(column), near_row, near_bar, "#1a7a3c")
 
     def label(self, x, event, first, second, colour):
         """Two lines over the bar, right of the record's line."""
@@ -164,14 +186,15 @@ class Picture:
             sign = f'<circle cx="{x}" cy="{y}" r="5" fill="{fill}" stroke="#222" stroke-width="1.5"/>'
         elif event.kind == "steal":
             self.steal(x, event)
-        elif event.kind == "return" and event.number == 2:
-            self.resumption(column, event)
+        elif event.kind == "return":
+            self.wait_over(column, event)
         self.parts.append(titled(f"record {column}: {event_words(event)}", sign, label))
 
     def legend(self):
         """The signs and their meaning, and the refusals met, below the lanes."""
-        lines = ["bar: the frame a worker executes   dashed: a suspended frame   blue arrow: steal   green arrow: resumption"]
-        lines.append("open dot: read   full dot: write   red cross: refused, with its number")
+        lines = ["bar: the frame a worker executes; dashed: it waits at a sync; grey and dotted: it has returned and waits for its children"]
+        lines.append("blue arrow: steal; green arrow: resumption; grey arrow: it ends with its last child")
+        lines.append("open dot: read; full dot: write; red cross: refused, with its number")
         met = sorted({event.refusal for event in self.events} - {0})
         lines += [f"refused {number}: {REFUSED[number]}" for number in met]
         for line in lines:
@@ -196,8 +219,9 @@ def label_words(event):
         return "steal", me, "#1f4e9c"
     if event.kind == "sync":
         return "sync", "waits" if event.number else "passes", "#222"
-    ends = {0: "goes on", 1: "idle", 2: "resumes", 3: "run over"}
-    return "return", ends[event.number], "#1a7a3c" if event.number == 2 else "#222"
+    ends = {0: "goes on", 1: "idle", 2: "resumes", 3: "run over", 4: "waits"}
+    first = f"return, {len(event.ended)} end" if len(event.ended) > 1 else "return"
+    return first, ends[event.number], "#1a7a3c" if event.number == 2 else "#222"
 
 
 def picture(run, alike=True):

@@ -2,7 +2,7 @@
 from .machine import name_text, tree_nodes
 from .script import record_line, split_input, split_records
 
-# Document 01's sentences, "Refused, in checking order"; 16 as document 02, R-2, has it.
+# Document 01's sentences, "Refused, in checking order"; 16 as document 02, R-2, has it; 14 is gone with R-3.
 REFUSED = {
     1: "At a start, there are 0 or more than 256 initial values.",
     2: "At a start, there are 0 or more than 8 workers.",
@@ -17,7 +17,6 @@ REFUSED = {
     11: "The step is a steal and the thief is not idle.",
     12: "The victim does not exist or has fewer than two frames.",
     13: "The step is a spawn and 64 frames live.",
-    14: "The step is a return and the frame has a live child.",
     15: "The step is a read or a write and the splitter is not below n.",
     16: "The step is a write and fewer nodes are free than the shared rest of its path has.",
 }
@@ -31,14 +30,22 @@ def who(name):
     return f"frame {name_text(name)}" if name else "Main"
 
 
+def waited_words(event):
+    """The frames that had returned before and waited, and now end too."""
+    names = [who(name) for name in event.ended[1:]]
+    return f", and with it {', '.join(names)}, which waited" if names else ""
+
+
 def return_words(event):
-    me = who(event.frame)
-    parent = who(event.other) if event.other is not None else ""
+    me, worker, waited = who(event.frame), event.worker, waited_words(event)
+    above = who(event.other) if event.other is not None else ""
+    last = waited or ", the last child"
     return {
-        0: f"{me} ends; its parent {parent} is the bottom of worker {event.worker} again",
-        1: f"{me} ends; worker {event.worker} is idle",
-        2: f"{me} ends, the last child; {parent} resumes on worker {event.worker}, past its sync",
-        3: "Main ends; the run is over",
+        0: f"{me} ends; its parent {above} is the bottom of worker {worker} again",
+        1: f"{me} ends{waited}; worker {worker} is idle",
+        2: f"{me} ends{last}; {above} resumes on worker {worker}, past its sync",
+        3: f"{me} ends{waited}; the run is over",
+        4: f"{me} returns, has a live child and waits as returning; worker {worker} is idle",
     }[event.number]
 
 

@@ -1,14 +1,16 @@
-"""A saved image (document 02, R-1) in words: what it holds, which blocks are damaged, and why a reading would refuse it."""
+"""A saved image (document 02, R-1 and R-3) in words: what it holds, which blocks are damaged, and why a reading would refuse it."""
 import struct
 
 from . import soundness
-from .soundness import NONE, STATE_WORDS, link
+from .soundness import FRAMES, NONE, RECORDS, link, pieces
 
 BLOCK, DATA = 512, 508
 NODES = 2  # the word of the recorded nodes
+VERSION = 1  # of an image that is saved now; the first word is the workers and 256 times it
+FRAME_WORDS = {0: 6, 1: 7}  # the words of a frame record, for each version that is read
 LARGEST = 1 << 24  # no file of more bytes is looked at
 REFUSED = {
-    17: "the image is not just as many whole blocks as its first block calls for, or has no whole block",
+    17: "the image is not just as many whole blocks as its first block calls for, has no whole block or no readable form",
     18: "a check is wrong or the rest of the last block is not zero",
     6: "State and pool are not sound",
 }
@@ -25,26 +27,44 @@ def blocks(data):
     return [(data[at - BLOCK : at - BLOCK + DATA], struct.unpack_from("<I", data, at - 4)[0]) for at in ends]
 
 
-def called_for(nodes):
+def state_words(version):
+    """The words before the nodes."""
+    return RECORDS + FRAMES * FRAME_WORDS[version]
+
+
+def called_for(nodes, version=VERSION):
     """The blocks of an image of so many nodes."""
-    return -(-4 * (STATE_WORDS + 4 * nodes) // DATA)
+    return -(-4 * (state_words(version) + 4 * nodes) // DATA)
+
+
+def as_now(words, version):
+    """An image's words as a state and its nodes: the workers alone in the first word, seven words to a record."""
+    records = pieces(words[RECORDS : state_words(version)], FRAME_WORDS[version])
+    whole = [word for record in records for word in (record + [0])[: FRAME_WORDS[VERSION]]]
+    return [words[0] % 256] + words[1:RECORDS] + whole + words[state_words(version) :]
 
 
 class Image:
-    """The bytes of a file, looked at as an image."""
+    """The bytes of a file, looked at as an image. The state is there if the form is readable and has all its words."""
 
     def __init__(self, data):
         self.data, self.blocks = data, blocks(data)
         payload = b"".join(block for block, _ in self.blocks)
         self.words = list(struct.unpack(f"<{len(payload) // 4}I", payload))
         self.nodes = self.words[NODES] if self.words else None
-        self.state = soundness.State(self.words) if len(self.words) >= STATE_WORDS else None
+        self.version = self.words[0] // 256 if self.words else None
+        self.readable = self.version in FRAME_WORDS
+        self.state = None
+        if self.readable and len(self.words) >= state_words(self.version):
+            self.state = soundness.State(as_now(self.words, self.version))
 
     def wrong_length(self):
         """Why it is refused by 17, or None."""
         if not self.blocks:
             return f"{len(self.data)} bytes are no whole block"
-        called = called_for(self.nodes)
+        if not self.readable:
+            return f"the first word is {self.words[0]}, and only those below 512 have a form that is read"
+        called = called_for(self.nodes, self.version)
         if len(self.data) == called * BLOCK:
             return None
         return f"{self.nodes} nodes call for {called} blocks, {called * BLOCK} bytes; the file has {len(self.data)}"
@@ -56,7 +76,7 @@ class Image:
 
     def rest(self):
         """The places of words after the recorded nodes that are not zero."""
-        last = STATE_WORDS + 4 * self.nodes
+        last = state_words(self.version) + 4 * self.nodes
         return [at for at in range(last, len(self.words)) if self.words[at]]
 
 
@@ -76,10 +96,17 @@ def labelled(label, lines):
     return [f"{label if at == 0 else '':<9}{line}".rstrip() for at, line in enumerate(lines)]
 
 
+def form_lines(image):
+    if not image.readable:
+        return [f"first word {image.words[0]}: of no form that is read"]
+    words = f"version {image.version}: {FRAME_WORDS[image.version]} words to a frame record"
+    return [words if image.version == VERSION else f"{words}, from before R-3: no frame waits as returning"]
+
+
 def number_lines(words):
     workers, n, nodes, free_node, free_place = words[:5]
     first = f"first free node {link(free_node)}, first free frame place {link(free_place)}"
-    return [f"{workers} workers, {n} splitters, {nodes} nodes, {first}"]
+    return [f"{workers % 256} workers, {n} splitters, {nodes} nodes, {first}"]
 
 
 def deque_lines(state):
@@ -98,6 +125,7 @@ def frame_line(state, place, frame):
     who = "Main" if main else f"child of {link(frame.parent)}"
     where = [f"on worker {worker}" for worker, deque in enumerate(state.deques) if place in deque]
     where += ["suspended"] if frame.suspended else []
+    where += ["returning" if frame.returning == 1 else f"returning {frame.returning}"] if frame.returning else []
     live = "" if frame.live == 1 else f", live {frame.live}"
     stands = ", ".join(where) or "in no deque"
     return f"place {place}: {who}, depth {frame.depth}, {frame.outstanding} outstanding, {stands}, root {link(frame.root)}{live}"
@@ -157,6 +185,8 @@ def described(name, data):
     ragged = f" and {len(data) % BLOCK} bytes" if len(data) % BLOCK else ""
     lines = [f"{name}: {len(data)} bytes, {len(image.blocks)} blocks{ragged}"]
     if image.blocks:
+        lines += labelled("form", form_lines(image))
+    if image.readable:
         lines += labelled("numbers", number_lines(image.words))
     if image.state:
         lines += labelled("deques", deque_lines(image.state)) + labelled("frames", frame_lines(image.state))

@@ -1,4 +1,4 @@
-"""The plain machine of documents 01 and 02 (R-2), and the lines that splitrun must print.
+"""The plain machine of documents 01 and 02 (R-2, R-3), and the lines that splitrun must print.
 
 With note_b=True the machine has the bug of integration note B: a frame that resumes after its last
 child takes that child's values."""
@@ -37,7 +37,8 @@ def name_text(name):
 @dataclass
 class Event:
     """What one record did. frame is the frame that acted (for a steal the stolen one), other the
-    child made, or the parent that goes on; refusal is 0 where the step was accepted. new is the number of
+    child made, or the frame above those that ended; refusal is 0 where the step was accepted. ended has the
+    frames that a return ended, child first: its own, and those that waited as returning. new is the number of
     new nodes of a write, also of one refused by 16: the shared rest of its path."""
 
     record: bytes
@@ -49,6 +50,7 @@ class Event:
     number: int = 0
     frame: tuple = None
     other: tuple = None
+    ended: tuple = ()
     new: int = 0
     free: int = 0
     bottoms: tuple = ()
@@ -64,7 +66,8 @@ class Frame:
 
     def __init__(self, name, values, marks):
         self.name, self.values, self.marks = name, list(values), list(marks)
-        self.children, self.spawned, self.suspended = 0, 0, False
+        self.children, self.spawned = 0, 0
+        self.suspended = self.returning = False
         self.triples = triples(marks)
 
     def marks_after(self, splitter, mark):
@@ -98,7 +101,7 @@ class Machine:
         return tuple(deque[-1].name if deque else None for deque in self.deques)
 
     def refusal(self, event):
-        """Document 01's list in its order, 7 to 16; 0 where nothing refuses."""
+        """Document 01's list in its order, 7 to 16 without 14; 0 where nothing refuses."""
         kind = event.kind
         if not is_step(event.record):
             return 7
@@ -113,8 +116,6 @@ class Machine:
             return self.steal_refusal(deque, event.low)
         if kind == "spawn" and len(self.frames) >= MOST_FRAMES:
             return 13
-        if kind == "return" and deque[-1].children:
-            return 14
         if kind in ("read", "write") and event.low >= self.n:
             return 15
         if kind == "write":
@@ -156,17 +157,29 @@ class Machine:
 
     def do_return(self, event, deque):
         frame = deque.pop()
-        del self.frames[frame.name]
-        if frame.name == ():
-            event.number = 3
-        else:
-            self.leave_parent(event, deque, frame)
+        if frame.children:
+            frame.suspended = frame.returning = True
+            event.number = 4
+            return
+        self.end(event, deque, frame)
         self.count_free()
 
-    def leave_parent(self, event, deque, frame):
-        """The end of a child: outcome 0, 1 or 2."""
+    def end(self, event, deque, frame):
+        """The end of a frame, and of those above it that waited as returning for it alone: outcome 0 to 3."""
+        del self.frames[frame.name]
+        event.ended += (frame.name,)
+        if frame.name == ():
+            event.number = 3
+            return
         parent = self.frames[frame.name[:-1]]
         parent.children -= 1
+        if parent.returning and not parent.children:
+            self.end(event, deque, parent)
+        else:
+            self.leave_parent(event, deque, frame, parent)
+
+    def leave_parent(self, event, deque, frame, parent):
+        """What the parent of the last frame that ended does: outcome 0, 1 or 2."""
         event.other = parent.name
         if deque:
             event.number = 0

@@ -1,12 +1,13 @@
-"""Document 01's "Soundness", sentence by sentence, over the words of a saved state and its pool."""
+"""Document 01's "Soundness", sentence by sentence, and document 02's, R-1 and R-3, over the words of a state and its pool."""
 from collections import Counter
 
 from .machine import height, tree_nodes
 
 NONE = 0xFFFFFFFF
 WORKERS, FRAMES, MOST_NODES = 8, 64, 16384
-DEQUE_WORDS, FRAME_WORDS, NODE_WORDS = 1 + FRAMES, 6, 4
-STATE_WORDS = 5 + WORKERS * DEQUE_WORDS + FRAMES * FRAME_WORDS
+DEQUE_WORDS, FRAME_WORDS, NODE_WORDS = 1 + FRAMES, 7, 4
+RECORDS = 5 + WORKERS * DEQUE_WORDS  # the first word of the frame records
+STATE_WORDS = RECORDS + FRAMES * FRAME_WORDS
 
 
 def pieces(words, size):
@@ -21,7 +22,7 @@ class Frame:
     """A frame place's record."""
 
     def __init__(self, words):
-        self.live, self.parent, self.depth, self.outstanding, self.suspended, self.root = words
+        self.live, self.parent, self.depth, self.outstanding, self.suspended, self.root, self.returning = words
 
 
 class State:
@@ -29,11 +30,11 @@ class State:
 
     def __init__(self, words):
         self.workers, self.n, self.nodes, self.free_node, self.free_place = words[:5]
-        deques = pieces(words[5 : 5 + WORKERS * DEQUE_WORDS], DEQUE_WORDS)
+        deques = pieces(words[5:RECORDS], DEQUE_WORDS)
         self.lengths = [deque[0] for deque in deques]
         self.deques = [deque[1 : 1 + min(deque[0], FRAMES)] for deque in deques]
         self.past = [deque[1 + min(deque[0], FRAMES) :] for deque in deques]
-        self.frames = [Frame(record) for record in pieces(words[5 + WORKERS * DEQUE_WORDS : STATE_WORDS], FRAME_WORDS)]
+        self.frames = [Frame(record) for record in pieces(words[RECORDS:STATE_WORDS], FRAME_WORDS)]
         self.pool = pieces(words[STATE_WORDS : STATE_WORDS + NODE_WORDS * self.nodes], NODE_WORDS)
         self.live = {place: frame for place, frame in enumerate(self.frames) if frame.live}
         self.children = {place: [p for p, f in self.live.items() if f.parent == place] for place in self.live}
@@ -108,6 +109,11 @@ def node_count(s):
 def flags(s):
     named = ((p, what, getattr(f, what)) for p, f in enumerate(s.frames) for what in ("live", "suspended"))
     return first(f"frame place {place}: {what} is {word}" for place, what, word in named if word > 1)
+
+
+def returning(s):
+    wrong = ((p, f) for p, f in enumerate(s.frames) if f.returning > 1 or (f.returning and not f.suspended))
+    return first(f"frame place {p}: the last word is {f.returning}, suspended is {f.suspended}" for p, f in wrong)
 
 
 def deque_lengths(s):
@@ -210,16 +216,17 @@ def places_free(s):
         return f"the chain of free places: {fault}"
     for place in sorted(set(range(FRAMES)) - set(s.live) ^ set(met)):
         return f"frame place {place} is " + ("live and on the chain" if place in s.live else "not live and not on the chain")
-    dirty = (p for p in met for f in [s.frames[p]] if f.depth or f.outstanding or f.suspended or f.root)
+    dirty = (p for p in met for f in [s.frames[p]] if f.depth or f.outstanding or f.suspended or f.root or f.returning)
     return first(f"free frame place {place} has a word that is not zero" for place in dirty)
 
 
-# Document 01's words; document 02's, R-1, for the flags and the places of a deque.
+# Document 01's words; document 02's, R-1, for the flags and the places of a deque, R-3 for the last word of a record.
 SENTENCES = (
     ("Workers are 1 to 8.", workers),
     ("n is 1 to 256.", splitters),
     ("The recorded node count is T(n) to 16,384.", node_count),
     ("Live and suspended are 0 or 1, and another word there is unsound.", flags),
+    ("The last word of a record is 1 on a frame waiting as returning, which is suspended, else 0.", returning),
     ("For each of 8 workers there are 64 places for its frames.", deque_lengths),
     ("Either no frame lives and all deques are empty, or just one live frame has depth 0, with parent none.", one_main),
     ("Every other live frame has a live parent one shallower.", parents),
