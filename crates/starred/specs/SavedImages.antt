@@ -218,10 +218,12 @@ readings =
     -- accepted
     ∷ gives image 0
     ∷ gives earlier 0
-    -- 511 and 256 have this form, 255 and 0 the one before; their workers are not 1 to 8: 6
+    -- 511 and 256 have this form, 255 and 0 the one before: the check is wrong then, and where it is put right there are not 1 to 8 workers
+    ∷ gives (set image 0 255) 18
+    ∷ gives (set image 0 0) 18
+    ∷ gives (set earlier 0 255) 18
+    ∷ gives (set earlier 0 0) 18
     ∷ gives (begins 255 1 2 2 image) 6
-    ∷ gives (begins 0 1 3 1 image) 6
-    ∷ gives (begins 255 0 2 1 earlier) 6
     ∷ gives (begins 0 0 3 0 earlier) 6
     -- "18, a check is wrong or the rest of the last block is not zero": a byte changed, a check changed, the first byte of the rest and the check
     -- with it; of both forms
@@ -241,7 +243,6 @@ readings =
     ∷ lacks (otherPlace image) 5
     ∷ lacks (otherPlace earlier) 5
     ∷ gives (otherPlace image) 6
-    ∷ gives (otherPlace earlier) 6
     ∷ []
 
 readings-quickly : map (λ (r : Reading). loadQuick anyParts (replicate 9 7) (r .work) (r .image) .result) readings ≡ map (λ (r : Reading). r .result) readings
