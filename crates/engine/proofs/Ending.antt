@@ -1,45 +1,34 @@
 -- A return's ways out, and the turns of its ends upward, over plain variables.
-use mathlib.Core.Path.{_≡_, refl, sym, ap, ap₂, _∙_, subst}
+use mathlib.Core.Path.{_≡_, sym, ap, ap₂, _∙_, subst}
 use mathlib.Core.Logic.{_≢_, inl, inr}
-use mathlib.Core.Bool.{Bool, true, false}
+use mathlib.Core.Bool.{true, false}
 use mathlib.Core.List.{List}
-use Prim.Native.Nat.{ℕ, zero, suc, _-_, _≤_, _<_}
+use Prim.Native.Nat.{ℕ, suc, _-_, _<_}
 use native.Mathlib.Omega.{arith}
-use lib.Dec.{eqb}
 use lib.ListN.{length}
 use borrow.Author.Tests.{eq-eqb, ne-eqb}
 use Rattle.words.specs.Basics.{none}
-use Rattle.words.specs.Tests.{decided}
 use Rattle.pool.specs.Pool.{release}
 use Rattle.pool.specs.Links.{Link, LinksIn}
 use Rattle.frames.specs.Widths.{maxWorkers, places, frameWords, dequeWords}
 use Rattle.frames.specs.declared.Frame.{Frame}
 use Rattle.frames.specs.declared.Returned.{Returned}
 use Rattle.frames.specs.declared.Returned.the-variants.{Continued, Finished, Waiting}
-use Rattle.frames.specs.Frames.{frameAt, setFrame}
+use Rattle.frames.specs.Frames.{frameAt}
 use Rattle.frames.specs.Deques.{size, bottom, pop}
 use Rattle.frames.specs.Steps.{Table, endFrame, endsToo}
 use Rattle.frames.specs.Ranges.{ParentOf, EndsIn}
-use Rattle.frames.specs.Theory.Records.{length-setFrame}
 use Rattle.frames.specs.Promises.{Waits, GoesOn}
 use Rattle.model.specs.declared.Step.the-variants.{Return}
 use Rattle.semantics.specs.declared.Head.{Head}
 use Rattle.semantics.specs.declared.Done.the-variants.{Ended}
 use Rattle.semantics.specs.declared.Answer.{Answer}
 use Rattle.semantics.specs.declared.Answer.the-variants.{Accepted}
-use Rattle.semantics.specs.Core.{Core, StepResult, stepResult, tableOf, withTable, returned, endAt, upward, endBottom, returnOn}
-use Rattle.semantics.specs.Ranges.{EndsAt, EndsUpward}
+use Rattle.semantics.specs.Core.{Core, stepResult, withTable, returned, endAt, upward, endBottom, returnOn}
+use Rattle.semantics.specs.Ranges.{EndsUpward}
+use Rattle.semantics.specs.Theory.Lengths.{length-endFrame}
 use Rattle.engine.specs.declared.Out.{Out}
 use Rattle.engine.specs.Promises.{core, renewed, headAfter, Leaves, LeavesEnded, kindOn, EndsFrom, endsFrom}
-
-length-endFrame : (fs : List ℕ) (free p : ℕ) → length (endFrame fs free p) ≡ length fs
-unfolding endFrame
-length-endFrame fs free p =
-    let q = frameAt fs p .parent in
-    elim (decided (eqb q none)) [
-      | inl e ↦ rw e (length-setFrame fs p _)
-      | inr e ↦ rw e (length-setFrame (setFrame fs p _) q _ ∙ length-setFrame fs p _)
-    ]
 
 -- ---- one end: the core before it has the words fs, ws and the numbers node, place, count
 

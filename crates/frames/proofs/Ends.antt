@@ -1,11 +1,10 @@
 -- A law for each way out of a function, over plain variables.
 use mathlib.Core.Path.{_≡_, refl, sym, ap, _∙_, subst}
 use mathlib.Core.Bool.{Bool, true, false}
-use mathlib.Core.Logic.{_≢_, _⊎_, inl, inr}
+use mathlib.Core.Logic.{_≢_, inl, inr}
 use mathlib.Core.List.{List, _++_}
 use Prim.Native.Nat.{ℕ, zero, suc, _+_, _-_, _*_, _<_}
 use native.Mathlib.Omega.{arith}
-use lib.Dec.{eqb}
 use lib.ListN.{length, replicate, getD, set, take, drop}
 use lib.Seq.{getD-drop, drop-set-add, take-set-le}
 use borrow.Author.Tests.{eq-eqb, ne-eqb}

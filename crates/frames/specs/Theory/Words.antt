@@ -14,7 +14,7 @@ use Rattle.frames.specs.declared.Frame.{Frame}
 use Rattle.frames.specs.Widths.{places, recordWords, dequeStride}
 use Rattle.frames.specs.Frames.{frameAt, setFrame, withOutstanding, withSuspended, withRoot, withReturning, withChild, withoutChild, asReturning, childOf, freePlace, mainFrame, initPlaces, initFrames}
 use Rattle.frames.specs.Deques.{size, setSize, place, setPlace, bottom, top, push, pop, shiftUp, dropTop, initDeques}
-use Rattle.frames.specs.Steps.{Table, acting, spawn, suspend, endFrame, resumes, resume, goOn, steal, sync}
+use Rattle.frames.specs.Steps.{Table, acting, spawn, suspend, endFrame, resumes, goOn, steal, sync}
 
 -- ---- a record
 

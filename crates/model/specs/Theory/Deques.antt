@@ -1,7 +1,7 @@
 -- The deques of a run keep their shape, and a suspended frame has a live child.
 use mathlib.Core.Path.{_≡_, refl, sym, ap, _∙_, subst}
 use mathlib.Core.Logic.{_≢_, _⊎_, inl, inr}
-use mathlib.Core.Bool.{true, false, not, _&&_}
+use mathlib.Core.Bool.{true, false, not}
 use mathlib.Core.List.{List·Memᴰ as In, List·Memᴰ·head as here, List·Memᴰ·tail as there, List·Memᴰ·not-nil as not-in-nil, List·Memᴰ·eq-of-singleton as In-one, List·Memᴰ·cases-cons as In-cons, Memᴰ·append-left as In-left, Memᴰ·append-right as In-right, List·Memᴰ·append-cases as In-cases}
 use mathlib.Core.List.{List, [], _∷_, _++_, tail, cons≢nil, nil≢cons, tail-eq-of-cons-eq, List·Permᴰ, List·Permᴰ·cons, Permᴰ·symm}
 use Prim.Native.Nat.{ℕ, zero, suc, _-_, _<_}

@@ -96,7 +96,7 @@ module _ (t : Table) (w : ℕ) where
   sync-long =
       either (eqb (acting t w .outstanding) 0) (as-long-refl t) (suspend-long _)
 
-length-endFrame : (fs : List ℕ) (free p : ℕ) → length (endFrame fs free p) ≡ length fs
+pub length-endFrame : (fs : List ℕ) (free p : ℕ) → length (endFrame fs free p) ≡ length fs
 unfolding endFrame
 length-endFrame fs free p = elim (decided (eqb (frameAt fs p .parent) none)) [
   | inl e ↦ rw e (length-setFrame fs p (freePlace free))

@@ -22,7 +22,7 @@ use Rattle.frames.specs.Theory.Lists.{list-length}
 use Rattle.frames.specs.Theory.Places.{FreePlaces}
 use Rattle.model.specs.declared.Step.{Step}
 use Rattle.model.specs.declared.Step.the-variants.{Spawn, Return, Steal, Sync, Read, Write}
-use Rattle.model.specs.Machine.{Frame, Machine, live, deque, isEmpty, hasChild, inUse}
+use Rattle.model.specs.Machine.{Frame, Machine, live, deque, isEmpty, inUse}
 use Rattle.model.specs.Steps.{Action, spawn, return, sync, read, write, acting, turnOf, written, afterWrite, firstTrue, notBelow, actionTests, turnTests, refusal}
 use Rattle.model.specs.Steps.{noWorker as missing}
 use Rattle.model.specs.Theory.Children.{hasChild-In}
@@ -36,7 +36,7 @@ use Rattle.semantics.specs.declared.Answer.the-variants.{Refused}
 use Rattle.semantics.specs.Answers.{refusalNumber}
 use Rattle.semantics.specs.Core.{Core, StepResult, actingIn, idle, noWorker, allIdle, judged, actingTests, stepOn, testsOf, doneBy, kindTests}
 use Rattle.semantics.specs.Theory.Relation.{Trees, placesOf, rootOf, Relates}
-use Rattle.semantics.specs.Theory.Places.{in-deque, sum-count, all-once, childCount-test, depth-few, placed-inside, acting-frame, acting-record}
+use Rattle.semantics.specs.Theory.Places.{in-deque, sum-count, all-once, depth-few, placed-inside, acting-frame}
 
 -- ---- two lists of tests
 
@@ -103,11 +103,8 @@ empty-test : {A : Type 0} (l : List A) → eqb (length l) 0 ≡ isEmpty l
 empty-test [] = eq-eqb 0 0 refl
 empty-test (x ∷ l) = ne-eqb (suc (length l)) 0 (λ e. omega arith)
 
-not-not : (b : Bool) → not (not b) ≡ b
-not-not true = refl
-not-not false = refl
-
-in-some : {A : Type 0} {h : A} (ds : List (List A)) → In h (joined ds) → (v : ℕ) × (v < length ds) × In h (getD ds v [])
+-- each element of the lists joined stands in one of them
+pub in-some : {A : Type 0} {h : A} (ds : List (List A)) → In h (joined ds) → (v : ℕ) × (v < length ds) × In h (getD ds v [])
 in-some [] m = absurd (not-in-nil m)
 in-some (d ∷ ds) m = elim (In-cases d m) [
   | inl i ↦ (0, omega arith, i)

@@ -4,10 +4,9 @@ use mathlib.Core.Logic.{inl, inr}
 use mathlib.Core.List.{List·Memᴰ as In, List·Memᴰ·eq-of-singleton as In-one, List·Memᴰ·cases-cons as In-cons, Memᴰ·append-left as In-left, Memᴰ·append-right as In-right, List·Memᴰ·append-cases as In-cases}
 use mathlib.Core.List.{List, [], _∷_, _++_, List·Permᴰ, List·Permᴰ·trans, Permᴰ·symm}
 use Prim.Native.Nat.{ℕ, _<_}
-use lib.ListN.{length, set, length-set, getD}
+use lib.ListN.{length, length-set}
 use Rattle.words.specs.Basics.{joined}
 use Rattle.words.specs.Lists.{In-perm, joined-set}
-use Rattle.frames.specs.declared.Frame.{Frame as Words}
 use Rattle.frames.specs.Frames.{frameAt, withSuspended}
 use Rattle.frames.specs.Steps.{Table}
 use Rattle.frames.specs.Steps.{resume as resumeTable}

@@ -2,10 +2,10 @@
 -- that waited in their returns.
 use mathlib.Core.Path.{_≡_, refl, sym, ap, ap₂, _∙_, subst}
 use mathlib.Core.Logic.{_≢_, inl, inr}
-use mathlib.Core.Bool.{Bool, true, false, cond, not, _&&_}
-use mathlib.Core.List.{List·Memᴰ as In, List·Memᴰ·head as here, List·Memᴰ·tail as there, List·Memᴰ·cases-cons as In-cons, List·Memᴰ·append-cases as In-cases, Memᴰ·append-left as In-left, Memᴰ·append-right as In-right}
+use mathlib.Core.Bool.{Bool, true, false, not, _&&_}
+use mathlib.Core.List.{List·Memᴰ as In, List·Memᴰ·head as here, List·Memᴰ·cases-cons as In-cons, List·Memᴰ·append-cases as In-cases, Memᴰ·append-left as In-left, Memᴰ·append-right as In-right}
 use mathlib.Core.List.{List, [], _∷_, _++_, tail, List·Permᴰ, Permᴰ·refl, Permᴰ·symm}
-use Prim.Native.Nat.{ℕ, zero, suc, _<_}
+use Prim.Native.Nat.{ℕ, suc, _<_}
 use native.Mathlib.Omega.{arith}
 use lib.ListN.{length, set, length-set, length-map}
 use lib.Seq.{getD-set-same, set-getD}
@@ -16,14 +16,14 @@ use Rattle.words.specs.Tests.{decided, both, true→T, true≢false}
 use Rattle.words.specs.Lists.{In-perm, joined-set}
 use Rattle.words.specs.Distinct.{same-eq, same-refl}
 use Rattle.frames.specs.declared.Frame.{Frame as FrameWords}
-use Rattle.frames.specs.declared.Returned.the-variants.{Continued, Idle, Resumed, Finished, Waiting}
+use Rattle.frames.specs.declared.Returned.the-variants.{Continued, Idle, Resumed}
 use Rattle.frames.specs.Frames.{frameAt}
-use Rattle.frames.specs.Deques.{size, pop, dequeList}
-use Rattle.frames.specs.Steps.{waitsNoMore, endsToo, resumes, goOn, wentOn}
+use Rattle.frames.specs.Deques.{size, pop}
+use Rattle.frames.specs.Steps.{waitsNoMore, endsToo, goOn, wentOn}
 use Rattle.frames.specs.Steps.{resume as resumeTable}
 use Rattle.frames.specs.Theory.Lists.{list-length, list-elsewhere, pop-elsewhere, pop-shaped, pop-list}
-use Rattle.model.specs.Machine.{Name, Frame, Machine, live, deque, withDeque, withFrames, isEmpty, hasChild, hasFrame, those, others}
-use Rattle.model.specs.Steps.{return, acting, waitsInReturn, waitsAtSync, leave, resume, upward, afterEnd, afterAction, afterTurn, endOutcome, actionAnswer, turnAnswer}
+use Rattle.model.specs.Machine.{Name, Frame, Machine, live, deque, withDeque, isEmpty, hasChild, hasFrame, those, others}
+use Rattle.model.specs.Steps.{return, acting, waitsInReturn, waitsAtSync, leave, upward, afterEnd, afterAction, afterTurn, endOutcome, actionAnswer, turnAnswer}
 use Rattle.model.specs.Theory.LiveRun.{Disjoint, disjoint-perm}
 use Rattle.model.specs.Theory.Children.{hasChild-perm}
 use Rattle.model.specs.Theory.Effects.{Passes, acts, rest, live-at, live-with, perm-those}
@@ -36,10 +36,10 @@ use Rattle.semantics.specs.Core.{Core, StepResult, tableOf, withTable, a
 use Rattle.semantics.specs.Core.{upward as upwardOn}
 use Rattle.semantics.specs.Theory.Relation.{Trees, TreeLaws, bit, parentPlace, childCount, placesOf, Recorded, Relates}
 use Rattle.semantics.specs.Theory.Places.{childCount-test, childless-count, those-none, those-one, others-all, recorded, worker-few, acting-deque, acting-place, acting-frame, acting-record}
-use Rattle.semantics.specs.Theory.RelationFacts.{in-set, in-rest, lists-with, parent-count, workers-le, above-runs}
+use Rattle.semantics.specs.Theory.RelationFacts.{in-rest, lists-with, parent-count, above-runs}
 use Rattle.semantics.specs.Theory.Suspended.{suspends}
 use Rattle.semantics.specs.Theory.Resumed.{resumes-frame}
-use Rattle.semantics.specs.Theory.EndedFrame.{Left, withDeques, end-relates}
+use Rattle.semantics.specs.Theory.EndedFrame.{Left, end-relates}
 
 -- ---- one turn of the ends upward, by what the parent's record says
 

@@ -7,16 +7,16 @@ use Prim.Native.Nat.{ℕ, _<_}
 use lib.ListN.{length}
 use Rattle.words.specs.Tests.{decided}
 use Rattle.frames.specs.declared.Synced.the-variants.{Passed, Suspended}
-use Rattle.frames.specs.Frames.{frameAt, withSuspended}
+use Rattle.frames.specs.Frames.{frameAt}
 use Rattle.frames.specs.Steps.{sync as syncTable, synced}
 use Rattle.frames.specs.Steps.{suspend as suspendTable}
 use Rattle.frames.specs.Theory.Summary.{sync-passes as passes, sync-waits as waits}
 use Rattle.model.specs.Machine.{Frame, Machine, live, deque, hasChild}
-use Rattle.model.specs.Steps.{sync, acting, suspend, afterTurn, turnAnswer}
+use Rattle.model.specs.Steps.{sync, acting, afterTurn, turnAnswer}
 use Rattle.model.specs.Theory.Effects.{Passes, acts}
 use Rattle.semantics.specs.Answers.{answerWords}
-use Rattle.semantics.specs.Core.{Core, tableOf, withTable, syncOn}
-use Rattle.semantics.specs.Theory.Relation.{Trees, TreeLaws, bit, placesOf, Recorded, Relates}
+use Rattle.semantics.specs.Core.{Core, tableOf, syncOn}
+use Rattle.semantics.specs.Theory.Relation.{Trees, TreeLaws, placesOf, Recorded, Relates}
 use Rattle.semantics.specs.Theory.Places.{childless-count, acting-deque, acting-record}
 use Rattle.semantics.specs.Theory.RelationFacts.{parent-count, stored}
 use Rattle.semantics.specs.Theory.Suspended.{record-waiting, suspends}

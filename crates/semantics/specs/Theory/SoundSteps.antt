@@ -30,7 +30,7 @@ use Rattle.model.specs.Theory.DequeShape.{DequeInvariant}
 use Rattle.model.specs.Theory.Deques.{deques-turn}
 use Rattle.model.specs.Theory.FreshMarks.{MarkInvariant, marks-turn}
 use Rattle.model.specs.Theory.Bounds.{Bounded, bounded-turn}
-use Rattle.semantics.specs.Core.{Core, StepResult, actingIn, spawnOn, returnOn, stealOn, syncOn, readOn, writeOn, stepOn, doneBy}
+use Rattle.semantics.specs.Core.{Core, StepResult, actingIn, spawnOn, stealOn, syncOn, readOn, writeOn, stepOn, doneBy}
 use Rattle.semantics.specs.Entries.{stateOf, isSound, chainFree}
 use Rattle.semantics.specs.SoundMachine.{machineOf}
 use Rattle.semantics.specs.Calls.{restIn}

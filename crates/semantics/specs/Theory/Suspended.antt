@@ -2,7 +2,7 @@
 use mathlib.Core.Path.{_≡_, refl, sym, _∙_, subst}
 use mathlib.Core.Logic.{inl, inr}
 use mathlib.Core.Bool.{Bool}
-use mathlib.Core.List.{List·Memᴰ as In, List·Memᴰ·head as here, List·Memᴰ·cases-cons as In-cons, Memᴰ·append-left as In-left, Memᴰ·append-right as In-right, List·Memᴰ·append-cases as In-cases}
+use mathlib.Core.List.{List·Memᴰ as In, List·Memᴰ·cases-cons as In-cons, Memᴰ·append-left as In-left, Memᴰ·append-right as In-right, List·Memᴰ·append-cases as In-cases}
 use mathlib.Core.List.{List, [], _∷_, _++_, List·Permᴰ, List·Permᴰ·cons, Permᴰ·symm}
 use Prim.Native.Nat.{ℕ, _<_}
 use lib.ListN.{length, set, length-set, getD}
@@ -20,7 +20,7 @@ use Rattle.model.specs.Machine.{Frame, Machine, live, deque}
 use Rattle.model.specs.Steps.{suspend}
 use Rattle.model.specs.Theory.Effects.{rest, live-at, live-with}
 use Rattle.semantics.specs.Core.{Core, tableOf, withTable}
-use Rattle.semantics.specs.Theory.Relation.{Trees, TreeLaws, bit, placesOf, rootOf, rootsOf, Recorded, Relates}
+use Rattle.semantics.specs.Theory.Relation.{Trees, TreeLaws, bit, placesOf, rootOf, Recorded, Relates}
 use Rattle.semantics.specs.Theory.Places.{placed-taken, same-numbers, acting-deque, acting-record}
 use Rattle.semantics.specs.Theory.RelationFacts.{trees-perm, in-rest, lists-with, stored, workers-le, bottom-lives, above-runs}
 use Rattle.semantics.specs.Theory.Stored.{Carried, carried}

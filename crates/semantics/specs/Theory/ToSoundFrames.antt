@@ -27,7 +27,8 @@ use Rattle.semantics.specs.Core.{Core}
 use Rattle.semantics.specs.Theory.Relation.{Trees, parentPlace, childCount, placesOf, rootOf, rootsOf, bit, Recorded, Relates}
 use Rattle.soundness.specs.Theory.Facts.{Lives, stands, child-at, at-child, NoFrame, OnlyMain, HasParent, Placed, Returning, PlacesFree}
 use Rattle.semantics.specs.Theory.FromSoundPlaces.{In-count, below-of, total, roots-below}
-use Rattle.semantics.specs.Theory.ToSoundPlaces.{sum-total, place-count, place-frame, place-apart, count-both, count-joined, in-joined, joined-in}
+use Rattle.semantics.specs.Theory.ToSoundPlaces.{sum-total, place-count, place-frame, place-apart, count-both, count-joined, in-joined}
+use Rattle.semantics.specs.Theory.Refusals.{in-some}
 
 -- ---- sums along the frames
 
@@ -264,7 +265,7 @@ module _ {P : Trees} {M : Machine} {c : Core} (R : Relates P M c) where
         | inl e ↦ inr (R .waiting f i .returning ∙ ap bit e, R .waiting f i .suspended)
         | inr e ↦ inl (R .waiting f i .returning ∙ ap bit e)
       ]
-      | inr i ↦ (let r = joined-in (M .deques) i in inl (R .running f i .returning ∙ ap bit (inv .active (r .0) f (r .1))))
+      | inr i ↦ (let r = in-some (M .deques) i in inl (R .running f i .returning ∙ ap bit (inv .active (r .0) f (r .2))))
     ]
 
     -- R-3: "1 on a frame waiting so, which is suspended, else 0"

@@ -3,7 +3,7 @@
 use mathlib.Core.Path.{_≡_, sym, ap, _∙_}
 use mathlib.Core.Logic.{_⊎_, inl, inr}
 use mathlib.Core.Bool.{true}
-use mathlib.Core.List.{List·Memᴰ as In, List·Memᴰ·not-nil as not-in-nil, List·Memᴰ·cases-cons as In-cons, List·Memᴰ·append-cases as In-cases, Memᴰ·append-left as In-left, Memᴰ·append-right as In-right, Memᴰ·map as In-map, Memᴰ·of-map as In-unmap}
+use mathlib.Core.List.{List·Memᴰ as In, List·Memᴰ·not-nil as not-in-nil, List·Memᴰ·cases-cons as In-cons, Memᴰ·append-left as In-left, Memᴰ·append-right as In-right, Memᴰ·map as In-map, Memᴰ·of-map as In-unmap}
 use mathlib.Core.List.{List, [], _∷_, _++_}
 use Prim.Native.Nat.{ℕ, zero, suc, _+_, _≤_, _<_}
 use native.Mathlib.Omega.{arith}
@@ -63,8 +63,3 @@ pub in-joined : {A : Type 0} {x : A} (ds : List (List A)) (w : ℕ) → In x (ge
 in-joined [] w m = absurd (not-in-nil m)
 in-joined (d ∷ ds) zero m = In-left (joined ds) m
 in-joined (d ∷ ds) (suc w) m = In-right d (in-joined ds w m)
-
--- each element of the lists joined stands in one of them
-pub joined-in : {A : Type 0} {x : A} (ds : List (List A)) → In x (joined ds) → (w : ℕ) × In x (getD ds w [])
-joined-in [] m = absurd (not-in-nil m)
-joined-in (d ∷ ds) m = elim (In-cases d m) [ inl i ↦ (0, i) | inr i ↦ (let r = joined-in ds i in (suc (r .0), r .1)) ]

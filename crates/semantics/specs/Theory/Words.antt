@@ -22,7 +22,7 @@ use Rattle.semantics.specs.declared.Answer.the-variants.{Accepted, Refus
 use Rattle.semantics.specs.Answers.{refusalNumber, answerWords, bothWords, wordsIn}
 use Rattle.frames.specs.declared.Returned.{Returned}
 use Rattle.semantics.specs.Theory.Returning.{return-answers}
-use Rattle.semantics.specs.Core.{Core, StepResult, judged, spawnOn, returnOn, stealOn, syncOn, readOn, writeOn, stepOn, testsOf, doneBy}
+use Rattle.semantics.specs.Core.{Core, StepResult, judged, spawnOn, stealOn, syncOn, readOn, writeOn, stepOn, testsOf, doneBy}
 use Rattle.semantics.specs.Entries.{recordOn}
 use Rattle.semantics.specs.Calls.{refusedWhole, saysAccepted, bottomEntry, turnEntry}
 use Rattle.semantics.specs.Theory.Refusals.{number-range}

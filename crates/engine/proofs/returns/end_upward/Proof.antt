@@ -1,13 +1,10 @@
 -- The invariant: to end the frame from here on gives what to end the first one gives. Each way out and the next turn are in `proofs.Ending`.
 -- Below, the places that the answers speak of, each by its way from the next.
-use mathlib.Core.Path.{_≡_, refl, sym, ap, _∙_}
-use Prim.Native.Nat.{ℕ}
-use mathlib.Core.List.{List}
+use mathlib.Core.Path.{_≡_, refl, sym, _∙_}
 use lib.ListN.{length}
 use borrow.Author.Needs.{needs}
 use borrow.Author.Tests.{not-true, not-false}
 use Rattle.frames.specs.Frames.{frameAt}
-use Rattle.semantics.specs.declared.Head.{Head}
 use Rattle.engine.specs.Promises.{core, renewed, EndsFrom, endsFrom}
 use Rattle.engine.proofs.Ending.{frame-asks, release-asks, end-asks, parent-asks, continues, finishes, stops, go-asks, next-from, next-same, nearer}
 use Rattle.engine.proofs.returns.end_upward.Statement.{statement}

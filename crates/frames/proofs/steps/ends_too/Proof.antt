@@ -1,5 +1,4 @@
 -- Two tests.
-use mathlib.Core.Path.{_≡_, sym, ap, _∙_}
 use borrow.Author.Needs.{needs}
 use borrow.Author.Tests.{not-true, not-false}
 use Rattle.frames.proofs.steps.ends_too.Statement.{statement}
