@@ -3,7 +3,7 @@ use mathlib.Core.Path.{_≡_, refl, sym, ap, ap₂, _∙_}
 use mathlib.Core.Logic.{inl, inr, _≢_}
 use mathlib.Core.Bool.{Bool, true, false, not}
 use mathlib.Core.List.{List, [], _∷_, _++_, append-assoc, append-nil}
-use Prim.Native.Nat.{ℕ, zero, suc, _+_, _-_, _*_, _<_, _≤_}
+use Prim.Native.Nat.{ℕ, zero, suc, _+_, _-_, _*_, _/_, _%_, _<_, _≤_}
 use native.Mathlib.Omega.{arith}
 use lib.ListN.{length, getD, take, drop, replicate, length-append, length-set, length-drop, length-replicate, drop-of-length-le}
 use lib.Seq.{sets, sets-eq, take-all, drop-at, length-take-le, drop-append-add, drop-drop, drop-cons, take-nil}
@@ -14,18 +14,46 @@ use Rattle.words.specs.Tests.{decided}
 use Rattle.frames.specs.Widths.{places, frameWords, dequeWords}
 use Rattle.image.specs.declared.ImageCheck.the-variants.{WrongLength, WrongCheck, Good}
 use Rattle.image.specs.Widths.{numberCount, nodeWords, stateWords, wordsFor, version, oldFrameWords, oldStateWords}
-use Rattle.image.specs.Image.{nodeCount, versioned, imageWords, wordBytes, bytesOf, wordsOf, wordAt, blocksFor, filled, imageOf, imageBlocks, imageBytes, firstIn, nodesIn, stateWordsIn, wordsCalled, blocksCalled, wrongLength, dataOf, checksHold, allZero, restOf, wrongCheck, imageCheck, wordsIn, unversioned, widened, numberWordsIn, framesIn, poolIn, Lengths, stored, IsRead}
-use Rattle.image.specs.Inner.{placeOf, putWords, withChecks, readWords}
+use Rattle.image.specs.Image.{nodeCount, versioned, imageWords, wordBytes, bytesOf, wordsOf, wordAt, check, blocksFor, filled, imageOf, imageBlocks, imageBytes, firstIn, nodesIn, stateWordsIn, wordsCalled, blocksCalled, wrongLength, dataOf, checksHold, allZero, restOf, wrongCheck, imageCheck, wordsIn, unversioned, widened, numberWordsIn, framesIn, poolIn, Lengths, stored, IsRead}
+use Rattle.image.specs.Inner.{placeOf, sumBefore, withCheck, putWords, readWords}
 use Rattle.image.specs.Theory.Forms.{old-state, new-state, state-least, length-widened}
 use Rattle.image.specs.Theory.Bytes.{bytes-zeros, length-words, at-words}
 use Rattle.image.specs.Theory.Blocks.{word-drop, word-take, word-front, length-data}
+use Rattle.image.specs.Theory.Check.{check-word, check-zeros}
 use Rattle.image.specs.Theory.Refused.{right-length, when-17}
 use Rattle.image.specs.Theory.Round.{length-filled, blocks-enough, blocks-needed, good-length, part-length, length-pool}
 use Rattle.image.specs.Theory.Written.{length-state, length-image-words, length-image, image-blocks, frames-new}
 use Rattle.image.specs.Theory.Old.{oldFramesIn, frames-old}
-use Rattle.image.proofs.Stores.{put-append, put-run, with-checks-put}
+use Rattle.image.proofs.Stores.{put-append, put-run, put-last, put-blocks, sum-after, sum-block, sum-word, sum-none}
 
 -- ---- saving
+
+-- words stored in one block
+module _ (xs t u : List ℕ) (i n at before s : ℕ) (l : length xs ≡ n) (fits : placeOf i + 4 * n ≤ length t) (ea : at ≡ placeOf i) (eb : before ≡ sumBefore t i)
+    (eu : u ≡ sets t at (bytesOf xs)) (es : s ≡ plus before (check (bytesOf xs))) where
+  room-for : placeOf i + 4 * length xs ≤ length t
+  room-for = omega arith
+
+  laid : u ≡ sets t (placeOf i) (bytesOf xs)
+  laid = eu ∙ ap (λ (k : ℕ). sets t k (bytesOf xs)) ea
+
+  summed : s ≡ plus (sumBefore t i) (check (bytesOf xs))
+  summed = es ∙ ap (λ (k : ℕ). plus k (check (bytesOf xs))) eb
+
+  -- the block is not full
+  pub run-open : i % 127 + n < 127 → (u ≡ putWords t i xs) × (s ≡ sumBefore u (i + n))
+  run-open h = (
+    laid ∙ sym (put-run xs t i (omega arith)),
+    summed ∙ sym (sum-after xs t i room-for (omega arith)) ∙ sym (ap₂ (λ (q : List ℕ) (k : ℕ). sumBefore q (i + k)) laid (sym l)),
+  )
+
+  -- it is
+  pub run-full : (v : List ℕ) (p : ℕ) → i % 127 + n ≡ 127 → p ≡ 512 * (i / 127) + 508 → v ≡ sets u p (wordBytes s) → v ≡ putWords t i xs
+  unfolding withCheck
+  run-full v p h ep d =
+      d ∙ ap₂ (λ (k m : ℕ). sets u k (wordBytes m)) ep (summed ∙ sym (sum-block xs t i room-for (omega arith)))
+      ∙ ap (λ (q : List ℕ). sets q (512 * (i / 127) + 508) (wordBytes (check (take 508 (drop (512 * (i / 127)) (sets t (placeOf i) (bytesOf xs))))))) laid
+      ∙ sym (put-last xs t i (omega arith))
 
 -- words stored after words
 put-next : (t u v xs ys : List ℕ) (k : ℕ) → u ≡ putWords t 0 xs → length xs ≡ k → v ≡ putWords u k ys → v ≡ putWords t 0 (xs ++ ys)
@@ -37,48 +65,63 @@ put-next t u v xs ys k e l d =
 whole : (t u xs : List ℕ) (i k : ℕ) → length xs ≡ k → u ≡ putWords t i (take k xs) → u ≡ putWords t i xs
 whole t u xs i k l e = e ∙ ap (putWords t i) (take-all k xs (omega arith))
 
--- the first number with the version, then the others
-pub numbers-stored : (ns t u v : List ℕ) → length ns ≡ numberCount → u ≡ sets t 0 (wordBytes (plus (getD ns 0 0) version)) → v ≡ sets u 4 (bytesOf (take 4 (drop 1 ns)))
-    → v ≡ putWords t 0 (versioned ns)
+-- the first number with the version
+pub first-stored : (ns t u : List ℕ) (w : ℕ) → 512 ≤ length t → w ≡ plus (getD ns 0 0) version → u ≡ sets t 0 (wordBytes w) → (u ≡ putWords t 0 (w ∷ [])) × (w ≡ sumBefore u 1)
 unfolding bytesOf
-numbers-stored [] t u v l e d = absurd (omega arith)
-numbers-stored (x ∷ xs) t u v l e d =
-    d
-    ∙ ap₂ (λ (p q : List ℕ). sets p 4 (bytesOf q)) e (take-all 4 xs (omega arith))
-    ∙ sym (put-run (versioned (x ∷ xs)) t 0 (omega arith))
+first-stored ns t u w h ew eu =
+    let z : sumBefore t 0 ≡ 0 = sum-none t 0 refl in
+    let c : check (wordBytes w) ≡ w = check-word w (omega arith) in
+    let s : w ≡ plus 0 (check (wordBytes w)) = omega arith in
+    run-open (w ∷ []) t u 0 1 0 0 w refl (omega arith) refl (sym z) eu s (omega arith)
+
+-- then the others
+pub numbers-stored : (ns t u v : List ℕ) (w : ℕ) → length ns ≡ numberCount → w ≡ plus (getD ns 0 0) version → u ≡ putWords t 0 (w ∷ []) → v ≡ putWords u 1 (take 4 (drop 1 ns))
+    → v ≡ putWords t 0 (versioned ns)
+numbers-stored [] t u v w l e eu ev = absurd (omega arith)
+numbers-stored (x ∷ xs) t u v w l e eu ev =
+    ev ∙ ap₂ (λ (p q : List ℕ). putWords p 1 q) eu (take-all 4 xs (omega arith)) ∙ sym (put-append (w ∷ []) xs t 0) ∙ ap (λ (y : ℕ). putWords t 0 (y ∷ xs)) e
+
+-- zeros up to the end of the last block
+module _ (t : List ℕ) (w b s : ℕ) (eb : b ≡ blocksFor w) (fits : 512 * b ≤ length t) (es : s ≡ sumBefore t w) where
+  pub rest-none : 127 * b - w ≡ 0 → t ≡ putWords t w (replicate (127 * b - w) 0)
+  unfolding putWords
+  rest-none e = ap (λ (k : ℕ). putWords t w (replicate k 0)) (sym e)
+
+  pub rest-stored : (u v : List ℕ) (p : ℕ) → 127 * b - w ≢ 0 → p ≡ placeOf w → u ≡ sets t p (replicate (4 * (127 * b - w)) 0) → v ≡ sets u (512 * b - 4) (wordBytes s)
+      → v ≡ putWords t w (replicate (127 * b - w) 0)
+  rest-stored u v p h ep eu ev =
+      let m : ℕ = 127 * b - w in
+      let zs : List ℕ = replicate m 0 in
+      let l : length zs ≡ m = length-replicate {A = ℕ} m 0 in
+      let c : check (bytesOf zs) ≡ 0 = check-zeros m in
+      let s′ : s ≡ plus s (check (bytesOf zs)) = omega (arith, sum-word t w) in
+      let full : w % 127 + m ≡ 127 = omega (arith, blocks-enough w, blocks-needed w) in
+      let here : 512 * b - 4 ≡ 512 * (w / 127) + 508 = omega (arith, blocks-enough w, blocks-needed w) in
+      run-full zs t u w m p s s l (omega arith) ep es (eu ∙ ap (sets t p) (sym (bytes-zeros m))) s′ v (512 * b - 4) full here ev
 
 module _ (ns ds fs ws : List ℕ) (has : Lengths ns ds fs) (room : nodeWords * nodeCount ns ≤ length ws) where
   abbrev nodes : List ℕ
   nodes = take (nodeWords * nodeCount ns) ws
 
   -- the parts, then the zeros
-  pub data-stored : (t t₁ t₂ t₃ t₄ t₅ : List ℕ) (p b : ℕ) → p ≡ placeOf (wordsFor (nodeCount ns)) → b ≡ imageBlocks (nodeCount ns) → t₁ ≡ putWords t 0 (versioned ns) → t₂ ≡ putWords t₁ numberCount (take dequeWords ds)
-      → t₃ ≡ putWords t₂ (numberCount + dequeWords) (take frameWords fs) → t₄ ≡ putWords t₃ stateWords nodes → t₅ ≡ sets t₄ p (replicate (4 * (127 * b - wordsFor (nodeCount ns))) 0)
-      → t₅ ≡ putWords t 0 (filled b (imageWords ns ds fs ws))
-  data-stored t t₁ t₂ t₃ t₄ t₅ p b ep eb e₁ e₂ e₃ e₄ e₅ =
+  pub image-stored : (t t₁ t₂ t₃ t₄ t₅ : List ℕ) (b : ℕ) → b ≡ imageBlocks (nodeCount ns) → imageBytes (nodeCount ns) ≤ length t → t₁ ≡ putWords t 0 (versioned ns) → t₂ ≡ putWords t₁ numberCount (take dequeWords ds)
+      → t₃ ≡ putWords t₂ (numberCount + dequeWords) (take frameWords fs) → t₄ ≡ putWords t₃ stateWords nodes → t₅ ≡ putWords t₄ (wordsFor (nodeCount ns)) (replicate (127 * b - wordsFor (nodeCount ns)) 0)
+      → t₅ ≡ stored (imageOf ns ds fs ws) t
+  image-stored t t₁ t₂ t₃ t₄ t₅ b eb fits e₁ e₂ e₃ e₄ e₅ =
       let w : ℕ = wordsFor (nodeCount ns) in
-      let m : ℕ = 127 * b - w in
+      let n : ℕ = imageBlocks (nodeCount ns) in
       let vs : List ℕ = versioned ns in
+      let W : List ℕ = filled n (imageWords ns ds fs ws) in
       let l₁ : length vs ≡ numberCount = length-set ns 0 _ ∙ has .numbers in
       let l₂ : length (vs ++ ds) ≡ numberCount + dequeWords = omega (arith, length-append vs ds, has .deques) in
+      let l₄ : length (imageWords ns ds fs ws) ≡ w = length-image-words ns ds fs ws has room in
       let d₂ : t₂ ≡ putWords t 0 (vs ++ ds) = put-next t t₁ t₂ vs ds numberCount e₁ l₁ (whole t₁ t₂ ds numberCount dequeWords (has .deques) e₂) in
       let d₃ : t₃ ≡ putWords t 0 (vs ++ ds ++ fs) = put-next t t₂ t₃ (vs ++ ds) fs (numberCount + dequeWords) d₂ l₂ (whole t₂ t₃ fs (numberCount + dequeWords) frameWords (has .frames) e₃) in
       let d₄ : t₄ ≡ putWords t 0 (imageWords ns ds fs ws) = put-next t t₃ t₄ (vs ++ ds ++ fs) nodes stateWords d₃ (length-state ns ds fs ws has room) e₄ in
-      let r : length (replicate {A = ℕ} m 0) ≡ m = length-replicate {A = ℕ} m 0 in
-      let z : t₅ ≡ putWords t₄ w (replicate m 0) =
-      e₅ ∙ ap (λ (x : ℕ). sets t₄ x (replicate (4 * m) 0)) ep ∙ ap (sets t₄ (placeOf w)) (sym (bytes-zeros m)) ∙ sym (put-run (replicate m 0) t₄ w (omega (arith, r, eb, blocks-enough w, blocks-needed w))) in
-      put-next t t₄ t₅ (imageWords ns ds fs ws) (replicate m 0) w d₄ (length-image-words ns ds fs ws has room) z
-      ∙ ap (λ (k : ℕ). putWords t 0 (imageWords ns ds fs ws ++ replicate (127 * b - k) 0)) (sym (length-image-words ns ds fs ws has room))
-
-  -- the data, then the checks
-  pub image-stored : (t u v : List ℕ) (b : ℕ) → b ≡ imageBlocks (nodeCount ns) → imageBytes (nodeCount ns) ≤ length t → u ≡ putWords t 0 (filled b (imageWords ns ds fs ws)) → v ≡ withChecks b u → v ≡ stored (imageOf ns ds fs ws) t
-  image-stored t u v b eb fits eu ev =
-      let n : ℕ = imageBlocks (nodeCount ns) in
-      let W : List ℕ = filled n (imageWords ns ds fs ws) in
-      let l : length W ≡ 127 * n = length-filled n (imageWords ns ds fs ws) (omega (arith, length-image-words ns ds fs ws has room, blocks-enough (wordsFor (nodeCount ns)))) in
-      ev ∙ ap (withChecks b) eu ∙ ap (λ (k : ℕ). withChecks k (putWords t 0 (filled k (imageWords ns ds fs ws)))) eb
-      ∙ with-checks-put n W t l fits
-      ∙ ap₂ (λ (x : List ℕ) (k : ℕ). x ++ drop k t) (sym (image-blocks ns ds fs ws has room)) (sym (length-image ns ds fs ws has room))
+      let d₅ : t₅ ≡ putWords t 0 W =
+      put-next t t₄ t₅ (imageWords ns ds fs ws) (replicate (127 * b - w) 0) w d₄ l₄ e₅ ∙ ap₂ (λ (x y : ℕ). putWords t 0 (imageWords ns ds fs ws ++ replicate (127 * x - y) 0)) eb (sym l₄) in
+      let l : length W ≡ 127 * n = length-filled n (imageWords ns ds fs ws) (omega (arith, l₄, blocks-enough w)) in
+      d₅ ∙ put-blocks n W t l fits ∙ ap₂ (λ (x : List ℕ) (k : ℕ). x ++ drop k t) (sym (image-blocks ns ds fs ws has room)) (sym (length-image ns ds fs ws has room))
 
 -- ---- 17 and 18
 

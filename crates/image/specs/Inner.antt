@@ -1,28 +1,33 @@
 -- What the contracts of inner functions are said in. No promise of an exported function cites it. Definitions only.
-use mathlib.Core.List.{List, [], _∷_, _++_}
-use Prim.Native.Nat.{ℕ, zero, suc, _+_, _*_, _/_, _%_}
+use mathlib.Core.Bool.{cond}
+use mathlib.Core.List.{List, [], _∷_}
+use Prim.Native.Nat.{ℕ, zero, suc, _+_, _-_, _*_, _/_, _%_}
 use lib.ListN.{take, drop}
 use lib.Seq.{sets}
+use lib.Dec.{eqb}
 use Rattle.image.specs.Widths.{blockBytes, dataBytes, dataWords}
-use Rattle.image.specs.Image.{wordBytes, wordAt, check, block}
+use Rattle.image.specs.Image.{wordBytes, wordAt, check}
 
 -- where the word i of the data stands: the checks of the blocks before lie between
 abbrev pub placeOf : ℕ → ℕ
 placeOf i = blockBytes * (i / dataWords) + 4 * (i % dataWords)
 
--- words stored as the data's words from i on
-unfoldable pub putWords : List ℕ → ℕ → List ℕ → List ℕ
-putWords t i [] = t
-putWords t i (w ∷ ws) = putWords (sets t (placeOf i) (wordBytes w)) (suc i) ws
+-- the check of the data that the word i's block has before this word
+unfoldable pub sumBefore : List ℕ → ℕ → ℕ
+sumBefore t i = check (take (4 * (i % dataWords)) (drop (blockBytes * (i / dataWords)) t))
 
 -- the check stored in the block at a place
 unfoldable pub withCheck : List ℕ → ℕ → List ℕ
 withCheck t at = sets t (at + dataBytes) (wordBytes (check (take dataBytes (drop at t))))
 
--- the checks stored in the first n blocks
-unfoldable pub withChecks : ℕ → List ℕ → List ℕ
-withChecks zero t = t
-withChecks (suc n) t = block (take dataBytes t) ++ withChecks n (drop blockBytes t)
+-- once the word i is stored: after the last word of a block comes its check
+unfoldable pub afterWord : List ℕ → ℕ → List ℕ
+afterWord t i = cond (eqb (i % dataWords) (dataWords - 1)) (withCheck t (blockBytes * (i / dataWords))) t
+
+-- words stored as the data's words from i on, with the checks of the blocks that they fill
+unfoldable pub putWords : List ℕ → ℕ → List ℕ → List ℕ
+putWords t i [] = t
+putWords t i (w ∷ ws) = putWords (afterWord (sets t (placeOf i) (wordBytes w)) i) (suc i) ws
 
 -- n words side by side from a place on
 unfoldable pub wordsAt : ℕ → List ℕ → ℕ → List ℕ

@@ -4,6 +4,8 @@ pub mod Forms
 pub mod Bytes
 -- data as blocks and back
 pub mod Blocks
+-- the check of a block as the sum of its words
+pub mod Check
 -- when an image is refused by 17 and 18
 pub mod Refused
 -- reading what was written, and writing what was read, for both forms

@@ -40,14 +40,14 @@ fn checks_right(image: &[u8], n: usize) -> bool
     true
 }
 
-// Are the n bytes from `at` on zero?
+// Are the n words from `at` on zero?
 fn zeros(image: &[u8], at: usize, n: usize) -> bool
-    requires { ⌜ at + n ≤ length (now image) ⌝ }
-    ensures { λ r. ⌜ r ≡ allZero (take n (drop at (now (image .entry)))) ⌝ }
+    requires { ⌜ at + 4 * n ≤ length (now image) ⌝ }
+    ensures { λ r. ⌜ r ≡ allZero (take (4 * n) (drop at (now (image .entry)))) ⌝ }
 {
     let mut k: usize = 0;
     while k < n {
-        if image[at + k] != 0 {
+        if word_at(image, at + 4 * k) != 0 {
             return false;
         }
         k += 1;
@@ -63,8 +63,8 @@ fn wrong_check(image: &[u8], words: usize, blocks: usize) -> bool
     if !checks_right(image, blocks) {
         return true;
     }
-    let rest = 4 * (DATA_WORDS * blocks - words);
-    !zeros(image, BLOCK_BYTES * blocks - 4 - rest, rest)
+    let rest = DATA_WORDS * blocks - words;
+    !zeros(image, BLOCK_BYTES * blocks - 4 - 4 * rest, rest)
 }
 
 // 17, 18, or neither.

@@ -1,4 +1,4 @@
-// A state and a pool as blocks of bytes, and back: document 02, R-1 and R-3. The state's parts are lent and have their exact lengths, so no
+// A state and a pool as blocks of bytes, and back: document 02, R-1, R-3 and R-4. The state's parts are lent and have their exact lengths, so no
 // function tests an index.
 mod accept;
 mod bytes;

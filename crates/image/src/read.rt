@@ -5,15 +5,20 @@ ghost use lib.ListN.{length};
 ghost use lib.Seq.{sets};
 ghost use Rattle.frames.specs.Widths.{places, frameWords};
 ghost use Rattle.image.specs.declared.ImageCheck.the-variants.{Good};
-ghost use Rattle.image.specs.Widths.{numberCount, nodeWords, blockBytes, oldFrameWords};
+ghost use Rattle.image.specs.Widths.{numberCount, nodeWords, blockBytes, dataWords, oldFrameWords};
 ghost use Rattle.image.specs.Image.{blocksFor, firstIn, nodesIn, stateWordsIn, wordsCalled, imageCheck, widened, numberWordsIn, framesIn, Lengths, IsRead};
-ghost use Rattle.image.specs.Inner.{readWords};
+ghost use Rattle.image.specs.Inner.{wordsAt, readWords};
+use crate::BLOCK_BYTES;
+use crate::DATA_BYTES;
+use crate::DATA_WORDS;
 use crate::NODE_WORDS;
 use crate::NUMBER_COUNT;
 use crate::OLD_RECORD_WORDS;
 use crate::OLD_STATE_WORDS;
 use crate::STATE_WORDS;
 use crate::VERSION;
+use crate::bytes::read_four;
+use crate::bytes::read_fours;
 use crate::bytes::read_run;
 use crate::bytes::word_at;
 use crate::widths::place_of;
@@ -59,17 +64,39 @@ pub fn words_called(image: &[u8]) -> usize
     state_words_in(image) + NODE_WORDS * (nodes as usize)
 }
 
-// Reads n words of the data, from its word i on, into `to` from j on, a block's run at a time.
+// Reads the 127 words of the block b into `to` from j on: 31 times four, and the last four, the first of which is there already.
+fn read_block(image: &[u8], b: usize, to: &mut [u32], j: usize)
+    requires { ⌜ (blockBytes * (b + 1) ≤ length (now image)) × (j + dataWords ≤ length (now to)) ⌝ }
+    ensures { λ _. ⌜ now (to .exit) ≡ sets (now (to .entry)) j (wordsAt dataWords (now (image .entry)) (blockBytes * b)) ⌝ }
+{
+    let at = BLOCK_BYTES * b;
+    read_fours(image, at, to, j, DATA_WORDS / 4);
+    read_four(image, at + (DATA_BYTES - 16), to, j + (DATA_WORDS - 4));
+}
+
+// The same for n blocks.
+fn read_blocks(image: &[u8], b: usize, to: &mut [u32], j: usize, n: usize)
+    requires { ⌜ (blockBytes * (b + n) ≤ length (now image)) × (j + dataWords * n ≤ length (now to)) ⌝ }
+    ensures { λ _. ⌜ now (to .exit) ≡ sets (now (to .entry)) j (readWords (dataWords * n) (now (image .entry)) (dataWords * b)) ⌝ }
+{
+    let mut k: usize = 0;
+    while k < n {
+        read_block(image, b + k, to, j + DATA_WORDS * k);
+        k += 1;
+    }
+}
+
+// Reads n words of the data, from its word i on, into `to` from j on: the rest of a block, whole blocks, a block's beginning.
 fn read_words(image: &[u8], i: usize, to: &mut [u32], j: usize, n: usize)
     requires { ⌜ (j + n ≤ length (now to)) × (blockBytes * blocksFor (i + n) ≤ length (now image)) ⌝ }
     ensures { λ _. ⌜ now (to .exit) ≡ sets (now (to .entry)) j (readWords n (now (image .entry)) i) ⌝ }
 {
-    let mut k: usize = 0;
-    while k < n {
-        let run = run_length(i + k, n - k);
-        read_run(image, place_of(i + k), to, j + k, run);
-        k += run;
-    }
+    let first = run_length(i, n);
+    read_run(image, place_of(i), to, j, first);
+    let blocks = (n - first) / DATA_WORDS;
+    read_blocks(image, (i + first) / DATA_WORDS, to, j + first, blocks);
+    let k = first + DATA_WORDS * blocks;
+    read_run(image, place_of(i + k), to, j + k, n - k);
 }
 
 // Reads the numbers, the first one without the version.

@@ -34,4 +34,4 @@ zeros-requires : tie.Need-zeros-requires
 zeros-requires c κs = omega (arith, state-least (c .before .before .before .args .image .now))
 
 pub wrong-check-spec : {M : Type 1} → statement M
-wrong-check-spec = tie.close (tie.spec (λ c κs. search needs) returns (λ c. search needs) (λ c. search needs) (λ c. search needs) (λ c. search needs) sub-zeros sub-zeros-2 zeros-requires returns-2)
+wrong-check-spec = tie.close (tie.spec (λ c κs. search needs) returns (λ c. search needs) (λ c. search needs) (λ c. search needs) sub-zeros (λ c. search needs) sub-zeros-2 zeros-requires returns-2)

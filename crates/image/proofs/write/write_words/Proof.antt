@@ -1,43 +1,78 @@
--- After some runs the first k words are stored.
-use mathlib.Core.Path.{_≡_, refl, _∙_}
-use Prim.Native.Nat.{_-_, _≤_}
+-- The rest of a block, whole blocks, a block's beginning: `all-stored`.
+use mathlib.Core.Path.{refl}
+use Prim.Native.Nat.{ℕ, _-_, _/_}
 use native.Mathlib.Omega.{arith}
-use lib.ListN.{length, take}
-use Rattle.image.specs.Inner.{putWords}
-use Rattle.image.proofs.Loops.{at-end, words-turn}
+use lib.ListN.{length}
+use borrow.Author.Needs.{needs}
+use Rattle.image.proofs.Parts.{first-in, blocks-in, last-in, parts-fit, sum-kept, sum-all, all-stored}
 use Rattle.image.proofs.write.write_words.Statement.{statement}
 use Rattle.image.proofs.write.write_words.Tie as tie
 
-abbrev Inv-loop : tie.InvT-loop
-Inv-loop target₀ i from n k₀ target k = (target ≡ putWords target₀ i (take k from)) × (length target ≡ length target₀) × (k ≤ n)
+abbrev start-of : tie.After-run-length → tie.Start
+start-of r = r .before .before .before
 
-abbrev μ-loop : tie.MeasureT-loop
-μ-loop target₀ i from n k₀ target k = n - k
+abbrev length-of : tie.After-write-run → tie.After-run-length
+length-of w = w .before .before
 
-abbrev start-of : tie.At-loop Inv-loop μ-loop → tie.Start Inv-loop μ-loop
-start-of l = l .before .before .before
+abbrev first-of : tie.After-write-blocks → tie.After-write-run
+first-of b = b .before .before .before .before
 
-loop-holds : tie.Need-loop-holds Inv-loop μ-loop
-unfolding putWords
-loop-holds c = (refl, refl, omega arith)
+abbrev blocks-of : tie.After-write-run2 → tie.After-write-blocks
+blocks-of w = w .before .before .before .before
 
-loop-again : tie.Need-loop-again Inv-loop μ-loop
-loop-again c =
-    let p = c .before .before in
-    let place = p .before in
-    let r = place .before .before in
-    let l = r .before .before in
-    let a = start-of l .args in (
-      words-turn (a .target .now) (l .loop .target) _ (a .from .now) (a .i) (l .loop .k) (r .run-length .result) _ (omega arith) (omega arith) (place .place-of .ensures) (l .loop .inv .0) (p .put-run .ensures),
-      p .put-run .kept .0 ∙ l .loop .inv .1,
-      omega arith,
+write-run-requires : tie.Need-write-run-requires
+write-run-requires c κs =
+    let r = c .before in
+    let start = start-of r in
+    let a = start .args in
+    let h : ℕ = r .run-length .result in
+    let m : ℕ = (a .n - h) / 127 in
+    let first = first-in (a .i) (a .n) h m (r .run-length .ensures) refl in
+    let fit = parts-fit (a .i) (a .n) h m (r .run-length .ensures) refl (length (a .target .now)) (start .pre .1) in
+    (first .1, omega (arith, first .0), fit .0, start .pre .2)
+
+write-blocks-requires : tie.Need-write-blocks-requires
+write-blocks-requires c κs =
+    let w = c .before .before .before in
+    let r = length-of w in
+    let start = start-of r in
+    let a = start .args in
+    let h : ℕ = r .run-length .result in
+    let m : ℕ = (a .n - h) / 127 in
+    let blocks = blocks-in (a .i) (a .n) h m (r .run-length .ensures) refl in
+    let fit = parts-fit (a .i) (a .n) h m (r .run-length .ensures) refl (length (a .target .now)) (start .pre .1) in
+    (omega (arith, fit .1, w .write-run .kept .0), omega (arith, blocks .0))
+
+write-run-requires-2 : tie.Need-write-run-requires-2
+write-run-requires-2 c κs =
+    let b = c .before .before .before in
+    let w = first-of b in
+    let r = length-of w in
+    let start = start-of r in
+    let a = start .args in
+    let h : ℕ = r .run-length .result in
+    let m : ℕ = (a .n - h) / 127 in
+    let blocks = blocks-in (a .i) (a .n) h m (r .run-length .ensures) refl in
+    let fit = parts-fit (a .i) (a .n) h m (r .run-length .ensures) refl (length (a .target .now)) (start .pre .1) in (
+      last-in (a .i) (a .n) h m (r .run-length .ensures) refl,
+      omega (arith, blocks .0),
+      omega (arith, fit .2, w .write-run .kept .0, b .write-blocks .kept .0),
+      sum-kept (a .i) (a .n) h m (r .run-length .ensures) refl (a .from .now) (a .target .now) _ _ (start .pre .0) (w .write-run .ensures .0) (b .write-blocks .ensures) (w .write-run .result) (w .write-run .ensures .1),
     )
 
-returns : tie.Need-returns Inv-loop μ-loop
+returns : tie.Need-returns
 returns c =
-    let l = c .before in
-    let a = start-of l .args in
-    at-end (λ m. putWords (a .target .now) (a .i) (take m (a .from .now))) (l .loop .inv .2) (c .loop-test .left) (l .loop .inv .0)
+    let l = c .before .before in
+    let b = blocks-of l in
+    let w = first-of b in
+    let r = length-of w in
+    let start = start-of r in
+    let a = start .args in
+    let h : ℕ = r .run-length .result in
+    let m : ℕ = (a .n - h) / 127 in (
+      all-stored (a .i) (a .n) h m (r .run-length .ensures) refl (a .from .now) (a .target .now) _ _ (start .pre .0) (w .write-run .ensures .0) (b .write-blocks .ensures) _ (l .write-run2 .ensures .0),
+      sum-all (a .i) (a .n) h m (r .run-length .ensures) refl (a .from .now) (a .target .now) _ _ (start .pre .0) (w .write-run .ensures .0) (b .write-blocks .ensures) _ _ (l .write-run2 .ensures .1),
+    )
 
 pub write-words-spec : {M : Type 1} → statement M
-write-words-spec = tie.close (tie.spec Inv-loop μ-loop loop-holds (λ c. omega arith) (λ c. omega arith) (λ c κs. omega arith) (λ c. omega arith) (λ c κs. omega arith) (λ c κs. omega arith) (λ c. omega arith) (λ c. omega arith) loop-again (λ c. c .before .loop .inv .1) returns)
+write-words-spec = tie.close (tie.spec (λ c κs. search needs) write-run-requires (λ c. search needs) (λ c. search needs) write-blocks-requires (λ c. search needs) (λ c. search needs) (λ c. search needs) (λ c. search needs) write-run-requires-2 (λ c. search needs) returns)
