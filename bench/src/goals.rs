@@ -2,10 +2,12 @@
 
 use crate::case::Workload;
 use crate::checks::CheckCost;
+use crate::images::ImageCost;
 use crate::peer::Peer;
 use crate::records::{self, Cost};
 use crate::stack::Stack;
-use crate::tables::SIZES;
+use crate::table::grouped;
+use crate::tables::{IMAGE_CALLS, SIZES};
 
 /// How much more than plain Rust's the check may cost.
 const CHECK_LIMIT: f64 = 1.2;
@@ -14,6 +16,8 @@ const CONTROL_LIMIT: f64 = 1.05;
 /// How much more than the copying machine's a write alone may cost, and at which n.
 const COPYING_LIMIT: f64 = 3.0;
 const COPYING_SIZE: usize = 256;
+/// How many times more the checks of the blocks must have cost before R-4.
+const BEFORE_LIMIT: f64 = 3.0;
 
 struct Goal {
     what: &'static str,
@@ -22,7 +26,12 @@ struct Goal {
 }
 
 /// Lines of a list in markdown.
-pub fn list(costs: &[Cost], checks: &[&CheckCost], stack: Option<&Stack>) -> String {
+pub fn list(
+    costs: &[Cost],
+    checks: &[&CheckCost],
+    images: &[ImageCost],
+    stack: Option<&Stack>,
+) -> String {
     let mut goals = vec![
         records_goal(
             "mix: no more instructions per further record than plain Rust",
@@ -56,6 +65,8 @@ pub fn list(costs: &[Cost], checks: &[&CheckCost], stack: Option<&Stack>) -> Str
         ),
         copying_goal(costs),
         check_goal(checks),
+        images_goal(images),
+        blocks_goal(images),
     ];
     goals.extend(stack.map(stack_goal));
     let line = |goal: Goal| {
@@ -118,5 +129,48 @@ fn check_goal(checks: &[&CheckCost]) -> Goal {
         what: "check: within 1.2 times of plain Rust's, in every state measured",
         met: within == count,
         figures: format!("library / plain from {least:.3} to {most:.3}; within the limit in {within} of {count} states"),
+    }
+}
+
+/// All calls at all sizes.
+fn images_goal(images: &[ImageCost]) -> Goal {
+    let ratios = IMAGE_CALLS.map(|(call, instructions)| {
+        let of = |image: &ImageCost| {
+            instructions(image.library()) as f64 / instructions(image.plain()) as f64
+        };
+        (call, images.iter().map(of).collect::<Vec<f64>>())
+    });
+    let figures = ratios.each_ref().map(|(call, ratios)| {
+        let figures: Vec<String> = ratios.iter().map(|ratio| format!("{ratio:.3}")).collect();
+        format!("{call} {}", figures.join(" and "))
+    });
+    let nodes: Vec<String> = images
+        .iter()
+        .map(|image| grouped(image.nodes as u64))
+        .collect();
+    Goal {
+        what: "saving and reading: no more instructions per block than plain Rust",
+        met: ratios
+            .iter()
+            .flat_map(|(_, ratios)| ratios)
+            .all(|&ratio| ratio <= 1.0),
+        figures: format!(
+            "library / plain, {} nodes: {}",
+            nodes.join(" and "),
+            figures.join(", ")
+        ),
+    }
+}
+
+fn blocks_goal(images: &[ImageCost]) -> Goal {
+    let times = |image: &ImageCost| image.before.checks as f64 / image.library().checks as f64;
+    let figures: Vec<String> = images
+        .iter()
+        .map(|image| format!("{} nodes: {:.1}", grouped(image.nodes as u64), times(image)))
+        .collect();
+    Goal {
+        what: "checks of the blocks: at least three times fewer instructions than before R-4",
+        met: images.iter().map(times).all(|times| times >= BEFORE_LIMIT),
+        figures: format!("before / library: {}", figures.join(", ")),
     }
 }

@@ -19,38 +19,43 @@ const FILL: u8 = 0xA5;
 /// n and the nodes of the pool.
 const POOLS: [(usize, usize); 2] = [(16, 1_024), (256, MAX_NODES)];
 
-/// The instructions of one peer.
-pub struct PeerCost {
-    pub peer: Peer,
-    save: u64,
-    load: u64,
-    /// A call with an empty tape.
-    check: u64,
+/// The instructions of one peer's calls.
+#[derive(Clone, Copy)]
+pub struct CallCosts {
+    pub save: u64,
+    pub load: u64,
+    /// Without the soundness check.
+    pub bare_save: u64,
+    pub bare_load: u64,
+    /// A reading that is refused by the check of the last block.
+    pub checks: u64,
 }
 
-impl PeerCost {
-    pub fn save(&self) -> u64 {
-        self.save
-    }
-
-    pub fn load(&self) -> u64 {
-        self.load
-    }
-
-    /// A save without its check of soundness.
-    pub fn bare_save(&self) -> u64 {
-        self.save.saturating_sub(self.check)
-    }
-
-    /// The same for a reading, which makes that check on what it has read.
-    pub fn bare_load(&self) -> u64 {
-        self.load.saturating_sub(self.check)
-    }
-}
+/// The library's before R-4, at `BEFORE_COMMIT`, counted by this bench.
+pub const BEFORE_COMMIT: &str = "22904c1";
+const BEFORE: [CallCosts; 2] = [
+    CallCosts {
+        save: 108_043,
+        load: 108_217,
+        bare_save: 83_729,
+        bare_load: 83_903,
+        checks: 77_190,
+    },
+    CallCosts {
+        save: 1_399_391,
+        load: 1_400_317,
+        bare_save: 1_104_465,
+        bare_load: 1_105_391,
+        checks: 1_006_954,
+    },
+];
 
 pub struct ImageCost {
     pub nodes: usize,
-    pub peers: [PeerCost; 3],
+    /// Those of `IMAGE_PEERS`.
+    pub peers: [CallCosts; 3],
+    /// The library's before R-4.
+    pub before: CallCosts,
     /// The instructions of a plain copy.
     pub copy: u64,
 }
@@ -62,6 +67,14 @@ impl ImageCost {
 
     pub fn blocks(&self) -> u64 {
         self.bytes() / BLOCK_BYTES as u64
+    }
+
+    pub fn library(&self) -> &CallCosts {
+        &self.peers[0]
+    }
+
+    pub fn plain(&self) -> &CallCosts {
+        &self.peers[1]
     }
 }
 
@@ -75,29 +88,49 @@ fn standings() -> [Standing; 2] {
 }
 
 pub fn count() -> Vec<ImageCost> {
-    standings().map(count_at).into()
+    let all = standings().into_iter().zip(BEFORE);
+    all.map(|(standing, before)| count_at(standing, before))
+        .collect()
 }
 
-fn count_at(standing: Standing) -> ImageCost {
-    let image = |call| Job::Image(call, standing);
-    let calls = [
-        image(ImageCall::Save),
-        image(ImageCall::Load),
-        Job::Check(standing),
-    ];
-    let by_peers = |job| IMAGE_PEERS.map(|peer| (peer, job));
-    let copy = (Peer::Plain, image(ImageCall::Copy));
-    let counts = count_all(&[calls.map(by_peers).as_flattened(), &[copy]].concat());
-    let cost = |index| PeerCost {
-        peer: IMAGE_PEERS[index],
-        save: counts[index],
-        load: counts[3 + index],
-        check: counts[6 + index],
-    };
+fn count_at(standing: Standing, before: CallCosts) -> ImageCost {
+    let copy = (Peer::Plain, Job::Image(ImageCall::Copy, standing));
+    let of_peers = IMAGE_PEERS.map(|peer| jobs(peer, standing).map(|job| (peer, job)));
+    let all = [of_peers.as_flattened(), &[copy]].concat();
+    let counts = count_all(&all);
+    let (of_peers, _) = counts.as_chunks();
+    let costs = |index: usize| costs(IMAGE_PEERS[index], of_peers[index]);
     ImageCost {
         nodes: standing.nodes,
-        peers: [0, 1, 2].map(cost),
-        copy: counts[9],
+        peers: [0, 1, 2].map(costs),
+        before,
+        copy: counts[counts.len() - 1],
+    }
+}
+
+/// What is counted of a peer. Plain Rust's soundness check is compiled into each call anew, so there are calls without it. The library's is
+/// one function, which a call with an empty tape has too.
+fn jobs(peer: Peer, standing: Standing) -> [Job; 5] {
+    let image = |call| Job::Image(call, standing);
+    let [bare_save, bare_load] = match peer {
+        Peer::Library => [Job::Check(standing); 2],
+        _ => [ImageCall::BareSave, ImageCall::BareLoad].map(image),
+    };
+    let [save, load, checks] = [ImageCall::Save, ImageCall::Load, ImageCall::Checks].map(image);
+    [save, load, bare_save, bare_load, checks]
+}
+
+fn costs(peer: Peer, [save, load, bare_save, bare_load, checks]: [u64; 5]) -> CallCosts {
+    let bare = |whole: u64, other| match peer {
+        Peer::Library => whole.saturating_sub(other),
+        _ => other,
+    };
+    CallCosts {
+        save,
+        load,
+        bare_save: bare(save, bare_save),
+        bare_load: bare(load, bare_load),
+        checks,
     }
 }
 
@@ -115,6 +148,16 @@ pub fn read_and_saved(peer: Peer, case: &Case, image: &[u8]) -> Vec<u8> {
     image_of(run.as_mut(), case.nodes)
 }
 
+/// The same without the soundness check.
+fn bare_read_and_saved(peer: Peer, case: &Case, image: &[u8]) -> Vec<u8> {
+    let mut run = peer.begin(&case.started());
+    let run = images(run.as_mut());
+    let mut target = vec![FILL; image::bytes(case.nodes as u32) as usize];
+    let refusals = [run.bare_load(image), run.bare_save(&mut target)];
+    assert_eq!(refusals, [0; 2], "{}: the image is refused", peer.name());
+    target
+}
+
 /// A save into bytes that are not zero, with more of them past the image.
 fn image_of(run: &mut dyn Run, nodes: usize) -> Vec<u8> {
     let bytes = image::bytes(nodes as u32) as usize;
@@ -127,6 +170,15 @@ fn image_of(run: &mut dyn Run, nodes: usize) -> Vec<u8> {
         "bytes past the image"
     );
     target
+}
+
+/// The image with another check in its last block.
+pub fn last_check_wrong(image: &[u8]) -> Vec<u8> {
+    let mut image = image.to_vec();
+    if let Some(byte) = image.last_mut() {
+        *byte ^= 1;
+    }
+    image
 }
 
 pub fn images(run: &mut dyn Run) -> &mut dyn Images {
@@ -172,6 +224,9 @@ pub fn compare() {
             for image in [&expected, &before] {
                 let same = read_and_saved(peer, &case, image) == expected;
                 assert!(same, "{what}: {} reads something else", peer.name());
+                let same =
+                    peer == Peer::Library || bare_read_and_saved(peer, &case, image) == expected;
+                assert!(same, "{what}: {} without its soundness check", peer.name());
             }
         }
     }

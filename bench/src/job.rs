@@ -20,22 +20,38 @@ pub enum Job {
 pub enum ImageCall {
     Save,
     Load,
+    /// Without the soundness check.
+    BareSave,
+    BareLoad,
+    /// A reading that is refused by the check of the last block.
+    Checks,
     /// Its bytes are copied to another place, and nothing else.
     Copy,
 }
 
 impl ImageCall {
+    const ALL: [ImageCall; 6] = [
+        ImageCall::Save,
+        ImageCall::Load,
+        ImageCall::BareSave,
+        ImageCall::BareLoad,
+        ImageCall::Checks,
+        ImageCall::Copy,
+    ];
+
     fn name(self) -> &'static str {
         match self {
             ImageCall::Save => "save",
             ImageCall::Load => "load",
+            ImageCall::BareSave => "bare_save",
+            ImageCall::BareLoad => "bare_load",
+            ImageCall::Checks => "checks",
             ImageCall::Copy => "copy",
         }
     }
 
     fn named(name: &str) -> Option<Self> {
-        let all = [ImageCall::Save, ImageCall::Load, ImageCall::Copy];
-        all.into_iter().find(|call| call.name() == name)
+        Self::ALL.into_iter().find(|call| call.name() == name)
     }
 }
 

@@ -5,6 +5,7 @@ use crate::images;
 use crate::job::{ImageCall, Job};
 use crate::peer::{Images, Peer, Run};
 use crate::tape::fields;
+use host_tests::image::WRONG_CHECK;
 
 /// The function that callgrind counts in; by its symbol, so it must stay a function of its own.
 #[no_mangle]
@@ -34,6 +35,20 @@ pub fn bench_measured_save(run: &mut dyn Images, target: &mut [u8]) -> u32 {
 #[inline(never)]
 pub fn bench_measured_load(run: &mut dyn Images, image: &[u8]) -> u32 {
     run.load(image)
+}
+
+/// The same for a save without the soundness check.
+#[no_mangle]
+#[inline(never)]
+pub fn bench_measured_bare_save(run: &mut dyn Images, target: &mut [u8]) -> u32 {
+    run.bare_save(target)
+}
+
+/// The same for a reading without it.
+#[no_mangle]
+#[inline(never)]
+pub fn bench_measured_bare_load(run: &mut dyn Images, image: &[u8]) -> u32 {
+    run.bare_load(image)
 }
 
 /// The same for a plain copy.
@@ -72,15 +87,30 @@ fn image_call(peer: Peer, case: &Case, call: ImageCall, image: &[u8]) {
     let mut run = peer.begin(case);
     let run = images::images(run.as_mut());
     let mut target = vec![0; image.len()];
-    let refusal = match call {
-        ImageCall::Save => bench_measured_save(run, &mut target),
-        ImageCall::Load => bench_measured_load(run, image),
+    let (refusal, expected) = match call {
+        ImageCall::Save => (bench_measured_save(run, &mut target), 0),
+        ImageCall::Load => (bench_measured_load(run, image), 0),
+        ImageCall::BareSave => (bench_measured_bare_save(run, &mut target), 0),
+        ImageCall::BareLoad => (bench_measured_bare_load(run, image), 0),
+        ImageCall::Checks => {
+            let image = images::last_check_wrong(image);
+            (bench_measured_load(run, &image), WRONG_CHECK)
+        }
         ImageCall::Copy => {
             bench_measured_copy(image, &mut target);
-            0
+            (0, 0)
         }
     };
-    assert_eq!(refusal, 0, "{}: the call is refused", peer.name());
+    assert_eq!(refusal, expected, "{}: the call's answer", peer.name());
+    let saves = matches!(
+        call,
+        ImageCall::Save | ImageCall::BareSave | ImageCall::Copy
+    );
+    assert!(
+        !saves || target == image,
+        "{}: saves other bytes",
+        peer.name()
+    );
 }
 
 /// The answers to the case's tape on a fresh run.

@@ -12,7 +12,7 @@ use host_tests::plain;
 pub enum Peer {
     Library,
     Plain,
-    /// Plain, but for images: their checks are summed byte by byte.
+    /// Plain, but for images: their checks are summed byte by byte, after the words are stored.
     Bytewise,
     Copying,
     #[cfg(feature = "im")]
@@ -50,6 +50,16 @@ pub trait Images {
 
     /// 0 with the image's state and pool, or the refusal.
     fn load(&mut self, image: &[u8]) -> u32;
+
+    /// The save without its soundness check, which only plain Rust can leave out.
+    fn bare_save(&mut self, _: &mut [u8]) -> u32 {
+        unimplemented!("a save has its soundness check")
+    }
+
+    /// The same for the reading.
+    fn bare_load(&mut self, _: &[u8]) -> u32 {
+        unimplemented!("a reading has its soundness check")
+    }
 }
 
 impl Peer {
@@ -87,7 +97,7 @@ impl Peer {
     fn start(self, case: &Case) -> Box<dyn Run> {
         match self {
             Peer::Library => Box::new(Library::start(case.workers, &case.values, case.nodes)),
-            Peer::Plain => Box::new(Plain::start(case, Sum::ByFours)),
+            Peer::Plain => Box::new(Plain::start(case, Sum::ByWords)),
             Peer::Bytewise => Box::new(Plain::start(case, Sum::ByBytes)),
             Peer::Copying => Box::new(Machine::<Vec<u32>>::start(case.workers, &case.values)),
             #[cfg(feature = "im")]
@@ -151,6 +161,17 @@ impl Plain {
             sum,
         }
     }
+
+    /// With the soundness check or without it.
+    fn save_image<const CHECKED: bool>(&mut self, target: &mut [u8]) -> u32 {
+        let (state, pool) = (&self.state, &self.pool);
+        plain_image::save::<CHECKED>(state, pool, &mut self.work, target, self.sum)
+    }
+
+    fn load_image<const CHECKED: bool>(&mut self, image: &[u8]) -> u32 {
+        let (pool, work) = (&mut self.pool, &mut self.work);
+        plain_image::load::<CHECKED>(&mut self.state, pool, work, image, self.sum)
+    }
 }
 
 impl Run for Plain {
@@ -178,11 +199,18 @@ impl Run for Plain {
 
 impl Images for Plain {
     fn save(&mut self, target: &mut [u8]) -> u32 {
-        plain_image::save(&self.state, &self.pool, &mut self.work, target, self.sum)
+        self.save_image::<true>(target)
     }
 
     fn load(&mut self, image: &[u8]) -> u32 {
-        let (pool, work) = (&mut self.pool, &mut self.work);
-        plain_image::load(&mut self.state, pool, work, image, self.sum)
+        self.load_image::<true>(image)
+    }
+
+    fn bare_save(&mut self, target: &mut [u8]) -> u32 {
+        self.save_image::<false>(target)
+    }
+
+    fn bare_load(&mut self, image: &[u8]) -> u32 {
+        self.load_image::<false>(image)
     }
 }

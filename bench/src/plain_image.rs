@@ -1,43 +1,86 @@
-//! R-1's saving and reading, as R-3 changes them, in fast plain Rust, over the state of plain.rs: words are moved a block's run at a time, and a check is summed
-//! over its bytes in one of two ways. `tests/host/src/image.rs` says the same without a thought of speed; the bench compares the two.
+//! R-1's saving and reading, as change them, in fast plain Rust, over the state of plain.rs: words are moved a run at a time,
+//! those of a whole block by arrays of fixed length, and a check is summed in one of two ways. `tests/host/src/image.rs` says the same
+//! without a thought of speed; the bench compares the two.
 
 use host_tests::image::{
-    self, BLOCK_BYTES, DATA_BYTES, NOT_ITS_BLOCKS, PER_VERSION, SHORT_TARGET, VERSION, WRONG_CHECK,
+    self, DATA_BYTES, NOT_ITS_BLOCKS, PER_VERSION, SHORT_TARGET, VERSION, WRONG_CHECK,
 };
-use host_tests::plain::{sound, Deque, Frame, Refusal, State, FRAME_WORDS, MAX_FRAMES};
-use std::slice::{ChunksExact, ChunksExactMut};
+use host_tests::plain::{
+    sound, Deque, Frame, Refusal, State, DEQUES_WORDS, FRAME_WORDS, MAX_FRAMES, STATE_WORDS,
+};
 
-/// 0 with the image in the front of the target, or 5, 6, 19.
-pub fn save(state: &State, pool: &[u32], work: &mut [u32], target: &mut [u8], sum: Sum) -> u32 {
+/// How the check of a block is summed.
+#[derive(Clone, Copy)]
+pub enum Sum {
+    /// Over its words; a save does so while it stores them.
+    ByWords,
+    /// Over its bytes, as image.rs does it; a save does so after all words are stored.
+    ByBytes,
+}
+
+/// 0 with the image in the front of the target, or 5, 6, 19. Only to be measured it is also made without the soundness check.
+pub fn save<const CHECKED: bool>(
+    state: &State,
+    pool: &[u32],
+    work: &mut [u32],
+    target: &mut [u8],
+    sum: Sum,
+) -> u32 {
     if work.len() < state.nodes as usize {
         return Refusal::ShortWork as u32;
     }
-    if sound(state, pool, work).is_none() {
+    if CHECKED && sound(state, pool, work).is_none() {
         return Refusal::Unsound as u32;
     }
     let Some(image) = target.get_mut(..image::bytes(state.nodes) as usize) else {
         return SHORT_TARGET;
     };
-    write(state, pool, image);
     match sum {
-        Sum::ByFours => write_checks(image, by_fours),
-        Sum::ByBytes => write_checks(image, image::check),
+        Sum::ByWords => write(state, pool, image, store_and_sum),
+        Sum::ByBytes => {
+            write(state, pool, image, store);
+            write_checks(image);
+        }
     }
     0
 }
 
-/// 0 with the state and the pool as saved, or 17, 18, 5, 6 and a state of zeros.
-pub fn load(state: &mut State, pool: &mut [u32], work: &mut [u32], image: &[u8], sum: Sum) -> u32 {
-    match take(state, pool, work, image, sum) {
+/// 0 with the state and the pool as saved, or 17, 18, 5, 6 and a state of zeros. Without the soundness check as a save.
+pub fn load<const CHECKED: bool>(
+    state: &mut State,
+    pool: &mut [u32],
+    work: &mut [u32],
+    image: &[u8],
+    sum: Sum,
+) -> u32 {
+    match take::<CHECKED>(state, pool, work, image, sum) {
         Ok(()) => 0,
         Err(refusal) => {
-            *state = State::zero();
+            clear(state);
             refusal
         }
     }
 }
 
-fn take(
+/// The state of zeros, made where it is.
+fn clear(state: &mut State) {
+    let State {
+        workers,
+        splitters,
+        nodes,
+        free,
+        vacant,
+        deques,
+        frames,
+    } = state;
+    for number in [workers, splitters, nodes, free, vacant] {
+        *number = 0;
+    }
+    deques.fill(Deque::EMPTY);
+    frames.fill(Frame::default());
+}
+
+fn take<const CHECKED: bool>(
     state: &mut State,
     pool: &mut [u32],
     work: &mut [u32],
@@ -50,101 +93,139 @@ fn take(
         })
         .ok_or(NOT_ITS_BLOCKS)?;
     let right = match sum {
-        Sum::ByFours => checks_right(image, by_fours),
-        Sum::ByBytes => checks_right(image, image::check),
+        Sum::ByWords => checks_right(image, by_words),
+        Sum::ByBytes => checks_right(image, by_bytes),
     };
     let rest = rest(image, image::words_of(version, nodes));
-    if !right || rest.iter().any(|&byte| byte != 0) {
+    if !right || rest.iter().any(|&place| place != [0; 4]) {
         return Err(WRONG_CHECK);
     }
     if work.len() < nodes as usize {
         return Err(Refusal::ShortWork as u32);
     }
     read(state, pool, version, nodes as usize, image);
-    if sound(state, pool, work).is_none() {
+    if CHECKED && sound(state, pool, work).is_none() {
         pool.as_chunks_mut::<4>().0.fill([0; 4]);
         return Err(Refusal::Unsound as u32);
     }
     Ok(())
 }
 
-fn blocks(image: &[u8]) -> ChunksExact<'_, u8> {
-    image.chunks_exact(BLOCK_BYTES)
+/// A word in an image.
+type Place = [u8; 4];
+/// A block's words of data; the check follows them.
+const DATA_WORDS: usize = DATA_BYTES / 4;
+type Data = [Place; DATA_WORDS];
+type Block = [Place; DATA_WORDS + 1];
+
+/// A block's words go by runs of so many: of longer ones the compiler makes calls of memcpy.
+const RUN: usize = 32;
+
+fn blocks(image: &[u8]) -> &[Block] {
+    image.as_chunks().0.as_chunks().0
 }
 
-fn blocks_mut(image: &mut [u8]) -> ChunksExactMut<'_, u8> {
-    image.chunks_exact_mut(BLOCK_BYTES)
+fn blocks_mut(image: &mut [u8]) -> &mut [Block] {
+    image.as_chunks_mut().0.as_chunks_mut().0
 }
 
-/// How the bytes of a block's check are summed.
-#[derive(Clone, Copy)]
-pub enum Sum {
-    ByFours,
-    /// As image.rs does it.
-    ByBytes,
-}
-
-fn write_checks(image: &mut [u8], sum: impl Fn(&[u8]) -> u32) {
-    for block in blocks_mut(image) {
-        let (data, said) = block.split_at_mut(DATA_BYTES);
-        said.copy_from_slice(&sum(data).to_le_bytes());
+fn write_checks(image: &mut [u8]) {
+    for [data @ .., check] in blocks_mut(image) {
+        *check = by_bytes(data).to_le_bytes();
     }
 }
 
-fn checks_right(image: &[u8], sum: impl Fn(&[u8]) -> u32) -> bool {
-    blocks(image).all(|block| {
-        let (data, said) = block.split_at(DATA_BYTES);
-        said == sum(data).to_le_bytes()
-    })
+fn checks_right(image: &[u8], sum: impl Fn(&Data) -> u32) -> bool {
+    let mut blocks = blocks(image).iter();
+    blocks.all(|[data @ .., check]| sum(data).to_le_bytes() == *check)
 }
 
-/// The check of a block's data. The compiler makes a word of each four bytes.
-fn by_fours(data: &[u8]) -> u32 {
-    let (fours, _) = data.as_chunks::<4>();
-    fours.iter().fold(0, |sum: u32, &[b0, b1, b2, b3]| {
-        let [b0, b1, b2, b3] = [b0, b1, b2, b3].map(u32::from);
-        sum.wrapping_add(b0 + (b1 << 8) + (b2 << 16) + (b3 << 24))
-    })
+fn by_words(data: &Data) -> u32 {
+    data.chunks(RUN).map(total).fold(0, u32::wrapping_add)
+}
+
+fn total(places: &[Place]) -> u32 {
+    let words = places.iter().map(|&place| u32::from_le_bytes(place));
+    words.fold(0, u32::wrapping_add)
+}
+
+fn by_bytes(data: &Data) -> u32 {
+    image::check(data.as_flattened())
 }
 
 /// The version in the first word and the nodes in the third, if there is a whole block.
 fn recorded(image: &[u8]) -> Option<(u32, u32)> {
-    let block = blocks(image).next()?;
-    let (words, _) = block.as_chunks();
-    let first = u32::from_le_bytes(words[0]);
-    Some((first / PER_VERSION, u32::from_le_bytes(words[2])))
+    let [first, _, nodes, ..] = blocks(image).first()?;
+    let version = u32::from_le_bytes(*first) / PER_VERSION;
+    Some((version, u32::from_le_bytes(*nodes)))
 }
 
-/// The data after so many words, before the last check.
-fn rest(image: &[u8], words: u64) -> &[u8] {
-    let data = image.len() / BLOCK_BYTES * DATA_BYTES;
-    let rest = data - 4 * words as usize;
-    let (before_check, _) = image.split_at(image.len() - (BLOCK_BYTES - DATA_BYTES));
-    &before_check[before_check.len() - rest..]
-}
-
-/// Stores the words of the state and its nodes, and zeros after them.
-fn write(state: &State, pool: &[u32], image: &mut [u8]) {
-    let mut writer = Writer {
-        room: &mut [],
-        blocks: blocks_mut(image),
-    };
-    let State {
-        workers,
-        splitters,
-        nodes,
-        free,
-        vacant,
-        ..
-    } = *state;
-    let first = workers + VERSION * PER_VERSION;
-    writer.put(&[first, splitters, nodes, free, vacant]);
-    for deque in &state.deques {
-        writer.put(&[deque.length]);
-        writer.put(&deque.places);
+/// The data after so many words, which end in the last block.
+fn rest(image: &[u8], words: u64) -> &[Place] {
+    let blocks = blocks(image);
+    let rest = blocks.len() * DATA_WORDS - words as usize;
+    match blocks {
+        [.., [data @ .., _]] => &data[DATA_WORDS - rest..],
+        [] => &[],
     }
-    let frames = state.frames.map(|f| {
-        [
+}
+
+/// Stores words, as many as places.
+fn store(words: &[u32], places: &mut [Place]) -> u32 {
+    for (place, word) in places.iter_mut().zip(words) {
+        *place = word.to_le_bytes();
+    }
+    0
+}
+
+/// The same; their sum.
+fn store_and_sum(words: &[u32], places: &mut [Place]) -> u32 {
+    let mut sum: u32 = 0;
+    for (place, &word) in places.iter_mut().zip(words) {
+        *place = word.to_le_bytes();
+        sum = sum.wrapping_add(word);
+    }
+    sum
+}
+
+/// Writes the words of the state and its nodes, and zeros after them.
+fn write<S: Fn(&[u32], &mut [Place]) -> u32>(
+    state: &State,
+    pool: &[u32],
+    image: &mut [u8],
+    store: S,
+) {
+    let mut writer = Writer {
+        blocks: blocks_mut(image),
+        filled: 0,
+        sum: 0,
+        store,
+    };
+    writer.put(&state_words(state));
+    writer.put(&pool[..4 * state.nodes as usize]);
+    writer.end();
+}
+
+/// A deque's words: the length and the places.
+const DEQUE_WORDS: usize = 1 + MAX_FRAMES;
+
+/// The words of the state, in an image's order.
+fn state_words(state: &State) -> [u32; STATE_WORDS] {
+    let mut words = [0; STATE_WORDS];
+    let [workers, splitters, nodes, free, vacant, rest @ ..] = &mut words;
+    *workers = state.workers + VERSION * PER_VERSION;
+    *splitters = state.splitters;
+    *nodes = state.nodes;
+    *free = state.free;
+    *vacant = state.vacant;
+    let (deques, frames) = rest.split_at_mut(DEQUES_WORDS);
+    let (deques, _) = deques.as_chunks_mut::<DEQUE_WORDS>();
+    for ([length, places @ ..], deque) in deques.iter_mut().zip(&state.deques) {
+        (*length, *places) = (deque.length, deque.places);
+    }
+    let (frames, _) = frames.as_chunks_mut::<FRAME_WORDS>();
+    for (record, f) in frames.iter_mut().zip(&state.frames) {
+        *record = [
             f.live,
             f.parent,
             f.depth,
@@ -152,34 +233,61 @@ fn write(state: &State, pool: &[u32], image: &mut [u8]) {
             f.suspended,
             f.root,
             f.returning,
-        ]
-    });
-    writer.put(frames.as_flattened());
-    writer.put(&pool[..4 * nodes as usize]);
-    writer.room.fill(0);
+        ];
+    }
+    words
 }
 
-struct Writer<'a> {
-    /// What is left of the block's data.
-    room: &'a mut [u8],
-    blocks: ChunksExactMut<'a, u8>,
+struct Writer<'a, S> {
+    /// Those that are not full; so many as the words need.
+    blocks: &'a mut [Block],
+    /// The words of data in the first of them, and their sum.
+    filled: usize,
+    sum: u32,
+    store: S,
 }
 
-impl Writer<'_> {
-    /// So many blocks are left as the words need.
-    fn put(&mut self, mut words: &[u32]) {
-        while !words.is_empty() {
-            if self.room.is_empty() {
-                let block = self.blocks.next().expect("the image holds the words");
-                self.room = &mut block[..DATA_BYTES];
-            }
-            let run = words.len().min(self.room.len() / 4);
-            let (now, later) = words.split_at(run);
-            let (places, room) = std::mem::take(&mut self.room).split_at_mut(4 * run);
-            for (place, word) in places.as_chunks_mut().0.iter_mut().zip(now) {
-                *place = word.to_le_bytes();
-            }
-            (words, self.room) = (later, room);
+impl<S: Fn(&[u32], &mut [Place]) -> u32> Writer<'_, S> {
+    fn put(&mut self, words: &[u32]) {
+        let open = (DATA_WORDS - self.filled) % DATA_WORDS;
+        let (first, words) = words.split_at(open.min(words.len()));
+        let (whole, last) = words.as_chunks();
+        self.part(first);
+        self.whole(whole);
+        self.part(last);
+    }
+
+    fn whole(&mut self, whole: &[[u32; DATA_WORDS]]) {
+        let blocks = self.blocks.split_off_mut(..whole.len());
+        let blocks = blocks.expect("the image holds the words");
+        for (words, [data @ .., check]) in whole.iter().zip(blocks) {
+            let runs = words.chunks(RUN).zip(data.chunks_mut(RUN));
+            let sums = runs.map(|(words, places)| (self.store)(words, places));
+            *check = sums.fold(0, u32::wrapping_add).to_le_bytes();
+        }
+    }
+
+    /// No more words than the first block has room for.
+    fn part(&mut self, words: &[u32]) {
+        if words.is_empty() {
+            return;
+        }
+        let [data @ .., check] = &mut self.blocks[0];
+        let sum = (self.store)(words, &mut data[self.filled..][..words.len()]);
+        self.sum = self.sum.wrapping_add(sum);
+        self.filled += words.len();
+        if self.filled == DATA_WORDS {
+            *check = self.sum.to_le_bytes();
+            (self.filled, self.sum) = (0, 0);
+            self.blocks.split_off_first_mut();
+        }
+    }
+
+    /// Zeros after the words.
+    fn end(self) {
+        if let [[data @ .., check], ..] = self.blocks {
+            data[self.filled..].fill([0; 4]);
+            *check = self.sum.to_le_bytes();
         }
     }
 }
@@ -187,76 +295,107 @@ impl Writer<'_> {
 /// Reads an image of so many nodes. A pool with fewer stays as it is: the count alone makes it unsound.
 fn read(state: &mut State, pool: &mut [u32], version: u32, nodes: usize, image: &[u8]) {
     let mut reader = Reader {
-        data: &[],
         blocks: blocks(image),
+        taken: 0,
     };
-    let mut numbers = [0; 5];
-    reader.take(&mut numbers);
-    [
-        state.workers,
-        state.splitters,
-        state.nodes,
-        state.free,
-        state.vacant,
-    ] = numbers;
-    state.workers -= version * PER_VERSION;
-    for Deque { length, places } in &mut state.deques {
-        reader.take(std::slice::from_mut(length));
-        reader.take(places);
-    }
-    state.frames = match version {
-        0 => reader.frames(|[live, parent, depth, outstanding, suspended, root]| {
-            [live, parent, depth, outstanding, suspended, root, 0]
-        }),
-        _ => reader.frames(|record: [u32; FRAME_WORDS]| record),
-    };
+    let mut words = [0; STATE_WORDS];
+    reader.take(&mut words[..image::words_of(version, 0) as usize]);
+    set_state(state, version, &words);
     if let Some(front) = pool.get_mut(..4 * nodes) {
         reader.take(front);
     }
 }
 
+/// The state of these words, which are an image's of this version.
+fn set_state(state: &mut State, version: u32, words: &[u32; STATE_WORDS]) {
+    let [workers, splitters, nodes, free, vacant, rest @ ..] = words;
+    state.workers = workers - version * PER_VERSION;
+    state.splitters = *splitters;
+    state.nodes = *nodes;
+    state.free = *free;
+    state.vacant = *vacant;
+    let (deques, frames) = rest.split_at(DEQUES_WORDS);
+    let (deques, _) = deques.as_chunks::<DEQUE_WORDS>();
+    for (deque, [length, places @ ..]) in state.deques.iter_mut().zip(deques) {
+        (deque.length, deque.places) = (*length, *places);
+    }
+    let places = &mut state.frames;
+    match version {
+        0 => set_frames(
+            places,
+            frames,
+            |[live, parent, depth, outstanding, suspended, root]| {
+                [live, parent, depth, outstanding, suspended, root, 0]
+            },
+        ),
+        _ => set_frames(places, frames, |record| record),
+    }
+}
+
+/// The frames of these records, of so many words, each made one of seven.
+fn set_frames<const WORDS: usize>(
+    frames: &mut [Frame],
+    words: &[u32],
+    whole: impl Fn([u32; WORDS]) -> [u32; FRAME_WORDS],
+) {
+    let (records, _) = words.as_chunks();
+    for (frame, &record) in frames.iter_mut().zip(records) {
+        let [live, parent, depth, outstanding, suspended, root, returning] = whole(record);
+        *frame = Frame {
+            live,
+            parent,
+            depth,
+            outstanding,
+            suspended,
+            root,
+            returning,
+        };
+    }
+}
+
+/// Takes the words that these places hold.
+fn fetch(words: &mut [u32], places: &[Place]) {
+    for (word, &place) in words.iter_mut().zip(places) {
+        *word = u32::from_le_bytes(place);
+    }
+}
+
 struct Reader<'a> {
-    /// What is left of the block's data.
-    data: &'a [u8],
-    blocks: ChunksExact<'a, u8>,
+    /// Those that are not all taken; so many as the words need.
+    blocks: &'a [Block],
+    /// The words taken from the first of them.
+    taken: usize,
 }
 
 impl Reader<'_> {
-    /// The frame records, of so many words, each made one of seven.
-    fn frames<const WORDS: usize>(
-        &mut self,
-        whole: impl Fn([u32; WORDS]) -> [u32; FRAME_WORDS],
-    ) -> [Frame; MAX_FRAMES] {
-        let mut records = [[0; WORDS]; MAX_FRAMES];
-        self.take(records.as_flattened_mut());
-        records.map(|record| {
-            let [live, parent, depth, outstanding, suspended, root, returning] = whole(record);
-            Frame {
-                live,
-                parent,
-                depth,
-                outstanding,
-                suspended,
-                root,
-                returning,
-            }
-        })
+    fn take(&mut self, words: &mut [u32]) {
+        let open = (DATA_WORDS - self.taken) % DATA_WORDS;
+        let (first, words) = words.split_at_mut(open.min(words.len()));
+        let (whole, last) = words.as_chunks_mut();
+        self.part(first);
+        self.whole(whole);
+        self.part(last);
     }
 
-    /// So many blocks are left as the words need.
-    fn take(&mut self, mut words: &mut [u32]) {
-        while !words.is_empty() {
-            if self.data.is_empty() {
-                let block = self.blocks.next().expect("the image holds the words");
-                self.data = &block[..DATA_BYTES];
-            }
-            let run = words.len().min(self.data.len() / 4);
-            let (now, later) = words.split_at_mut(run);
-            let (places, data) = self.data.split_at(4 * run);
-            for (word, &place) in now.iter_mut().zip(places.as_chunks().0) {
-                *word = u32::from_le_bytes(place);
-            }
-            (words, self.data) = (later, data);
+    fn whole(&mut self, whole: &mut [[u32; DATA_WORDS]]) {
+        let blocks = self.blocks.split_off(..whole.len());
+        let blocks = blocks.expect("the image holds the words");
+        for (words, [data @ .., _]) in whole.iter_mut().zip(blocks) {
+            let runs = words.chunks_mut(RUN).zip(data.chunks(RUN));
+            runs.for_each(|(words, places)| fetch(words, places));
+        }
+    }
+
+    /// No more words than the first block has left.
+    fn part(&mut self, words: &mut [u32]) {
+        if words.is_empty() {
+            return;
+        }
+        fetch(words, &self.blocks[0][self.taken..]);
+        self.taken += words.len();
+        if self.taken == DATA_WORDS {
+            self.taken = 0;
+            self.blocks.split_off_first();
         }
     }
 }

@@ -60,7 +60,12 @@ pub fn text(figures: &Figures) -> String {
         figures.facts.clone(),
         format!(
             "\n## Goals\n\n{}\n",
-            goals::list(&figures.costs, &checks, figures.stack.as_ref())
+            goals::list(
+                &figures.costs,
+                &checks,
+                &figures.images,
+                figures.stack.as_ref()
+            )
         ),
         PEERS_TEXT.to_string(),
         how(),
@@ -182,31 +187,35 @@ random splitters in every frame after its spawn.";
 fn saving(figures: &Figures) -> String {
     let intro = format!(
         "\
-R-1's calls, `splitter_save` and `splitter_load`, all accepted, with images of R-3's form. n is 16 with 1,024 nodes and 256 with 16,384;
+R-1's calls, `splitter_save` and `splitter_load`, with images of R-3's form and R-4's sums. n is 16 with 1,024 nodes and 256 with 16,384;
 one worker, {frames} live frames as for the soundness check, {writes} writes each. Before anything is counted the bench compares: each peer saves
 the very bytes that `tests/host/src/image.rs` writes and leaves those past them alone; a run that was only started reads the image, or
 the same in the form from before R-3, and saves it again.
 
-- plain: `bench/src/plain_image.rs`, on plain's state and with its soundness check. Words are moved a block's run at a time; a check is
-  summed over the bytes by fours, of which the compiler makes words.
-- bytewise: the same, but a check is summed byte by byte, as R-1 says it and as the library does it.
+- plain: `bench/src/plain_image.rs`, on plain's state and with its soundness check. A save sums the words of a block as it stores them
+  and then stores its check; a reading sums 127 words of each block, and then moves the words. Those of a whole block go by arrays of
+  fixed length, of which the compiler makes vectors without a loop.
+- bytewise: the same, but a check is summed byte by byte, as R-1 says it, and as the library did before R-4; a save does so in a second
+  pass, after all words are stored.
 - copy: `copy_from_slice` of the image's bytes, and no check of any kind.
+- before: the library before R-4, commit {before}. These figures are constants of the bench (`bench/src/images.rs`), counted once by it.
 
-A whole call has the soundness check in it. \"Less the check\" is the call less the same peer's call with an empty tape on the same state:
-the image alone, with the checks of its blocks. (The library's soundness check is one function; plain Rust's is compiled into each call
-anew, some instructions more or less per node, and this difference stays in.)
+Save and reading are accepted and have the soundness check in them. \"Less the check\" is the image alone, with the checks of its blocks.
+Of the library it is the call less its call with an empty tape on the same state, as its soundness check is one function. That of plain
+and bytewise is compiled into each call anew, some instructions more or less per node; theirs is counted in a call that does everything
+else, the tests of 17, 18, 5 and 19 too.
+
+\"Checks alone\" is a reading that is refused by 18, as the check of the last block is wrong: it sums every block, reads nothing and
+clears the state, which is in the figure.
 
 Instructions per block of 512 bytes; ratios below 1: the library needs fewer.",
         frames = images::FRAMES,
         writes = images::WRITES,
+        before = images::BEFORE_COMMIT,
     );
-    format!(
-        "{}Bytes per instruction; ratios above 1: the library does more.\n\n{}\n",
-        section(
-            "Saving and reading",
-            &intro,
-            tables::block_instructions(&figures.images)
-        ),
-        tables::image_rates(&figures.images).markdown()
+    section(
+        "Saving and reading",
+        &intro,
+        tables::block_instructions(&figures.images),
     )
 }

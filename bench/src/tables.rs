@@ -2,7 +2,7 @@
 
 use crate::case::{Workload, LONG_WORKLOADS};
 use crate::checks::CheckCost;
-use crate::images::{ImageCost, PeerCost, IMAGE_PEERS};
+use crate::images::{CallCosts, ImageCost};
 use crate::peer::{Peer, PEERS};
 use crate::records::{self, Cost};
 use crate::steps::StepCost;
@@ -108,54 +108,49 @@ pub fn checks(checks: &[CheckCost]) -> Table {
     table
 }
 
-/// Instructions per block of an image; the library's divided by each other's.
-pub fn block_instructions(images: &[ImageCost]) -> Table {
-    by_call(images, 1, |image, instructions| {
-        instructions as f64 / image.blocks() as f64
-    })
-}
-
-/// Bytes of an image per instruction.
-pub fn image_rates(images: &[ImageCost]) -> Table {
-    by_call(images, 2, |image, instructions| {
-        image.bytes() as f64 / instructions as f64
-    })
-}
-
 /// The instructions of a call with an image.
-type ImageCount = fn(&PeerCost) -> u64;
+type ImageCount = fn(&CallCosts) -> u64;
 
-/// These calls, whole and less their check.
-const IMAGE_CALLS: [(&str, ImageCount); 4] = [
-    ("save", PeerCost::save),
-    ("reading", PeerCost::load),
-    ("save less the check", PeerCost::bare_save),
-    ("reading less the check", PeerCost::bare_load),
+/// These calls, whole and less their check, and a reading that looks at the checks of the blocks alone.
+pub const IMAGE_CALLS: [(&str, ImageCount); 5] = [
+    ("save", |costs| costs.save),
+    ("reading", |costs| costs.load),
+    ("save less the check", |costs| costs.bare_save),
+    ("reading less the check", |costs| costs.bare_load),
+    ("checks alone", |costs| costs.checks),
 ];
 
-/// A row for each call and image: a figure, made of its instructions, of each peer and of a copy, then the library's divided by each
-/// other one.
-fn by_call(images: &[ImageCost], digits: usize, figure: fn(&ImageCost, u64) -> f64) -> Table {
-    let names = || IMAGE_PEERS.map(Peer::name).into_iter().chain(["copy"]);
-    let ratios = names().skip(1).map(|name| format!("library / {name}"));
-    let header = ["call", "nodes", "blocks"].into_iter().chain(names());
-    let mut table = Table::new(header.map(String::from).chain(ratios).collect());
+/// Instructions per block, a row for each call and image: the library's, now and before R-4, the other peers' and a copy's, then the
+/// library's divided by others.
+pub fn block_instructions(images: &[ImageCost]) -> Table {
+    let header = [
+        "call",
+        "nodes",
+        "blocks",
+        "library",
+        "before",
+        "plain",
+        "bytewise",
+        "copy",
+        "library / before",
+        "library / plain",
+        "library / copy",
+    ];
+    let mut table = Table::new(header.map(String::from).into());
     for (call, instructions) in IMAGE_CALLS {
         for image in images {
-            let of_peers = image.peers.iter().map(instructions);
-            let figures: Vec<f64> = of_peers
-                .chain([image.copy])
-                .map(|count| figure(image, count))
-                .collect();
-            let ratios = figures[1..].iter().map(|other| figures[0] / other);
-            let mut row = vec![
+            let [library, plain, bytewise] = image.peers.each_ref().map(instructions);
+            let before = instructions(&image.before);
+            let figures = [library, before, plain, bytewise, image.copy]
+                .map(|count| format!("{:.1}", count as f64 / image.blocks() as f64));
+            let ratios = [before, plain, image.copy]
+                .map(|other| format!("{:.2}", library as f64 / other as f64));
+            let first = [
                 call.to_string(),
                 grouped(image.nodes as u64),
                 grouped(image.blocks()),
             ];
-            row.extend(figures.iter().map(|figure| format!("{figure:.digits$}")));
-            row.extend(ratios.map(|ratio| format!("{ratio:.2}")));
-            table.row(row);
+            table.row([&first[..], &figures, &ratios].concat());
         }
     }
     table

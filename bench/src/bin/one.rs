@@ -12,7 +12,7 @@ const USAGE: &str = "\
 one PEER WORKLOAD N [rest]
 one PEER check N NODES FRAMES WRITES
 one PEER steps WORKLOAD N NODES
-one PEER save|load|copy N NODES FRAMES WRITES";
+one PEER save|load|bare_save|bare_load|checks|copy N NODES FRAMES WRITES";
 
 fn main() -> ExitCode {
     let words: Vec<String> = env::args().skip(1).collect();
