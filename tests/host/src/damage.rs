@@ -39,7 +39,7 @@ const fn damage(name: &'static str, answers: &'static [u32], change: Change) -> 
 /// No images have more nodes than this, but where they record more than they have.
 pub const MOST_NODES: usize = MAX_NODES + 100;
 
-pub const DAMAGES: [Damage; 42] = [
+pub const DAMAGES: [Damage; 44] = [
     damage("none", &[0], |_, _, _| Some(())),
     damage("a bit", &[17, 18], bit),
     damage("a byte", &[17, 18], byte),
@@ -73,6 +73,8 @@ pub const DAMAGES: [Damage; 42] = [
     damage("nodes more", &[6], nodes_more),
     damage("a word, right check", &[], word_checked),
     damage("words swapped", &[], words_swapped),
+    damage("sum kept", &[0, 6], sum_kept),
+    damage("sum kept, at an edge", &[0, 6, 17, 18], sum_kept_at_edge),
     damage("rest not zero", &[18], rest_not_zero),
     damage("big-endian", &[], big_endian),
     damage("no checks", &[17, 18], no_checks),
@@ -446,8 +448,41 @@ fn words_swapped(image: &mut Vec<u8>, _: &Source, random: &Random) -> Option<()>
     Some(())
 }
 
+/// As much added to a word as is taken from another of its block, modulo 2^32: the block's check is still right.
+fn keep_sum(image: &mut [u8], word: usize, other: usize, random: &Random) -> Option<()> {
+    let much = random.pick(&[1, 2, 256, 1 << 31, u32::MAX, random.word()]);
+    let old = [word, other].map(|word| image::get(image).nth(word));
+    image::set_word(image, word, old[0]?.wrapping_add(much));
+    image::set_word(image, other, old[1]?.wrapping_sub(much));
+    (word != other && much != 0).then_some(())
+}
+
+/// The place of the first word in the rest of the last block, by the recorded nodes.
+fn first_of_rest(image: &[u8]) -> Option<usize> {
+    Some(image::words_of(version(image), image::recorded(image)?) as usize)
+}
+
+/// Neither word is the image's first or third, or in the rest of the last block.
+fn sum_kept(image: &mut Vec<u8>, _: &Source, random: &Random) -> Option<()> {
+    let (first, rest) = (some_block(image, random)? * 127, first_of_rest(image)?);
+    let held = |&word: &usize| word < rest && ![WORKERS, image::NODES].contains(&word);
+    let words: Vec<usize> = (first..first + 127).filter(held).collect();
+    keep_sum(image, random.some(&words)?, random.some(&words)?, random)
+}
+
+/// One of the two is.
+fn sum_kept_at_edge(image: &mut Vec<u8>, _: &Source, random: &Random) -> Option<()> {
+    let rest: Vec<usize> = (first_of_rest(image)?..blocks(image) * 127).collect();
+    let word = match random.below(3) {
+        0 => WORKERS,
+        1 => image::NODES,
+        _ => random.some(&rest)?,
+    };
+    keep_sum(image, word, word / 127 * 127 + random.below(127), random)
+}
+
 fn rest_not_zero(image: &mut Vec<u8>, _: &Source, random: &Random) -> Option<()> {
-    let first = image::words_of(version(image), image::recorded(image)?) as usize;
+    let first = first_of_rest(image)?;
     let rest = (blocks(image) * 127).checked_sub(first)?;
     let word = first + (rest > 0).then(|| random.below(rest))?;
     image::set_word(image, word, 1 << random.below(32));
