@@ -2,3 +2,5 @@
 pub mod Narrow
 -- a step as a tape of one record
 pub mod OneRecord
+-- what is asked of a sound state, and of a run
+pub mod Queries

@@ -1,6 +1,7 @@
 // The entries of a host in C, Rust (host/include/splitter.h, host/rust) or Rattle: numbers, and lent slices of words and bytes.
 // Nothing is kept between calls, and no function asks anything of its caller.
 mod calls;
+mod queries;
 
 pub use calls::splitter_image_bytes;
 pub use calls::splitter_load;
@@ -9,3 +10,4 @@ pub use calls::splitter_start;
 pub use calls::splitter_step;
 pub use calls::splitter_tape;
 pub use calls::splitter_tree_nodes;
+pub use queries::splitter_free_nodes;

@@ -1,0 +1,14 @@
+-- What a host may ask. Definitions only.
+use mathlib.Core.Bool.{cond, _&&_}
+use mathlib.Core.List.{List}
+use Prim.Native.Nat.{ℕ}
+use lib.ListN.{length}
+use lib.Dec.{eqb, leb}
+use Rattle.soundness.specs.Numbers.{numbersIn}
+use Rattle.soundness.specs.Soundness.{freeCount}
+use Rattle.semantics.specs.Entries.{wholeNodes}
+
+-- the nodes on the free chain of the state with the numbers ns and the pool ws; 0 where ns are not five numbers, or the pool holds fewer nodes
+-- than they record
+unfoldable pub freeOn : List ℕ → List ℕ → ℕ
+freeOn ns ws = cond (eqb (length ns) 5 && leb (numbersIn ns .nodes) (wholeNodes ws)) (freeCount (numbersIn ns) ws) 0
