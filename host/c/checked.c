@@ -32,27 +32,27 @@ static uint64_t beside(struct checked *run, const char *what, uint64_t got, uint
 }
 
 uint64_t checked_spawn(struct checked *run, unsigned worker) {
-    return beside(run, "spawn", splitter_spawn(&run->lent, worker), SPLITTER_SPAWN, worker, 0, 0);
+    return beside(run, "spawn", splitter_spawn(&run->lent, worker), SPLITTER_STEP_SPAWN, worker, 0, 0);
 }
 
 uint64_t checked_return(struct checked *run, unsigned worker) {
-    return beside(run, "return", splitter_return(&run->lent, worker), SPLITTER_RETURN, worker, 0, 0);
+    return beside(run, "return", splitter_return(&run->lent, worker), SPLITTER_STEP_RETURN, worker, 0, 0);
 }
 
 uint64_t checked_steal(struct checked *run, unsigned worker, unsigned victim) {
-    return beside(run, "steal", splitter_steal(&run->lent, worker, victim), SPLITTER_STEAL, worker, victim, 0);
+    return beside(run, "steal", splitter_steal(&run->lent, worker, victim), SPLITTER_STEP_STEAL, worker, victim, 0);
 }
 
 uint64_t checked_sync(struct checked *run, unsigned worker) {
-    return beside(run, "sync", splitter_sync(&run->lent, worker), SPLITTER_SYNC, worker, 0, 0);
+    return beside(run, "sync", splitter_sync(&run->lent, worker), SPLITTER_STEP_SYNC, worker, 0, 0);
 }
 
 uint64_t checked_read(struct checked *run, unsigned worker, unsigned splitter) {
-    return beside(run, "read", splitter_read(&run->lent, worker, splitter), SPLITTER_READ, worker, splitter, 0);
+    return beside(run, "read", splitter_read(&run->lent, worker, splitter), SPLITTER_STEP_READ, worker, splitter, 0);
 }
 
 uint64_t checked_write(struct checked *run, unsigned worker, unsigned splitter, uint32_t value) {
-    return beside(run, "write", splitter_write(&run->lent, worker, splitter, value), SPLITTER_WRITE, worker, splitter, value);
+    return beside(run, "write", splitter_write(&run->lent, worker, splitter, value), SPLITTER_STEP_WRITE, worker, splitter, value);
 }
 
 /* What the plain machine answers to a record. */

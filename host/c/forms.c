@@ -28,7 +28,7 @@ static void begin(unsigned nodes) {
 
 static void soil(void) {
     memset(&state, 0xa5, sizeof state);
-    memset(pool, 0xa5, run.lent.pool_len * sizeof pool[0]);
+    memset(pool, 0xa5, (size_t)run.lent.pool_len * sizeof pool[0]);
 }
 
 static void check_same_run(void) {

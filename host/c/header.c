@@ -20,7 +20,7 @@ static void expect(int line, uint64_t got, uint64_t wanted) {
 static void records(void) {
     const uint8_t wanted[SPLITTER_RECORD_BYTES] = {6, 7, 0x02, 0x01, 0x06, 0x05, 0x04, 0x03};
     uint8_t record[SPLITTER_RECORD_BYTES];
-    EXPECT(splitter_put_record(record, SPLITTER_WRITE, 7, 0x0102, 0x03040506) == record + SPLITTER_RECORD_BYTES, 1);
+    EXPECT(splitter_put_record(record, SPLITTER_STEP_WRITE, 7, 0x0102, 0x03040506) == record + SPLITTER_RECORD_BYTES, 1);
     EXPECT(memcmp(record, wanted, sizeof wanted) == 0, 1);
 }
 
@@ -43,6 +43,21 @@ static void names(void) {
     EXPECT(named, 26);
 }
 
+/* Below 100 all but SPLITTER_OK is a refusal, alone and as the first half of a step's result. */
+static void refused(void) {
+    for (uint32_t i = 0; i < 1000; i++) {
+        EXPECT(splitter_refused(i), i > 0 && i < 100);
+        EXPECT(splitter_answer_refused(splitter_answer(i, i % 7)), splitter_refused(i));
+    }
+    EXPECT(splitter_refused(SPLITTER_OK), 0);
+    EXPECT(splitter_refused(SPLITTER_BAD_STATE), 1);
+    EXPECT(splitter_refused(SPLITTER_SPAWNED), 0);
+}
+
+#if SPLITTER_VERSION != SPLITTER_VERSION_MAJOR * 1000 + SPLITTER_VERSION_MINOR
+#error "a version that cannot be compared"
+#endif
+
 /* The parts lie one after the other, with nothing between them. */
 static void layout(void) {
     const size_t word = sizeof(uint32_t);
@@ -51,9 +66,11 @@ static void layout(void) {
     EXPECT(offsetof(struct splitter_state, frames), (SPLITTER_NUMBERS_WORDS + SPLITTER_DEQUES_WORDS) * word);
     EXPECT(sizeof(struct splitter_state), (SPLITTER_NUMBERS_WORDS + SPLITTER_DEQUES_WORDS + SPLITTER_FRAMES_WORDS) * word);
     EXPECT(SPLITTER_DEQUES_WORDS, SPLITTER_MAX_WORKERS * (1 + SPLITTER_MAX_FRAMES));
-    EXPECT(SPLITTER_FRAMES_WORDS, SPLITTER_MAX_FRAMES * SPLITTER_FRAME_WORDS);
-    EXPECT(SPLITTER_FRAME_WORDS, SPLITTER_FRAME_RETURNING + 1);
+    EXPECT(SPLITTER_FRAMES_WORDS, SPLITTER_MAX_FRAMES * SPLITTER_FRAME_RECORD_WORDS);
+    EXPECT(SPLITTER_FRAME_RECORD_WORDS, SPLITTER_FRAME_RETURNING + 1);
     EXPECT(SPLITTER_STATE_WORDS, 973);
+    EXPECT(SPLITTER_NONE, UINT32_MAX);
+    EXPECT(sizeof(splitter_len), 8);
 }
 
 static void sizes(void) {
@@ -81,20 +98,28 @@ static void steps(const struct splitter_lent *lent) {
 
 /* What the header says of frame records: Main and its child, after Main's return on another worker, and after the child's. */
 static void returns(const struct splitter_lent *lent) {
-    const uint32_t *main_frame = lent->state->frames, *child = main_frame + SPLITTER_FRAME_WORDS;
+    const uint32_t *main_frame = lent->state->frames, *child = main_frame + SPLITTER_FRAME_RECORD_WORDS;
     ANSWER(splitter_spawn(lent, 0), SPLITTER_SPAWNED, 1);
     ANSWER(splitter_steal(lent, 1, 0), SPLITTER_STOLEN, 0);
     ANSWER(splitter_return(lent, 1), SPLITTER_RETURNED, SPLITTER_WAITS);
     EXPECT(main_frame[SPLITTER_FRAME_LIVE] == 1 && main_frame[SPLITTER_FRAME_PARENT] == UINT32_MAX, 1);
     EXPECT(main_frame[SPLITTER_FRAME_OUTSTANDING] == 1 && main_frame[SPLITTER_FRAME_DEPTH] == 0, 1);
-    EXPECT(main_frame[SPLITTER_FRAME_SUSPENDED] == 1 && main_frame[SPLITTER_FRAME_RETURNING] == 1, 1);
+    EXPECT(main_frame[SPLITTER_FRAME_WAITING] == 1 && main_frame[SPLITTER_FRAME_RETURNING] == 1, 1);
     EXPECT(child[SPLITTER_FRAME_LIVE] == 1 && child[SPLITTER_FRAME_PARENT] == 0 && child[SPLITTER_FRAME_DEPTH] == 1, 1);
-    EXPECT(child[SPLITTER_FRAME_SUSPENDED] == 0 && child[SPLITTER_FRAME_RETURNING] == 0, 1);
+    EXPECT(child[SPLITTER_FRAME_WAITING] == 0 && child[SPLITTER_FRAME_RETURNING] == 0, 1);
     EXPECT(main_frame[SPLITTER_FRAME_ROOT], child[SPLITTER_FRAME_ROOT]);
     ANSWER(splitter_return(lent, 0), SPLITTER_RETURNED, SPLITTER_FINISHED);
     EXPECT(main_frame[SPLITTER_FRAME_LIVE] == 0 && main_frame[SPLITTER_FRAME_PARENT] == 1, 1);
-    EXPECT(main_frame[SPLITTER_FRAME_SUSPENDED] == 0 && main_frame[SPLITTER_FRAME_RETURNING] == 0, 1);
-    ANSWER(splitter_spawn(lent, 0), SPLITTER_MAIN_RETURNED, 0);
+    EXPECT(main_frame[SPLITTER_FRAME_WAITING] == 0 && main_frame[SPLITTER_FRAME_RETURNING] == 0, 1);
+    ANSWER(splitter_spawn(lent, 0), SPLITTER_RUN_IS_OVER, 0);
+}
+
+/* Free nodes of a run with 6 nodes, 3 of them Main's; of a pool with a node too few, and of numbers with a word too few. */
+static void free_nodes(const struct splitter_lent *lent) {
+    EXPECT(splitter_lent_free_nodes(lent), 3);
+    EXPECT(splitter_state_free_nodes(lent->state, lent->pool, lent->pool_len), 3);
+    EXPECT(splitter_state_free_nodes(lent->state, lent->pool, lent->pool_len - 1), 0);
+    EXPECT(splitter_free_nodes(lent->state->numbers, SPLITTER_NUMBERS_WORDS - 1, lent->pool, lent->pool_len), 0);
 }
 
 /* The numbers after a start with 2 workers, 2 splitters and 6 nodes: 3 are Main's, and Main has place 0. */
@@ -108,14 +133,14 @@ static void numbers(const struct splitter_state *state) {
 
 /* The calls over a state go on with the run that the calls over lent memory began, and the other way. */
 static void tapes(const struct splitter_lent *lent) {
-    const uint8_t tape[SPLITTER_RECORD_BYTES] = {SPLITTER_READ, 0, 1};
+    const uint8_t tape[SPLITTER_RECORD_BYTES] = {SPLITTER_STEP_READ, 0, 1};
     uint32_t answers[4] = {0, 0, 7, 7};
     EXPECT(splitter_lent_tape(lent, tape, sizeof tape, answers, 4), SPLITTER_OK);
     EXPECT(splitter_state_tape(lent->state, lent->pool, lent->pool_len, lent->work, lent->work_len, tape, sizeof tape, answers + 2, 2),
            SPLITTER_OK);
     ANSWER(splitter_answer(answers[0], answers[1]), SPLITTER_VALUE, 99);
     ANSWER(splitter_answer(answers[2], answers[3]), SPLITTER_VALUE, 99);
-    ANSWER(splitter_state_step(lent->state, lent->pool, lent->pool_len, lent->work, lent->work_len, SPLITTER_READ, 0, 0, 0),
+    ANSWER(splitter_state_step(lent->state, lent->pool, lent->pool_len, lent->work, lent->work_len, SPLITTER_STEP_READ, 0, 0, 0),
            SPLITTER_VALUE, 10);
 }
 
@@ -139,14 +164,56 @@ static void images(const struct splitter_lent *lent) {
 
 /* A step's arguments are words: none is cut down to a record's field. */
 static void wide_fields(const struct splitter_lent *lent) {
-    ANSWER(splitter_lent_step(lent, 256 + SPLITTER_SPAWN, 0, 0, 0), SPLITTER_BAD_RECORD, 0);
+    ANSWER(splitter_lent_step(lent, 256 + SPLITTER_STEP_SPAWN, 0, 0, 0), SPLITTER_BAD_RECORD, 0);
     ANSWER(splitter_lent_step(lent, 0, 0, 0, 0), SPLITTER_BAD_RECORD, 0);
-    ANSWER(splitter_lent_step(lent, SPLITTER_SPAWN, 256, 0, 0), SPLITTER_NO_WORKER, 0);
-    ANSWER(splitter_lent_step(lent, SPLITTER_SPAWN, 0, 65536, 0), SPLITTER_BAD_RECORD, 0);
-    ANSWER(splitter_lent_step(lent, SPLITTER_SYNC, 0, 0, 1), SPLITTER_BAD_RECORD, 0);
-    ANSWER(splitter_lent_step(lent, SPLITTER_STEAL, 1, 65536, 0), SPLITTER_NO_VICTIM, 0);
-    ANSWER(splitter_lent_step(lent, SPLITTER_READ, 0, 65537, 0), SPLITTER_NO_SPLITTER, 0);
-    ANSWER(splitter_lent_step(lent, SPLITTER_WRITE, 0, 65537, 7), SPLITTER_NO_SPLITTER, 0);
+    ANSWER(splitter_lent_step(lent, SPLITTER_STEP_SPAWN, 256, 0, 0), SPLITTER_UNKNOWN_WORKER, 0);
+    ANSWER(splitter_lent_step(lent, SPLITTER_STEP_SPAWN, 0, 65536, 0), SPLITTER_BAD_RECORD, 0);
+    ANSWER(splitter_lent_step(lent, SPLITTER_STEP_SYNC, 0, 0, 1), SPLITTER_BAD_RECORD, 0);
+    ANSWER(splitter_lent_step(lent, SPLITTER_STEP_STEAL, 1, 65536, 0), SPLITTER_NOTHING_TO_STEAL, 0);
+    ANSWER(splitter_lent_step(lent, SPLITTER_STEP_READ, 0, 65537, 0), SPLITTER_UNKNOWN_SPLITTER, 0);
+    ANSWER(splitter_lent_step(lent, SPLITTER_STEP_WRITE, 0, 65537, 7), SPLITTER_UNKNOWN_SPLITTER, 0);
+}
+
+/* NULL for each slice, with lengths 0 and not 0, of a run with 6 nodes: taken where the slice may be empty, else refused. */
+static void nulls(const struct splitter_lent *lent) {
+    const uint8_t tape[SPLITTER_RECORD_BYTES] = {SPLITTER_STEP_READ, 0, 1};
+    uint32_t answers[2] = {7, 7};
+    for (splitter_len len = 0; len <= 24; len += 24) {
+        const struct splitter_lent no_pool = {lent->state, NULL, len, lent->work, lent->work_len};
+        const struct splitter_lent no_work = {lent->state, lent->pool, lent->pool_len, NULL, len};
+        const struct splitter_lent neither = {lent->state, NULL, len, NULL, len};
+        ANSWER(splitter_read(&no_pool, 0, 1), SPLITTER_UNSOUND, 0);
+        ANSWER(splitter_read(&no_work, 0, 1), SPLITTER_SHORT_WORK, 0);
+        ANSWER(splitter_read(&neither, 0, 1), SPLITTER_SHORT_WORK, 0);
+        EXPECT(splitter_lent_tape(&no_pool, NULL, 0, NULL, len), SPLITTER_UNSOUND);
+        EXPECT(splitter_lent_tape(&neither, NULL, 0, NULL, len), SPLITTER_SHORT_WORK);
+        EXPECT(splitter_lent_tape(lent, NULL, 0, NULL, len), SPLITTER_OK);
+        EXPECT(splitter_refused(splitter_lent_tape(lent, NULL, len, answers, 2)), len != 0);
+        EXPECT(splitter_lent_tape(lent, tape, sizeof tape, NULL, len), SPLITTER_BAD_TAPE);
+        EXPECT(splitter_lent_save(lent, NULL, len), SPLITTER_SHORT_TARGET);
+        EXPECT(splitter_lent_save(&no_pool, NULL, len), SPLITTER_UNSOUND);
+        EXPECT(splitter_lent_save(&no_work, NULL, len), SPLITTER_SHORT_WORK);
+    }
+    EXPECT(splitter_state_free_nodes(lent->state, NULL, lent->pool_len), 0);
+    EXPECT(answers[0] == 7 && answers[1] == 7, 1);
+    ANSWER(splitter_read(lent, 0, 1), SPLITTER_VALUE, 20);
+}
+
+/* The same of the calls that clear the state when they are refused. */
+static void nulls_that_clear(const struct splitter_lent *lent) {
+    static const uint32_t values[2] = {10, 20};
+    static uint8_t image[SPLITTER_IMAGE_BYTES(6)];
+    EXPECT(splitter_lent_save(lent, image, sizeof image), SPLITTER_OK);
+    for (splitter_len len = 0; len <= 24; len += 24) {
+        const struct splitter_lent no_pool = {lent->state, NULL, len, lent->work, lent->work_len};
+        const struct splitter_lent no_work = {lent->state, lent->pool, lent->pool_len, NULL, len};
+        EXPECT(splitter_lent_start(lent, 2, NULL, len), SPLITTER_BAD_VALUE_COUNT);
+        EXPECT(splitter_lent_start(&no_pool, 2, values, 2), SPLITTER_BAD_NODE_COUNT);
+        EXPECT(splitter_lent_start(&no_work, 2, values, 2), SPLITTER_OK);
+        EXPECT(splitter_lent_load(lent, NULL, len), SPLITTER_BAD_BLOCKS);
+        EXPECT(splitter_lent_load(&no_pool, image, sizeof image), SPLITTER_UNSOUND);
+        EXPECT(splitter_lent_load(&no_work, image, sizeof image), SPLITTER_SHORT_WORK);
+    }
 }
 
 int main(void) {
@@ -156,15 +223,20 @@ int main(void) {
     const struct splitter_lent lent = {&state, pool, 6 * SPLITTER_NODE_WORDS, work, 6};
     records();
     names();
+    refused();
     layout();
     sizes();
-    EXPECT(splitter_lent_start(&lent, 2, values, 0), SPLITTER_NO_VALUES);
+    EXPECT(splitter_lent_start(&lent, 2, values, 0), SPLITTER_BAD_VALUE_COUNT);
     EXPECT(splitter_state_start(&state, 2, values, 2, pool, 6 * SPLITTER_NODE_WORDS), SPLITTER_OK);
     numbers(&state);
+    free_nodes(&lent);
     steps(&lent);
     tapes(&lent);
     images(&lent);
     wide_fields(&lent);
+    EXPECT(splitter_lent_start(&lent, 2, values, 2), SPLITTER_OK);
+    nulls(&lent);
+    nulls_that_clear(&lent);
     EXPECT(splitter_lent_start(&lent, 2, values, 2), SPLITTER_OK);
     returns(&lent);
     return failures == 0 ? 0 : 1;

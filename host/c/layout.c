@@ -93,7 +93,7 @@ static bool write_block(unsigned worker, unsigned block, unsigned value) {
 static bool steal_turn(unsigned thief) {
     for (unsigned victim = 0; victim < WORKERS; victim++) {
         uint64_t answer = checked_steal(&run, thief, victim);
-        if (splitter_answer_kind(answer) == SPLITTER_NO_VICTIM) {
+        if (splitter_answer_kind(answer) == SPLITTER_NOTHING_TO_STEAL) {
             continue;
         }
         struct branch *stolen = runs[victim];

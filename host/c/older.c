@@ -33,7 +33,7 @@ static void put_words(struct blocks *blocks, const uint32_t *words, size_t len) 
 int older_fits(const struct splitter_state *state) {
     uint32_t waiting = 0;
     for (unsigned place = 0; place < SPLITTER_MAX_FRAMES; place++) {
-        waiting |= state->frames[place * SPLITTER_FRAME_WORDS + SPLITTER_FRAME_RETURNING];
+        waiting |= state->frames[place * SPLITTER_FRAME_RECORD_WORDS + SPLITTER_FRAME_RETURNING];
     }
     return waiting == 0;
 }
@@ -43,7 +43,7 @@ size_t older_image(const struct splitter_state *state, const uint32_t *pool, uin
     put_words(&blocks, state->numbers, SPLITTER_NUMBERS_WORDS);
     put_words(&blocks, state->deques, SPLITTER_DEQUES_WORDS);
     for (unsigned place = 0; place < SPLITTER_MAX_FRAMES; place++) {
-        put_words(&blocks, state->frames + place * SPLITTER_FRAME_WORDS, OLDER_FRAME_WORDS);
+        put_words(&blocks, state->frames + place * SPLITTER_FRAME_RECORD_WORDS, OLDER_FRAME_WORDS);
     }
     put_words(&blocks, pool, SPLITTER_NODE_WORDS * (size_t)state->numbers[SPLITTER_NUMBER_NODES]);
     while (blocks.words > 0) {

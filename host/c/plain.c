@@ -17,17 +17,18 @@ static unsigned tree_nodes(unsigned n) {
     return sum;
 }
 
-uint32_t plain_start(struct plain *machine, uint32_t workers, const uint32_t *values, size_t values_len, size_t nodes) {
+uint32_t plain_start(struct plain *machine, uint32_t workers, const uint32_t *values, splitter_len values_len,
+                     splitter_len nodes) {
     static const struct plain none;
     *machine = none;
     if (values_len < 1 || values_len > SPLITTER_MAX_SPLITTERS) {
-        return SPLITTER_NO_VALUES;
+        return SPLITTER_BAD_VALUE_COUNT;
     }
     if (workers < 1 || workers > SPLITTER_MAX_WORKERS) {
-        return SPLITTER_NO_WORKERS;
+        return SPLITTER_BAD_WORKER_COUNT;
     }
     if (nodes < tree_nodes((unsigned)values_len) || nodes > SPLITTER_MAX_NODES) {
-        return SPLITTER_NO_NODES;
+        return SPLITTER_BAD_NODE_COUNT;
     }
     machine->workers = workers;
     machine->splitters = (unsigned)values_len;
@@ -91,32 +92,32 @@ static uint32_t steal_refusal(const struct plain *machine, uint32_t thief, uint3
     if (machine->lengths[thief] > 0) {
         return SPLITTER_THIEF_BUSY;
     }
-    return victim >= machine->workers || machine->lengths[victim] < 2 ? SPLITTER_NO_VICTIM : 0;
+    return victim >= machine->workers || machine->lengths[victim] < 2 ? SPLITTER_NOTHING_TO_STEAL : 0;
 }
 
 /* Document 01's refusals 7 to 15, in its order, without 14; 0 where none refuses. The last, 16, is the write's. */
 static uint32_t refusal(const struct plain *machine, uint32_t kind, uint32_t worker, uint32_t field, uint32_t value) {
-    int names_splitter = kind == SPLITTER_READ || kind == SPLITTER_WRITE;
-    if (kind < SPLITTER_SPAWN || kind > SPLITTER_WRITE || (field != 0 && !names_splitter && kind != SPLITTER_STEAL)
-        || (value != 0 && kind != SPLITTER_WRITE)) {
+    int names_splitter = kind == SPLITTER_STEP_READ || kind == SPLITTER_STEP_WRITE;
+    if (kind < SPLITTER_STEP_SPAWN || kind > SPLITTER_STEP_WRITE || (field != 0 && !names_splitter && kind != SPLITTER_STEP_STEAL)
+        || (value != 0 && kind != SPLITTER_STEP_WRITE)) {
         return SPLITTER_BAD_RECORD;
     }
     if (worker >= machine->workers) {
-        return SPLITTER_NO_WORKER;
+        return SPLITTER_UNKNOWN_WORKER;
     }
     if (machine->live == 0) {
-        return SPLITTER_MAIN_RETURNED;
+        return SPLITTER_RUN_IS_OVER;
     }
-    if (kind == SPLITTER_STEAL) {
+    if (kind == SPLITTER_STEP_STEAL) {
         return steal_refusal(machine, worker, field);
     }
     if (machine->lengths[worker] == 0) {
-        return SPLITTER_WORKER_IDLE;
+        return SPLITTER_WORKER_HAS_NO_FRAME;
     }
-    if (kind == SPLITTER_SPAWN && machine->live == SPLITTER_MAX_FRAMES) {
+    if (kind == SPLITTER_STEP_SPAWN && machine->live == SPLITTER_MAX_FRAMES) {
         return SPLITTER_FRAMES_FULL;
     }
-    return names_splitter && field >= machine->splitters ? SPLITTER_NO_SPLITTER : 0;
+    return names_splitter && field >= machine->splitters ? SPLITTER_UNKNOWN_SPLITTER : 0;
 }
 
 static uint64_t spawn(struct plain *machine, unsigned worker) {
@@ -149,7 +150,7 @@ static uint32_t end(struct plain *machine, unsigned worker, unsigned place) {
         return SPLITTER_CONTINUED;
     }
     if (!parent->suspended || parent->children > 0) {
-        return SPLITTER_IDLE;
+        return SPLITTER_BECAME_IDLE;
     }
     if (parent->returning) {
         return end(machine, worker, frame->parent);
@@ -213,11 +214,11 @@ uint64_t plain_step(struct plain *machine, uint32_t kind, uint32_t worker, uint3
         return splitter_answer(refused, 0);
     }
     switch (kind) {
-    case SPLITTER_SPAWN: return spawn(machine, worker);
-    case SPLITTER_RETURN: return return_from(machine, worker);
-    case SPLITTER_STEAL: return steal(machine, worker, field);
-    case SPLITTER_SYNC: return sync(machine, worker);
-    case SPLITTER_READ: return splitter_answer(SPLITTER_VALUE, machine->frames[bottom(machine, worker)].values[field]);
+    case SPLITTER_STEP_SPAWN: return spawn(machine, worker);
+    case SPLITTER_STEP_RETURN: return return_from(machine, worker);
+    case SPLITTER_STEP_STEAL: return steal(machine, worker, field);
+    case SPLITTER_STEP_SYNC: return sync(machine, worker);
+    case SPLITTER_STEP_READ: return splitter_answer(SPLITTER_VALUE, machine->frames[bottom(machine, worker)].values[field]);
     default: return write(machine, worker, field, value);
     }
 }

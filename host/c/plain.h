@@ -20,7 +20,8 @@ struct plain {
 };
 
 /* What splitter_start answers: SPLITTER_OK or a refusal. */
-uint32_t plain_start(struct plain *machine, uint32_t workers, const uint32_t *values, size_t values_len, size_t nodes);
+uint32_t plain_start(struct plain *machine, uint32_t workers, const uint32_t *values, splitter_len values_len,
+                     splitter_len nodes);
 
 /* What splitter_step answers to a sound state and a long enough work slice: 101 to 106, or a refusal 7 to 13, 15, 16. */
 uint64_t plain_step(struct plain *machine, uint32_t kind, uint32_t worker, uint32_t field, uint32_t value);

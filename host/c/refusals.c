@@ -8,15 +8,15 @@ void show_tape(void) {
     enum { RECORDS = 9 };
     uint8_t tape[RECORDS * SPLITTER_RECORD_BYTES], *at = tape;
     uint32_t answers[2 * RECORDS];
-    at = splitter_put_record(at, SPLITTER_SPAWN, 0, 0, 0);
-    at = splitter_put_record(at, SPLITTER_STEAL, 1, 0, 0);
-    at = splitter_put_record(at, SPLITTER_WRITE, 1, 4, 99);
-    at = splitter_put_record(at, SPLITTER_READ, 0, 4, 0);
-    at = splitter_put_record(at, SPLITTER_SYNC, 1, 0, 0);
-    at = splitter_put_record(at, SPLITTER_READ, 1, 4, 0);
-    at = splitter_put_record(at, SPLITTER_RETURN, 0, 0, 0);
-    at = splitter_put_record(at, SPLITTER_READ, 0, 4, 0);
-    splitter_put_record(at, SPLITTER_RETURN, 0, 0, 0);
+    at = splitter_put_record(at, SPLITTER_STEP_SPAWN, 0, 0, 0);
+    at = splitter_put_record(at, SPLITTER_STEP_STEAL, 1, 0, 0);
+    at = splitter_put_record(at, SPLITTER_STEP_WRITE, 1, 4, 99);
+    at = splitter_put_record(at, SPLITTER_STEP_READ, 0, 4, 0);
+    at = splitter_put_record(at, SPLITTER_STEP_SYNC, 1, 0, 0);
+    at = splitter_put_record(at, SPLITTER_STEP_READ, 1, 4, 0);
+    at = splitter_put_record(at, SPLITTER_STEP_RETURN, 0, 0, 0);
+    at = splitter_put_record(at, SPLITTER_STEP_READ, 0, 4, 0);
+    splitter_put_record(at, SPLITTER_STEP_RETURN, 0, 0, 0);
 
     printf("\nTape: 2 workers, 5 splitters, 20 nodes\n");
     lend(20);
@@ -33,16 +33,16 @@ static void show(uint64_t answer, uint32_t wanted, const char *what) {
 }
 
 static void refused_starts(void) {
-    show(checked_start(&run, 2, factory_marks, 0), SPLITTER_NO_VALUES, "a start without values");
-    show(checked_start(&run, 9, factory_marks, BLOCKS), SPLITTER_NO_WORKERS, "a start with 9 workers");
+    show(checked_start(&run, 2, factory_marks, 0), SPLITTER_BAD_VALUE_COUNT, "a start without values");
+    show(checked_start(&run, 9, factory_marks, BLOCKS), SPLITTER_BAD_WORKER_COUNT, "a start with 9 workers");
     lend((unsigned)splitter_tree_nodes(BLOCKS) - 1);
-    show(checked_start(&run, 2, factory_marks, BLOCKS), SPLITTER_NO_NODES, "a start with a node too few");
+    show(checked_start(&run, 2, factory_marks, BLOCKS), SPLITTER_BAD_NODE_COUNT, "a start with a node too few");
 }
 
 /* Calls refused whole. Each leaves state and pool as they were, so the run goes on. */
 static void refused_calls(void) {
     struct splitter_lent lent = run.lent;
-    const uint8_t tape[SPLITTER_RECORD_BYTES] = {SPLITTER_SPAWN};
+    const uint8_t tape[SPLITTER_RECORD_BYTES] = {SPLITTER_STEP_SPAWN};
     uint32_t answers[2];
     show(splitter_lent_tape(&lent, tape, sizeof tape - 1, answers, 2), SPLITTER_BAD_TAPE, "a tape of 7 bytes");
     lent.work_len -= 1;
@@ -50,7 +50,7 @@ static void refused_calls(void) {
     lent = run.lent;
     show(splitter_step(lent.state->numbers, SPLITTER_NUMBERS_WORDS, lent.state->deques, SPLITTER_DEQUES_WORDS,
                        lent.state->frames, SPLITTER_FRAMES_WORDS - 1, lent.pool, lent.pool_len, lent.work, lent.work_len,
-                       SPLITTER_READ, 0, 3, 0), SPLITTER_BAD_STATE, "frames with a word too few");
+                       SPLITTER_STEP_READ, 0, 3, 0), SPLITTER_BAD_STATE, "frames with a word too few");
     run.lent.pool[0] ^= 1;
     show(splitter_read(&run.lent, 0, 3), SPLITTER_UNSOUND, "a bit of the pool has flipped");
     run.lent.pool[0] ^= 1;
@@ -61,7 +61,7 @@ static void refused_calls(void) {
 static void refused_images(void) {
     static uint8_t image[SPLITTER_IMAGE_BYTES(NODES)];
     struct splitter_lent lent = run.lent;
-    const size_t len = (size_t)splitter_image_bytes(lent.state->numbers[SPLITTER_NUMBER_NODES]);
+    const size_t len = (size_t)splitter_image_bytes(splitter_lent_nodes(&lent));
     show(splitter_lent_save(&lent, image, len - 1), SPLITTER_SHORT_TARGET, "a target with a byte too few");
     same("save", splitter_lent_save(&lent, image, sizeof image), SPLITTER_OK);
     show(splitter_lent_load(&lent, image, len - 1), SPLITTER_BAD_BLOCKS, "an image with a byte too few");
@@ -83,14 +83,14 @@ static void refused_steps(void) {
     uint32_t answers[2];
     checked_tape(&run, tape, sizeof tape, answers, 2);
     show(answers[0], SPLITTER_BAD_RECORD, "a record of kind 9");
-    show(checked_spawn(&run, 2), SPLITTER_NO_WORKER, "worker 2 of 2 spawns");
-    show(checked_sync(&run, 1), SPLITTER_WORKER_IDLE, "worker 1 syncs");
-    show(checked_read(&run, 0, BLOCKS), SPLITTER_NO_SPLITTER, "worker 0 reads block 16");
+    show(checked_spawn(&run, 2), SPLITTER_UNKNOWN_WORKER, "worker 2 of 2 spawns");
+    show(checked_sync(&run, 1), SPLITTER_WORKER_HAS_NO_FRAME, "worker 1 syncs");
+    show(checked_read(&run, 0, BLOCKS), SPLITTER_UNKNOWN_SPLITTER, "worker 0 reads block 16");
 }
 
 static void refused_steals(void) {
     show(checked_steal(&run, 0, 1), SPLITTER_THIEF_BUSY, "worker 0 steals");
-    show(checked_steal(&run, 1, 0), SPLITTER_NO_VICTIM, "worker 1 steals from a deque of one");
+    show(checked_steal(&run, 1, 0), SPLITTER_NOTHING_TO_STEAL, "worker 1 steals from a deque of one");
 }
 
 /* Main moves to worker 1; its child stays on worker 0. */
@@ -126,7 +126,7 @@ static void full_frames(void) {
         answer = checked_return(&run, 1);
     } while (answer == splitter_answer(SPLITTER_RETURNED, SPLITTER_CONTINUED));
     same("last return", answer, splitter_answer(SPLITTER_RETURNED, SPLITTER_FINISHED));
-    show(checked_read(&run, 1, 3), SPLITTER_MAIN_RETURNED, "a read after Main's return");
+    show(checked_read(&run, 1, 3), SPLITTER_RUN_IS_OVER, "a read after Main's return");
 }
 
 /* What 14 refused before: the frame waits as returning, and can do nothing more. Main has returned only when it has ended. */
@@ -135,11 +135,11 @@ static void waiting_main(void) {
     move_main();
     same("return", checked_return(&run, 1), splitter_answer(SPLITTER_RETURNED, SPLITTER_WAITS));
     printf("    Main returns while its child runs elsewhere: it waits\n");
-    show(checked_read(&run, 1, 3), SPLITTER_WORKER_IDLE, "its worker reads block 3");
-    show(checked_steal(&run, 1, 0), SPLITTER_NO_VICTIM, "and cannot steal the child");
+    show(checked_read(&run, 1, 3), SPLITTER_WORKER_HAS_NO_FRAME, "its worker reads block 3");
+    show(checked_steal(&run, 1, 0), SPLITTER_NOTHING_TO_STEAL, "and cannot steal the child");
     printf("    the child reads block 3: %u\n", splitter_answer_number(checked_read(&run, 0, 3)));
     same("return", checked_return(&run, 0), splitter_answer(SPLITTER_RETURNED, SPLITTER_FINISHED));
-    show(checked_spawn(&run, 0), SPLITTER_MAIN_RETURNED, "the child has ended, and Main with it");
+    show(checked_spawn(&run, 0), SPLITTER_RUN_IS_OVER, "the child has ended, and Main with it");
 }
 
 void show_refusals(void) {

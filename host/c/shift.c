@@ -70,9 +70,9 @@ static uint32_t read_newest(const char *folder) {
 static void soil(unsigned more) {
     lend(NODES + more);
     memset(run.lent.state, 0x5a, sizeof *run.lent.state);
-    memset(run.lent.pool, 0xa5, run.lent.pool_len * sizeof run.lent.pool[0]);
+    memset(run.lent.pool, 0xa5, (size_t)run.lent.pool_len * sizeof run.lent.pool[0]);
     rest = 0xa5a5a5a5u;
-    memset(run.lent.work, 0xc3, run.lent.work_len * sizeof run.lent.work[0]);
+    memset(run.lent.work, 0xc3, (size_t)run.lent.work_len * sizeof run.lent.work[0]);
 }
 
 /* Words past the image's nodes never change, but that a reading refused by 6 leaves all nodes zero. */

@@ -68,14 +68,14 @@ static void tapes(void) {
 static void write_tape(void) {
     uint8_t *at = tape;
     for (unsigned i = 1; i < FRAMES; i++) {
-        at = splitter_put_record(at, SPLITTER_SPAWN, 0, 0, 0);
-        at = splitter_put_record(at, SPLITTER_WRITE, 0, (uint16_t)(SPLITTER_MAX_SPLITTERS - i), i);
-        at = splitter_put_record(at, SPLITTER_READ, 0, (uint16_t)i, 0);
+        at = splitter_put_record(at, SPLITTER_STEP_SPAWN, 0, 0, 0);
+        at = splitter_put_record(at, SPLITTER_STEP_WRITE, 0, (uint16_t)(SPLITTER_MAX_SPLITTERS - i), i);
+        at = splitter_put_record(at, SPLITTER_STEP_READ, 0, (uint16_t)i, 0);
     }
-    at = splitter_put_record(at, SPLITTER_STEAL, 1, 0, 0);
-    at = splitter_put_record(at, SPLITTER_SYNC, 1, 0, 0);
+    at = splitter_put_record(at, SPLITTER_STEP_STEAL, 1, 0, 0);
+    at = splitter_put_record(at, SPLITTER_STEP_SYNC, 1, 0, 0);
     for (unsigned i = 0; i < FRAMES; i++) {
-        at = splitter_put_record(at, SPLITTER_RETURN, 0, 0, 0);
+        at = splitter_put_record(at, SPLITTER_STEP_RETURN, 0, 0, 0);
     }
 }
 
@@ -98,7 +98,7 @@ static size_t stack_of(void (*function)(void)) {
 
 /* Main must have returned, or the run went another way and the measure says little. */
 static void check_end(void) {
-    if (splitter_answer_kind(splitter_spawn(&lent, 0)) != SPLITTER_MAIN_RETURNED) {
+    if (splitter_answer_kind(splitter_spawn(&lent, 0)) != SPLITTER_RUN_IS_OVER) {
         printf("surprise: Main has not returned\n");
         exit(1);
     }

@@ -73,7 +73,7 @@ static void check_memory(void) {
 
 /* The check must not rely on what the work slice holds. */
 static void soil_work(void) {
-    memset(work, 0xa5, run.lent.work_len * sizeof work[0]);
+    memset(work, 0xa5, (size_t)run.lent.work_len * sizeof work[0]);
 }
 
 static void remember(void) {
@@ -94,20 +94,20 @@ struct step {
 /* Mostly a step that could be accepted, now and then any record at all. */
 static struct step any_step(void) {
     struct step junk = {any(256), any(256), any(65536), any(3)};
-    struct step step = {SPLITTER_SPAWN + any(6), any(run.plain.workers), 0, 0};
+    struct step step = {SPLITTER_STEP_SPAWN + any(6), any(run.plain.workers), 0, 0};
     if (any(50) == 0) {
         return junk;
     }
-    if (step.kind == SPLITTER_RETURN && any(2) == 0) {
-        step.kind = SPLITTER_SPAWN;
+    if (step.kind == SPLITTER_STEP_RETURN && any(2) == 0) {
+        step.kind = SPLITTER_STEP_SPAWN;
     }
-    if (step.kind == SPLITTER_STEAL) {
+    if (step.kind == SPLITTER_STEP_STEAL) {
         step.field = any(run.plain.workers + 1);
     }
-    if (step.kind == SPLITTER_READ || step.kind == SPLITTER_WRITE) {
+    if (step.kind == SPLITTER_STEP_READ || step.kind == SPLITTER_STEP_WRITE) {
         step.field = any(30) == 0 ? any(65536) : any(run.plain.splitters);
     }
-    step.value = step.kind == SPLITTER_WRITE ? any(4) : 0;
+    step.value = step.kind == SPLITTER_STEP_WRITE ? any(4) : 0;
     return step;
 }
 
@@ -337,7 +337,7 @@ static unsigned long argument(const char *text) {
 /* Every outcome of a return has come, every end of a chain of waiting frames, and readings of the form before. */
 static void check_outcomes(void) {
     for (unsigned outcome = SPLITTER_CONTINUED; outcome <= SPLITTER_WAITS; outcome++) {
-        int ends_chains = outcome == SPLITTER_IDLE || outcome == SPLITTER_RESUMED || outcome == SPLITTER_FINISHED;
+        int ends_chains = outcome == SPLITTER_BECAME_IDLE || outcome == SPLITTER_RESUMED || outcome == SPLITTER_FINISHED;
         if (outcomes[outcome] == 0 || ends_chains != (chains[outcome] > 0)) {
             printf("outcome %u: %lu returns, %lu chains\n", outcome, outcomes[outcome], chains[outcome]);
             exit(1);

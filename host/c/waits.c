@@ -12,7 +12,7 @@ static uint32_t pool[NODES * SPLITTER_NODE_WORDS], work[NODES], values[SPLITTERS
 static struct checked run = {.lent = {&state, pool, NODES * SPLITTER_NODE_WORDS, work, NODES}};
 
 static uint32_t *frame(unsigned place) {
-    return state.frames + place * SPLITTER_FRAME_WORDS;
+    return state.frames + place * SPLITTER_FRAME_RECORD_WORDS;
 }
 
 static void begin(void) {
@@ -76,10 +76,10 @@ static void build_chain(void) {
         checked_write(&run, 0, i, i);
         fork_to(0, thief);
         returns(thief, SPLITTER_WAITS);
-        same("suspended", frame(i)[SPLITTER_FRAME_SUSPENDED], 1);
+        same("suspended", frame(i)[SPLITTER_FRAME_WAITING], 1);
         same("returning", frame(i)[SPLITTER_FRAME_RETURNING], 1);
-        refused("the worker of a waiting frame", checked_read(&run, thief, 0), SPLITTER_WORKER_IDLE);
-        refused("a deque of one", checked_steal(&run, thief, 0), SPLITTER_NO_VICTIM);
+        refused("the worker of a waiting frame", checked_read(&run, thief, 0), SPLITTER_WORKER_HAS_NO_FRAME);
+        refused("a deque of one", checked_steal(&run, thief, 0), SPLITTER_NOTHING_TO_STEAL);
     }
     refused("64 frames live", checked_spawn(&run, 0), SPLITTER_FRAMES_FULL);
     same("depth", frame(LAST)[SPLITTER_FRAME_DEPTH], LAST);
@@ -110,9 +110,9 @@ static void unsound_words(void) {
     unsound(LAST - 1, UINT32_MAX);
     unsound(LAST, 1);
     unsound(LAST, 256);
-    frame(5)[SPLITTER_FRAME_SUSPENDED] = 0;
+    frame(5)[SPLITTER_FRAME_WAITING] = 0;
     refused("returning and not suspended", splitter_read(&run.lent, 0, 0), SPLITTER_UNSOUND);
-    frame(5)[SPLITTER_FRAME_SUSPENDED] = 1;
+    frame(5)[SPLITTER_FRAME_WAITING] = 1;
 }
 
 static void chain(void) {
@@ -123,7 +123,7 @@ static void chain(void) {
     returns(0, SPLITTER_FINISHED);
     check_free_nodes();
     check_free_places(NULL, 0); /* freed child first */
-    refused("Main has returned", checked_spawn(&run, 0), SPLITTER_MAIN_RETURNED);
+    refused("Main has returned", checked_spawn(&run, 0), SPLITTER_RUN_IS_OVER);
     unsound(LAST, 1);
 }
 
@@ -155,12 +155,12 @@ static void stops_below_others(void) {
     returns(2, SPLITTER_WAITS);
     checked_spawn(&run, 1);
     returns(1, SPLITTER_CONTINUED);
-    returns(0, SPLITTER_IDLE); /* places 2 and 1 end; Main is in a deque */
+    returns(0, SPLITTER_BECAME_IDLE); /* places 2 and 1 end; Main is in a deque */
     same("live", run.plain.live, 1);
     fork_to(1, 3); /* Main on worker 3 */
     fork_to(3, 4); /* and on worker 4: two children elsewhere */
     returns(4, SPLITTER_WAITS);
-    returns(1, SPLITTER_IDLE);
+    returns(1, SPLITTER_BECAME_IDLE);
     same("Main waits", frame(0)[SPLITTER_FRAME_RETURNING], 1);
     returns(3, SPLITTER_FINISHED);
     check_free_nodes();
@@ -178,7 +178,7 @@ static void holds_its_tree(void) {
     same("write", checked_write(&run, 1, 0, 60), splitter_answer(SPLITTER_WRITTEN, 0));
     returns(2, SPLITTER_WAITS);
     refused("no room", checked_write(&run, 1, 1, 61), SPLITTER_POOL_FULL);
-    returns(0, SPLITTER_IDLE);
+    returns(0, SPLITTER_BECAME_IDLE);
     same("write", checked_write(&run, 1, 1, 61), splitter_answer(SPLITTER_WRITTEN, 4));
     reads(1, 0, 60);
     returns(1, SPLITTER_FINISHED);

@@ -1,8 +1,13 @@
 /* The splitter engine: splitters over stolen work, proved. C interface of libsplitter.a (make lib). C99 or later, C++11 or later.
+ * docs/FORMATS.md has the bytes of tapes and images, the state's words, and every refusal with its condition, in order.
  *
  * The library keeps nothing between calls, allocates nothing and calls no system function: all it reads and writes is the memory
  * that a call lends. A slice is a pointer and its length in elements (words of 32 bits, or bytes). The slices of one call must not
- * overlap, and no pointer may be NULL, also of an empty slice. One call at a time may use a state and its pool: locking is the host's.
+ * overlap. One call at a time may use a state and its pool: locking is the host's.
+ *
+ * NULL: the exported functions take none, also not with length 0, and a pointer is aligned for its elements. The calls over struct
+ * splitter_state and struct splitter_lent take NULL for an empty slice: a call that needs more is refused, whatever length was given
+ * (values 1, pool 3 or 6, answers and tape 4, work 5, image 17, target 19). State and struct must be there.
  *
  * Memory to lend, and its owner is always the host:
  *   state     three slices, the members of struct splitter_state: numbers, deques, frames. A call changes them in place; what they hold
@@ -28,12 +33,13 @@
  * (docs/INTEGRATION.md, host/c/kept.c). A save writes version 1: the workers plus 256 in the first word, seven words to a frame record.
  * Version 0, from before, has the workers alone there and six words to a record. It is read too, with no frame waiting as returning.
  *
- * The seven functions are the library. Below them are inline helpers: the same calls over struct splitter_state and over struct
- * splitter_lent, a call for each kind of step, records, texts. A host needs no others than those over struct splitter_lent.
+ * The eight functions are the library. Below them are inline helpers: the same calls over struct splitter_state and over struct
+ * splitter_lent, a call for each kind of step, queries, records, texts. A host needs no others than those over struct splitter_lent.
  */
 #ifndef SPLITTER_H
 #define SPLITTER_H
 
+#include <stdbool.h>
 #include <stddef.h>
 #include <stdint.h>
 
@@ -41,20 +47,40 @@
 extern "C" {
 #endif
 
-#define SPLITTER_NUMBERS_WORDS 5u  /* SPLITTER_NUMBER_WORKERS to SPLITTER_NUMBER_FREE_FRAME */
-#define SPLITTER_DEQUES_WORDS 520u /* for each of 8 workers its deque's length, then 64 places for its frames from the top */
-#define SPLITTER_FRAMES_WORDS 448u /* 64 records of SPLITTER_FRAME_WORDS words */
-#define SPLITTER_FRAME_WORDS 7u    /* SPLITTER_FRAME_LIVE to SPLITTER_FRAME_RETURNING */
+/* The version of this header, to compare in an #if. The major number grows when a host that compiled has to change, the minor one when
+ * something is added; while the major number is 0, nothing is released and any of them may change anything. The archive has no number:
+ * link the one that came with this header. The form of images is counted apart, by SPLITTER_IMAGE_VERSION. */
+#define SPLITTER_VERSION_MAJOR 0u
+#define SPLITTER_VERSION_MINOR 1u
+#define SPLITTER_VERSION (SPLITTER_VERSION_MAJOR * 1000u + SPLITTER_VERSION_MINOR)
+
+/* The length of a slice: 64 bits on every machine, also where size_t has 32. */
+typedef uint64_t splitter_len;
+
+/* On each pointer of an exported function: the slices of one call do not overlap. */
+#ifndef __cplusplus
+#define SPLITTER_RESTRICT restrict
+#elif defined(__GNUC__) || defined(_MSC_VER)
+#define SPLITTER_RESTRICT __restrict
+#else
+#define SPLITTER_RESTRICT
+#endif
+
+#define SPLITTER_NONE 4294967295u      /* none, where a place or a number could be */
+#define SPLITTER_NUMBERS_WORDS 5u      /* SPLITTER_NUMBER_WORKERS to SPLITTER_NUMBER_FREE_FRAME */
+#define SPLITTER_DEQUES_WORDS 520u     /* for each of 8 workers its deque's length, then 64 places for its frames from the top */
+#define SPLITTER_FRAMES_WORDS 448u     /* 64 records of SPLITTER_FRAME_RECORD_WORDS words */
+#define SPLITTER_FRAME_RECORD_WORDS 7u /* SPLITTER_FRAME_LIVE to SPLITTER_FRAME_RETURNING */
 #define SPLITTER_NODE_WORDS 4u
 #define SPLITTER_MAX_NODES 16384u
 #define SPLITTER_MAX_SPLITTERS 256u
 #define SPLITTER_MAX_WORKERS 8u
 #define SPLITTER_MAX_FRAMES 64u
 #define SPLITTER_RECORD_BYTES 8u
-#define SPLITTER_BLOCK_BYTES 512u  /* of an image: data, then a check of 4 bytes */
-#define SPLITTER_BLOCK_WORDS 127u  /* of a block's data */
-#define SPLITTER_IMAGE_VERSION 256u /* added to the workers in an image's first word */
-#define SPLITTER_STACK_BYTES 2048u /* a call takes at most this much stack, on x86-64; measured (host/c/stack.c) */
+#define SPLITTER_BLOCK_BYTES 512u      /* of an image: data, then a check of 4 bytes */
+#define SPLITTER_BLOCK_WORDS 127u      /* of a block's data */
+#define SPLITTER_IMAGE_VERSION 256u    /* added to the workers in an image's first word */
+#define SPLITTER_STACK_BYTES 2048u     /* a call takes at most this much stack; measured (host/c/stack.c, make cross-test) */
 
 /* splitter_image_bytes as a constant, to size an array: for 0 to SPLITTER_MAX_NODES nodes. */
 #define SPLITTER_STATE_WORDS (SPLITTER_NUMBERS_WORDS + SPLITTER_DEQUES_WORDS + SPLITTER_FRAMES_WORDS)
@@ -69,7 +95,7 @@ struct splitter_state {
     uint32_t frames[SPLITTER_FRAMES_WORDS];
 };
 
-/* The places of the numbers. None is 4,294,967,295. */
+/* The places of the numbers. None is SPLITTER_NONE. */
 enum {
     SPLITTER_NUMBER_WORKERS = 0,
     SPLITTER_NUMBER_SPLITTERS = 1,
@@ -84,19 +110,19 @@ enum {
     SPLITTER_FRAME_PARENT = 1,      /* the parent's place, none for Main; in a free place the next free one, or none */
     SPLITTER_FRAME_DEPTH = 2,
     SPLITTER_FRAME_OUTSTANDING = 3, /* its live children */
-    SPLITTER_FRAME_SUSPENDED = 4,   /* 1 on a frame that waits, at a sync or as returning, else 0 */
+    SPLITTER_FRAME_WAITING = 4,     /* 1 on a suspended frame: it waits, at a sync or as returning; else 0 */
     SPLITTER_FRAME_ROOT = 5,        /* the root of its tree in the pool */
     SPLITTER_FRAME_RETURNING = 6    /* 1 on a suspended frame that waits as returning, else 0 */
 };
 
 /* Kinds of steps: a record's first byte, and splitter_step's kind. */
 enum {
-    SPLITTER_SPAWN = 1,
-    SPLITTER_RETURN = 2,
-    SPLITTER_STEAL = 3,
-    SPLITTER_SYNC = 4,
-    SPLITTER_READ = 5,
-    SPLITTER_WRITE = 6
+    SPLITTER_STEP_SPAWN = 1,
+    SPLITTER_STEP_RETURN = 2,
+    SPLITTER_STEP_STEAL = 3,
+    SPLITTER_STEP_SYNC = 4,
+    SPLITTER_STEP_READ = 5,
+    SPLITTER_STEP_WRITE = 6
 };
 
 /* Results of a call that was not refused, and the first answer word of an accepted step. */
@@ -113,11 +139,11 @@ enum {
 /* Outcomes of a return. If the worker's deque is empty and the parent waits as returning, with no other live child, the parent ends too,
  * and so on upward: 1, 2 and 3 tell where that stopped. */
 enum {
-    SPLITTER_CONTINUED = 0, /* the parent is now the bottom frame of the same deque */
-    SPLITTER_IDLE = 1,      /* the worker is idle: the frame above those that ended has other live children, or is in a deque */
-    SPLITTER_RESUMED = 2,   /* the frame above those that ended waited at a sync: it goes on, on this worker, with its own view */
-    SPLITTER_FINISHED = 3,  /* Main has ended */
-    SPLITTER_WAITS = 4      /* the frame has a live child: it has not ended, but waits as returning; the worker is idle */
+    SPLITTER_CONTINUED = 0,   /* the parent is now the bottom frame of the same deque */
+    SPLITTER_BECAME_IDLE = 1, /* the worker is idle: the frame above those that ended has other live children, or is in a deque */
+    SPLITTER_RESUMED = 2,     /* the frame above those that ended waited at a sync: it goes on, on this worker, with its own view */
+    SPLITTER_FINISHED = 3,    /* Main has ended */
+    SPLITTER_WAITS = 4        /* the frame has a live child: it has not ended, but waits as returning; the worker is idle */
 };
 
 /* Outcomes of a sync. */
@@ -126,71 +152,96 @@ enum {
     SPLITTER_SUSPENDED = 1 /* the frame waits for its children; its worker is idle */
 };
 
-/* Refusals. Of a whole call: nothing has changed but the work slice's words (zero), the state after a start refused by 1, 2 or 3 and after
- * a reading refused by 17, 18, 5 or 6 (zeros), and the pool's whole nodes after a reading refused by 6 (zeros). */
+/* Refusals, all below 100. Of a whole call: nothing has changed but the work slice's words (zero), the state after a start refused by 1, 2
+ * or 3 and after a reading refused by 17, 18, 5 or 6 (zeros), and the pool's whole nodes after a reading refused by 6 (zeros). */
 enum {
-    SPLITTER_NO_VALUES = 1,  /* start: 0 or more than 256 initial values */
-    SPLITTER_NO_WORKERS = 2, /* start: 0 or more than 8 workers */
-    SPLITTER_NO_NODES = 3,   /* start: the pool has fewer than T(n) or more than 16,384 nodes */
-    SPLITTER_BAD_TAPE = 4,   /* tape: not a multiple of 8 bytes, or fewer than two answer words for each record */
-    SPLITTER_SHORT_WORK = 5, /* the work slice has fewer words than the state's nodes, or than the image's */
-    SPLITTER_UNSOUND = 6,    /* state and pool are not sound, or the image's are not; a reading: the pool has fewer nodes than the image */
+    SPLITTER_BAD_VALUE_COUNT = 1,      /* start: 0 or more than 256 initial values */
+    SPLITTER_BAD_WORKER_COUNT = 2,     /* start: 0 or more than 8 workers */
+    SPLITTER_BAD_NODE_COUNT = 3,       /* start: the pool has fewer than T(n) or more than 16,384 nodes */
+    SPLITTER_BAD_TAPE = 4,             /* tape: not a multiple of 8 bytes, or fewer than two answer words for each record */
+    SPLITTER_SHORT_WORK = 5,           /* the work slice has fewer words than the state's nodes, or than the image's */
+    SPLITTER_UNSOUND = 6,              /* state and pool are not sound, or the image's are not; a reading: the pool has fewer nodes than
+                                        * the image */
     /* Of one step or record: state and pool are as they were. */
-    SPLITTER_BAD_RECORD = 7,    /* the kind is not 1 to 6, or an unused field is not zero */
-    SPLITTER_NO_WORKER = 8,     /* the worker does not exist */
-    SPLITTER_MAIN_RETURNED = 9, /* Main has returned: it has ended, and no frame lives */
-    SPLITTER_WORKER_IDLE = 10,  /* not a steal, and the worker is idle */
-    SPLITTER_THIEF_BUSY = 11,   /* a steal, and the thief is not idle */
-    SPLITTER_NO_VICTIM = 12,    /* a steal, and the victim does not exist or has fewer than two frames */
-    SPLITTER_FRAMES_FULL = 13,  /* a spawn, and 64 frames live */
+    SPLITTER_BAD_RECORD = 7,           /* the kind is not 1 to 6, or an unused field is not zero */
+    SPLITTER_UNKNOWN_WORKER = 8,       /* the worker does not exist */
+    SPLITTER_RUN_IS_OVER = 9,          /* Main has returned: it has ended, and no frame lives */
+    SPLITTER_WORKER_HAS_NO_FRAME = 10, /* not a steal, and the worker is idle */
+    SPLITTER_THIEF_BUSY = 11,          /* a steal, and the thief is not idle */
+    SPLITTER_NOTHING_TO_STEAL = 12,    /* a steal, and the victim does not exist or has fewer than two frames */
+    SPLITTER_FRAMES_FULL = 13,         /* a spawn, and 64 frames live */
     /* 14 no longer comes: such a return is accepted, SPLITTER_WAITS. */
-    SPLITTER_NO_SPLITTER = 15,  /* a read or write, and the splitter is not below n */
-    SPLITTER_POOL_FULL = 16,    /* a write, and fewer nodes are free than the shared rest of its path has */
+    SPLITTER_UNKNOWN_SPLITTER = 15,    /* a read or write, and the splitter is not below n */
+    SPLITTER_POOL_FULL = 16,           /* a write, and fewer nodes are free than the shared rest of its path has */
     /* Of a reading, before 5 and 6, and of a save, after 6. */
-    SPLITTER_BAD_BLOCKS = 17,   /* the image is not just as many whole blocks as its first block calls for, has no whole block, or its
-                                 * first word is 512 or more: a version that this library does not read */
-    SPLITTER_BAD_CHECK = 18,    /* a check is wrong or the rest of the last block is not zero */
-    SPLITTER_SHORT_TARGET = 19, /* the target is too short */
+    SPLITTER_BAD_BLOCKS = 17,          /* the image is not just as many whole blocks as its first block calls for, has no whole block, or
+                                        * its first word is 512 or more: a version that this library does not read */
+    SPLITTER_BAD_CHECK = 18,           /* a check is wrong or the rest of the last block is not zero */
+    SPLITTER_SHORT_TARGET = 19,        /* the target is too short */
     /* Of the interface, before all others: a part of the state has another length than it must have; nothing at all has changed. */
     SPLITTER_BAD_STATE = 99
 };
 
 /* Begins a run with n = values_len splitters. SPLITTER_OK, or a refusal: 99, 1, 2, 3. */
-uint32_t splitter_start(uint32_t *numbers, size_t numbers_len, uint32_t *deques, size_t deques_len, uint32_t *frames, size_t frames_len,
-                        uint32_t workers, const uint32_t *values, size_t values_len, uint32_t *pool, size_t pool_len);
+uint32_t splitter_start(uint32_t *SPLITTER_RESTRICT numbers, splitter_len numbers_len,
+                        uint32_t *SPLITTER_RESTRICT deques, splitter_len deques_len,
+                        uint32_t *SPLITTER_RESTRICT frames, splitter_len frames_len,
+                        uint32_t workers,
+                        const uint32_t *SPLITTER_RESTRICT values, splitter_len values_len,
+                        uint32_t *SPLITTER_RESTRICT pool, splitter_len pool_len);
 
 /* One step. field is the splitter of a read or write, the victim of a steal, else 0; value is a write's, else 0.
  * The low half of the result is the first answer word (101 to 106, or a refusal: 99, 5, 6, then 7 to 13, 15, 16), the high half the
  * second. */
-uint64_t splitter_step(uint32_t *numbers, size_t numbers_len, uint32_t *deques, size_t deques_len, uint32_t *frames, size_t frames_len,
-                       uint32_t *pool, size_t pool_len, uint32_t *work, size_t work_len,
+uint64_t splitter_step(uint32_t *SPLITTER_RESTRICT numbers, splitter_len numbers_len,
+                       uint32_t *SPLITTER_RESTRICT deques, splitter_len deques_len,
+                       uint32_t *SPLITTER_RESTRICT frames, splitter_len frames_len,
+                       uint32_t *SPLITTER_RESTRICT pool, splitter_len pool_len,
+                       uint32_t *SPLITTER_RESTRICT work, splitter_len work_len,
                        uint32_t kind, uint32_t worker, uint32_t field, uint32_t value);
 
 /* A tape of records, 8 bytes each: kind, worker, field (2 bytes), value (4 bytes), little-endian. SPLITTER_OK, with two answer words for
  * each record, or a refusal: 99, 4, 5, 6. A refused record gives its refusal and 0, and the tape goes on. */
-uint32_t splitter_tape(uint32_t *numbers, size_t numbers_len, uint32_t *deques, size_t deques_len, uint32_t *frames, size_t frames_len,
-                       uint32_t *pool, size_t pool_len, uint32_t *work, size_t work_len,
-                       const uint8_t *tape, size_t tape_len, uint32_t *answers, size_t answers_len);
+uint32_t splitter_tape(uint32_t *SPLITTER_RESTRICT numbers, splitter_len numbers_len,
+                       uint32_t *SPLITTER_RESTRICT deques, splitter_len deques_len,
+                       uint32_t *SPLITTER_RESTRICT frames, splitter_len frames_len,
+                       uint32_t *SPLITTER_RESTRICT pool, splitter_len pool_len,
+                       uint32_t *SPLITTER_RESTRICT work, splitter_len work_len,
+                       const uint8_t *SPLITTER_RESTRICT tape, splitter_len tape_len,
+                       uint32_t *SPLITTER_RESTRICT answers, splitter_len answers_len);
 
 /* Saves the run: its image, of version 1, in the front of the target. State and pool are only read. SPLITTER_OK, or a refusal: 99, 5, 6,
  * 19; then nothing has changed but the work slice. Target bytes past the image never change. */
-uint32_t splitter_save(const uint32_t *numbers, size_t numbers_len, const uint32_t *deques, size_t deques_len,
-                       const uint32_t *frames, size_t frames_len, const uint32_t *pool, size_t pool_len, uint32_t *work, size_t work_len,
-                       uint8_t *target, size_t target_len);
+uint32_t splitter_save(const uint32_t *SPLITTER_RESTRICT numbers, splitter_len numbers_len,
+                       const uint32_t *SPLITTER_RESTRICT deques, splitter_len deques_len,
+                       const uint32_t *SPLITTER_RESTRICT frames, splitter_len frames_len,
+                       const uint32_t *SPLITTER_RESTRICT pool, splitter_len pool_len,
+                       uint32_t *SPLITTER_RESTRICT work, splitter_len work_len,
+                       uint8_t *SPLITTER_RESTRICT target, splitter_len target_len);
 
 /* Reads an image of just image_len bytes, of version 0 or 1, whatever state and pool hold. SPLITTER_OK, and the run goes on
  * as at its save, or a refusal: 99, 17, 18, 5, 6. Refused by 99 nothing has changed. Refused by another, the three parts of the state are
  * zero, and by 6 every whole node of the pool too. The pool may be longer than the image's nodes: pool words past these never change but
  * by 6. */
-uint32_t splitter_load(uint32_t *numbers, size_t numbers_len, uint32_t *deques, size_t deques_len, uint32_t *frames, size_t frames_len,
-                       uint32_t *pool, size_t pool_len, uint32_t *work, size_t work_len, const uint8_t *image, size_t image_len);
+uint32_t splitter_load(uint32_t *SPLITTER_RESTRICT numbers, splitter_len numbers_len,
+                       uint32_t *SPLITTER_RESTRICT deques, splitter_len deques_len,
+                       uint32_t *SPLITTER_RESTRICT frames, splitter_len frames_len,
+                       uint32_t *SPLITTER_RESTRICT pool, splitter_len pool_len,
+                       uint32_t *SPLITTER_RESTRICT work, splitter_len work_len,
+                       const uint8_t *SPLITTER_RESTRICT image, splitter_len image_len);
 
 /* The bytes of an image that a save writes, of so many nodes, for any number of them: whole blocks. */
 uint64_t splitter_image_bytes(uint32_t nodes);
 
-/* T(n): the nodes that one full view of n splitters takes, the least that a pool can have. The sum over the tree's levels for any n, 0 for 0;
- * a start takes 1 to SPLITTER_MAX_SPLITTERS splitters. */
+/* T(n): the nodes that one full view of n splitters takes, the least that a pool can have. The sum over the tree's levels for any n, 0
+ * for 0; a start takes 1 to SPLITTER_MAX_SPLITTERS splitters. */
 uint64_t splitter_tree_nodes(uint32_t n);
+
+/* The free nodes of a sound state and its pool: what the last write answered, without a write. It follows the free nodes one by one. 0 if
+ * numbers has another length than SPLITTER_NUMBERS_WORDS or the pool holds fewer nodes than recorded; of a state that is not sound some
+ * number, after at most nodes + 1 steps. Only reads, and needs no work slice. */
+uint64_t splitter_free_nodes(const uint32_t *SPLITTER_RESTRICT numbers, splitter_len numbers_len,
+                             const uint32_t *SPLITTER_RESTRICT pool, splitter_len pool_len);
 
 /* The two halves of splitter_step's result: the first answer word, and the second. */
 static inline uint32_t splitter_answer_kind(uint64_t answer) {
@@ -206,48 +257,96 @@ static inline uint64_t splitter_answer(uint32_t kind, uint32_t number) {
     return (uint64_t)number << 32 | kind;
 }
 
-/* The calls over a whole state: SPLITTER_BAD_STATE never comes. */
-static inline uint32_t splitter_state_start(struct splitter_state *state, uint32_t workers, const uint32_t *values, size_t values_len,
-                                            uint32_t *pool, size_t pool_len) {
+/* Is this number a refusal? For the result of a start, a tape, a save or a reading, and for a first answer word. */
+static inline bool splitter_refused(uint32_t number) {
+    return number != SPLITTER_OK && number < 100;
+}
+
+/* Was this step refused? For the whole result of a step. */
+static inline bool splitter_answer_refused(uint64_t answer) {
+    return splitter_refused(splitter_answer_kind(answer));
+}
+
+/* The length of a slice that may be NULL, and then is empty. */
+static inline splitter_len splitter_slice_len(const void *slice, splitter_len len) {
+    return slice != NULL ? len : 0;
+}
+
+/* The calls over a whole state: SPLITTER_BAD_STATE never comes. The library is handed an address also of an empty slice. */
+static inline uint32_t splitter_state_start(struct splitter_state *state, uint32_t workers,
+                                            const uint32_t *values, splitter_len values_len, uint32_t *pool, splitter_len pool_len) {
+    uint32_t word = 0;
     return splitter_start(state->numbers, SPLITTER_NUMBERS_WORDS, state->deques, SPLITTER_DEQUES_WORDS,
-                          state->frames, SPLITTER_FRAMES_WORDS, workers, values, values_len, pool, pool_len);
+                          state->frames, SPLITTER_FRAMES_WORDS, workers,
+                          values != NULL ? values : &word, splitter_slice_len(values, values_len),
+                          pool != NULL ? pool : &word, splitter_slice_len(pool, pool_len));
 }
 
-static inline uint64_t splitter_state_step(struct splitter_state *state, uint32_t *pool, size_t pool_len, uint32_t *work, size_t work_len,
+static inline uint64_t splitter_state_step(struct splitter_state *state, uint32_t *pool, splitter_len pool_len,
+                                           uint32_t *work, splitter_len work_len,
                                            uint32_t kind, uint32_t worker, uint32_t field, uint32_t value) {
+    uint32_t word = 0;
     return splitter_step(state->numbers, SPLITTER_NUMBERS_WORDS, state->deques, SPLITTER_DEQUES_WORDS,
-                         state->frames, SPLITTER_FRAMES_WORDS, pool, pool_len, work, work_len, kind, worker, field, value);
+                         state->frames, SPLITTER_FRAMES_WORDS,
+                         pool != NULL ? pool : &word, splitter_slice_len(pool, pool_len),
+                         work != NULL ? work : &word, splitter_slice_len(work, work_len), kind, worker, field, value);
 }
 
-static inline uint32_t splitter_state_tape(struct splitter_state *state, uint32_t *pool, size_t pool_len, uint32_t *work, size_t work_len,
-                                           const uint8_t *tape, size_t tape_len, uint32_t *answers, size_t answers_len) {
+static inline uint32_t splitter_state_tape(struct splitter_state *state, uint32_t *pool, splitter_len pool_len,
+                                           uint32_t *work, splitter_len work_len,
+                                           const uint8_t *tape, splitter_len tape_len, uint32_t *answers, splitter_len answers_len) {
+    uint32_t word = 0;
+    uint8_t byte = 0;
+    if (tape == NULL && tape_len != 0) {
+        return SPLITTER_BAD_TAPE;
+    }
     return splitter_tape(state->numbers, SPLITTER_NUMBERS_WORDS, state->deques, SPLITTER_DEQUES_WORDS,
-                         state->frames, SPLITTER_FRAMES_WORDS, pool, pool_len, work, work_len, tape, tape_len, answers, answers_len);
+                         state->frames, SPLITTER_FRAMES_WORDS,
+                         pool != NULL ? pool : &word, splitter_slice_len(pool, pool_len),
+                         work != NULL ? work : &word, splitter_slice_len(work, work_len),
+                         tape != NULL ? tape : &byte, splitter_slice_len(tape, tape_len),
+                         answers != NULL ? answers : &word, splitter_slice_len(answers, answers_len));
 }
 
-static inline uint32_t splitter_state_save(const struct splitter_state *state, const uint32_t *pool, size_t pool_len,
-                                           uint32_t *work, size_t work_len, uint8_t *target, size_t target_len) {
+static inline uint32_t splitter_state_save(const struct splitter_state *state, const uint32_t *pool, splitter_len pool_len,
+                                           uint32_t *work, splitter_len work_len, uint8_t *target, splitter_len target_len) {
+    uint32_t word = 0;
+    uint8_t byte = 0;
     return splitter_save(state->numbers, SPLITTER_NUMBERS_WORDS, state->deques, SPLITTER_DEQUES_WORDS,
-                         state->frames, SPLITTER_FRAMES_WORDS, pool, pool_len, work, work_len, target, target_len);
+                         state->frames, SPLITTER_FRAMES_WORDS,
+                         pool != NULL ? pool : &word, splitter_slice_len(pool, pool_len),
+                         work != NULL ? work : &word, splitter_slice_len(work, work_len),
+                         target != NULL ? target : &byte, splitter_slice_len(target, target_len));
 }
 
-static inline uint32_t splitter_state_load(struct splitter_state *state, uint32_t *pool, size_t pool_len, uint32_t *work, size_t work_len,
-                                           const uint8_t *image, size_t image_len) {
+static inline uint32_t splitter_state_load(struct splitter_state *state, uint32_t *pool, splitter_len pool_len,
+                                           uint32_t *work, splitter_len work_len, const uint8_t *image, splitter_len image_len) {
+    uint32_t word = 0;
+    uint8_t byte = 0;
     return splitter_load(state->numbers, SPLITTER_NUMBERS_WORDS, state->deques, SPLITTER_DEQUES_WORDS,
-                         state->frames, SPLITTER_FRAMES_WORDS, pool, pool_len, work, work_len, image, image_len);
+                         state->frames, SPLITTER_FRAMES_WORDS,
+                         pool != NULL ? pool : &word, splitter_slice_len(pool, pool_len),
+                         work != NULL ? work : &word, splitter_slice_len(work, work_len),
+                         image != NULL ? image : &byte, splitter_slice_len(image, image_len));
+}
+
+static inline uint64_t splitter_state_free_nodes(const struct splitter_state *state, const uint32_t *pool, splitter_len pool_len) {
+    uint32_t word = 0;
+    return splitter_free_nodes(state->numbers, SPLITTER_NUMBERS_WORDS, pool != NULL ? pool : &word, splitter_slice_len(pool, pool_len));
 }
 
 /* What a host lends to every call of a run: lengths are in words. */
 struct splitter_lent {
     struct splitter_state *state;
     uint32_t *pool;
-    size_t pool_len;
+    splitter_len pool_len;
     uint32_t *work;
-    size_t work_len;
+    splitter_len work_len;
 };
 
 /* The calls over lent memory, then one for each kind of step. */
-static inline uint32_t splitter_lent_start(const struct splitter_lent *lent, uint32_t workers, const uint32_t *values, size_t values_len) {
+static inline uint32_t splitter_lent_start(const struct splitter_lent *lent, uint32_t workers,
+                                           const uint32_t *values, splitter_len values_len) {
     return splitter_state_start(lent->state, workers, values, values_len, lent->pool, lent->pool_len);
 }
 
@@ -256,42 +355,132 @@ static inline uint64_t splitter_lent_step(const struct splitter_lent *lent, uint
     return splitter_state_step(lent->state, lent->pool, lent->pool_len, lent->work, lent->work_len, kind, worker, field, value);
 }
 
-static inline uint32_t splitter_lent_tape(const struct splitter_lent *lent, const uint8_t *tape, size_t tape_len,
-                                          uint32_t *answers, size_t answers_len) {
+static inline uint32_t splitter_lent_tape(const struct splitter_lent *lent, const uint8_t *tape, splitter_len tape_len,
+                                          uint32_t *answers, splitter_len answers_len) {
     return splitter_state_tape(lent->state, lent->pool, lent->pool_len, lent->work, lent->work_len,
                                tape, tape_len, answers, answers_len);
 }
 
-static inline uint32_t splitter_lent_save(const struct splitter_lent *lent, uint8_t *target, size_t target_len) {
+static inline uint32_t splitter_lent_save(const struct splitter_lent *lent, uint8_t *target, splitter_len target_len) {
     return splitter_state_save(lent->state, lent->pool, lent->pool_len, lent->work, lent->work_len, target, target_len);
 }
 
-static inline uint32_t splitter_lent_load(const struct splitter_lent *lent, const uint8_t *image, size_t image_len) {
+static inline uint32_t splitter_lent_load(const struct splitter_lent *lent, const uint8_t *image, splitter_len image_len) {
     return splitter_state_load(lent->state, lent->pool, lent->pool_len, lent->work, lent->work_len, image, image_len);
 }
 
+static inline uint64_t splitter_lent_free_nodes(const struct splitter_lent *lent) {
+    return splitter_state_free_nodes(lent->state, lent->pool, lent->pool_len);
+}
+
 static inline uint64_t splitter_spawn(const struct splitter_lent *lent, uint32_t worker) {
-    return splitter_lent_step(lent, SPLITTER_SPAWN, worker, 0, 0);
+    return splitter_lent_step(lent, SPLITTER_STEP_SPAWN, worker, 0, 0);
 }
 
 static inline uint64_t splitter_return(const struct splitter_lent *lent, uint32_t worker) {
-    return splitter_lent_step(lent, SPLITTER_RETURN, worker, 0, 0);
+    return splitter_lent_step(lent, SPLITTER_STEP_RETURN, worker, 0, 0);
 }
 
 static inline uint64_t splitter_steal(const struct splitter_lent *lent, uint32_t worker, uint32_t victim) {
-    return splitter_lent_step(lent, SPLITTER_STEAL, worker, victim, 0);
+    return splitter_lent_step(lent, SPLITTER_STEP_STEAL, worker, victim, 0);
 }
 
 static inline uint64_t splitter_sync(const struct splitter_lent *lent, uint32_t worker) {
-    return splitter_lent_step(lent, SPLITTER_SYNC, worker, 0, 0);
+    return splitter_lent_step(lent, SPLITTER_STEP_SYNC, worker, 0, 0);
 }
 
 static inline uint64_t splitter_read(const struct splitter_lent *lent, uint32_t worker, uint32_t splitter) {
-    return splitter_lent_step(lent, SPLITTER_READ, worker, splitter, 0);
+    return splitter_lent_step(lent, SPLITTER_STEP_READ, worker, splitter, 0);
 }
 
 static inline uint64_t splitter_write(const struct splitter_lent *lent, uint32_t worker, uint32_t splitter, uint32_t value) {
-    return splitter_lent_step(lent, SPLITTER_WRITE, worker, splitter, value);
+    return splitter_lent_step(lent, SPLITTER_STEP_WRITE, worker, splitter, value);
+}
+
+/* Queries over a state. They read its words and call nothing; lock as for a call. Of a state that is not sound each gives some number, and
+ * none reads outside of it. Before a start, in a state of zeros, all give 0, SPLITTER_NONE or false. */
+static inline uint32_t splitter_workers(const struct splitter_state *state) {
+    return state->numbers[SPLITTER_NUMBER_WORKERS];
+}
+
+static inline uint32_t splitter_splitters(const struct splitter_state *state) {
+    return state->numbers[SPLITTER_NUMBER_SPLITTERS];
+}
+
+/* All recorded nodes, in use and free. */
+static inline uint32_t splitter_nodes(const struct splitter_state *state) {
+    return state->numbers[SPLITTER_NUMBER_NODES];
+}
+
+/* The live frames, those that wait among them: 0 to SPLITTER_MAX_FRAMES. */
+static inline uint32_t splitter_live_frames(const struct splitter_state *state) {
+    uint32_t live = 0;
+    for (uint32_t place = 0; place < SPLITTER_MAX_FRAMES; place++) {
+        live += state->frames[place * SPLITTER_FRAME_RECORD_WORDS + SPLITTER_FRAME_LIVE] != 0 ? 1u : 0u;
+    }
+    return live;
+}
+
+/* The frames in the worker's deque, 0 to SPLITTER_MAX_FRAMES: 0 if it is idle or does not exist; from 2 on it can be stolen from. */
+static inline uint32_t splitter_deque_length(const struct splitter_state *state, uint32_t worker) {
+    uint32_t length;
+    if (worker >= SPLITTER_MAX_WORKERS) {
+        return 0;
+    }
+    length = state->deques[worker * (1u + SPLITTER_MAX_FRAMES)];
+    return length < SPLITTER_MAX_FRAMES ? length : SPLITTER_MAX_FRAMES;
+}
+
+/* The depth of the frame that the worker executes, or SPLITTER_NONE if it is idle or does not exist. */
+static inline uint32_t splitter_bottom_depth(const struct splitter_state *state, uint32_t worker) {
+    uint32_t length = splitter_deque_length(state, worker), place;
+    if (length == 0) {
+        return SPLITTER_NONE;
+    }
+    place = state->deques[worker * (1u + SPLITTER_MAX_FRAMES) + length];
+    if (place >= SPLITTER_MAX_FRAMES) {
+        return SPLITTER_NONE;
+    }
+    return state->frames[place * SPLITTER_FRAME_RECORD_WORDS + SPLITTER_FRAME_DEPTH];
+}
+
+/* Has Main returned? Then a run was started and no worker has a frame: steps are refused by SPLITTER_RUN_IS_OVER. */
+static inline bool splitter_main_returned(const struct splitter_state *state) {
+    for (uint32_t worker = 0; worker < SPLITTER_MAX_WORKERS; worker++) {
+        if (splitter_deque_length(state, worker) != 0) {
+            return false;
+        }
+    }
+    return splitter_workers(state) != 0;
+}
+
+/* The same over lent memory. */
+static inline uint32_t splitter_lent_workers(const struct splitter_lent *lent) {
+    return splitter_workers(lent->state);
+}
+
+static inline uint32_t splitter_lent_splitters(const struct splitter_lent *lent) {
+    return splitter_splitters(lent->state);
+}
+
+static inline uint32_t splitter_lent_nodes(const struct splitter_lent *lent) {
+    return splitter_nodes(lent->state);
+}
+
+static inline uint32_t splitter_lent_live_frames(const struct splitter_lent *lent) {
+    return splitter_live_frames(lent->state);
+}
+
+static inline uint32_t splitter_lent_deque_length(const struct splitter_lent *lent, uint32_t worker) {
+    return splitter_deque_length(lent->state, worker);
+}
+
+static inline uint32_t splitter_lent_bottom_depth(const struct splitter_lent *lent, uint32_t worker) {
+    return splitter_bottom_depth(lent->state, worker);
+}
+
+static inline bool splitter_lent_main_returned(const struct splitter_lent *lent) {
+    return splitter_main_returned(lent->state);
 }
 
 /* Writes a record of SPLITTER_RECORD_BYTES bytes, on any machine, and gives the place after it. */
@@ -317,20 +506,20 @@ static inline const char *splitter_name(uint32_t number) {
     case SPLITTER_SYNCED: return "synced";
     case SPLITTER_VALUE: return "value";
     case SPLITTER_WRITTEN: return "written";
-    case SPLITTER_NO_VALUES: return "0 or more than 256 initial values";
-    case SPLITTER_NO_WORKERS: return "0 or more than 8 workers";
-    case SPLITTER_NO_NODES: return "too few or too many nodes in the pool";
+    case SPLITTER_BAD_VALUE_COUNT: return "0 or more than 256 initial values";
+    case SPLITTER_BAD_WORKER_COUNT: return "0 or more than 8 workers";
+    case SPLITTER_BAD_NODE_COUNT: return "too few or too many nodes in the pool";
     case SPLITTER_BAD_TAPE: return "not whole records, or too few answer words";
     case SPLITTER_SHORT_WORK: return "the work slice is too short";
     case SPLITTER_UNSOUND: return "state and pool are not sound";
     case SPLITTER_BAD_RECORD: return "no such kind, or an unused field is not zero";
-    case SPLITTER_NO_WORKER: return "no such worker";
-    case SPLITTER_MAIN_RETURNED: return "Main has returned";
-    case SPLITTER_WORKER_IDLE: return "the worker is idle";
+    case SPLITTER_UNKNOWN_WORKER: return "no such worker";
+    case SPLITTER_RUN_IS_OVER: return "Main has returned";
+    case SPLITTER_WORKER_HAS_NO_FRAME: return "the worker is idle";
     case SPLITTER_THIEF_BUSY: return "the thief is not idle";
-    case SPLITTER_NO_VICTIM: return "the victim has no frame to steal";
+    case SPLITTER_NOTHING_TO_STEAL: return "the victim has no frame to steal";
     case SPLITTER_FRAMES_FULL: return "64 frames live";
-    case SPLITTER_NO_SPLITTER: return "no such splitter";
+    case SPLITTER_UNKNOWN_SPLITTER: return "no such splitter";
     case SPLITTER_POOL_FULL: return "too few free nodes";
     case SPLITTER_BAD_BLOCKS: return "the image is not just as many whole blocks as it calls for, or of no readable form";
     case SPLITTER_BAD_CHECK: return "a check is wrong or the rest of the last block is not zero";

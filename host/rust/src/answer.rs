@@ -22,7 +22,7 @@ pub enum Returned {
     /// The parent is now the bottom frame of the same deque.
     Continued,
     /// The worker is idle: the frame above those that ended has other live children, or is in a deque.
-    Idle,
+    BecameIdle,
     /// The frame above those that ended waited at a sync: it goes on, on this worker, with its own view.
     Resumed,
     /// Main has ended.
@@ -44,11 +44,11 @@ pub enum Synced {
 #[derive(Clone, Copy, Debug, PartialEq, Eq, Hash)]
 pub enum Refusal {
     /// At a start, 0 or more than 256 initial values.
-    NoValues,
+    BadValueCount,
     /// At a start, 0 or more than 8 workers.
-    NoWorkers,
+    BadWorkerCount,
     /// At a start, a pool of fewer than T(n) or more than 16,384 nodes.
-    NoNodes,
+    BadNodeCount,
     /// A tape that is not a multiple of 8 bytes, or fewer than two answer words for each record.
     BadTape,
     /// Fewer words in the work slice than nodes in the state or the image.
@@ -60,19 +60,19 @@ pub enum Refusal {
     /// [`Step`](crate::Step) makes one.
     BadRecord,
     /// The worker does not exist.
-    NoWorker,
+    UnknownWorker,
     /// Main has returned: it has ended, and no frame lives.
-    MainReturned,
+    RunIsOver,
     /// The worker of a step that is no steal is idle.
-    WorkerIdle,
+    WorkerHasNoFrame,
     /// The thief is not idle.
     ThiefBusy,
     /// The victim does not exist or has fewer than two frames.
-    NoVictim,
+    NothingToSteal,
     /// A spawn while 64 frames live.
     FramesFull,
     /// The splitter is not below n.
-    NoSplitter,
+    UnknownSplitter,
     /// A write while fewer nodes are free than the shared rest of its path has.
     PoolFull,
     /// An image that is not just as many whole blocks as its first block calls for, has no whole block, or
@@ -94,20 +94,20 @@ pub type Answer = Result<Done, Refusal>;
 
 /// The known refusals, with their numbers and texts.
 const REFUSALS: [(Refusal, u32, &str); 19] = [
-    (Refusal::NoValues, 1, "0 or more than 256 initial values"),
-    (Refusal::NoWorkers, 2, "0 or more than 8 workers"),
-    (Refusal::NoNodes, 3, "too few or too many nodes in the pool"),
+    (Refusal::BadValueCount, 1, "0 or more than 256 initial values"),
+    (Refusal::BadWorkerCount, 2, "0 or more than 8 workers"),
+    (Refusal::BadNodeCount, 3, "too few or too many nodes in the pool"),
     (Refusal::BadTape, 4, "not whole records, or too few answer words"),
     (Refusal::ShortWork, 5, "the work slice is too short"),
     (Refusal::Unsound, 6, "state and pool are not sound"),
     (Refusal::BadRecord, 7, "no such kind, or an unused field is not zero"),
-    (Refusal::NoWorker, 8, "no such worker"),
-    (Refusal::MainReturned, 9, "Main has returned"),
-    (Refusal::WorkerIdle, 10, "the worker is idle"),
+    (Refusal::UnknownWorker, 8, "no such worker"),
+    (Refusal::RunIsOver, 9, "Main has returned"),
+    (Refusal::WorkerHasNoFrame, 10, "the worker is idle"),
     (Refusal::ThiefBusy, 11, "the thief is not idle"),
-    (Refusal::NoVictim, 12, "the victim has no frame to steal"),
+    (Refusal::NothingToSteal, 12, "the victim has no frame to steal"),
     (Refusal::FramesFull, 13, "64 frames live"),
-    (Refusal::NoSplitter, 15, "no such splitter"),
+    (Refusal::UnknownSplitter, 15, "no such splitter"),
     (Refusal::PoolFull, 16, "too few free nodes"),
     (Refusal::BadBlocks, 17, "the image is not just as many whole blocks as it calls for, or of no readable form"),
     (Refusal::BadCheck, 18, "a check is wrong or the rest of the last block is not zero"),
@@ -174,7 +174,7 @@ pub fn answer(words: [u32; 2]) -> Answer {
     Ok(match words {
         [101, depth] => Done::Spawned(depth),
         [102, 0] => Done::Returned(Returned::Continued),
-        [102, 1] => Done::Returned(Returned::Idle),
+        [102, 1] => Done::Returned(Returned::BecameIdle),
         [102, 2] => Done::Returned(Returned::Resumed),
         [102, 3] => Done::Returned(Returned::Finished),
         [102, 4] => Done::Returned(Returned::Waits),

@@ -36,6 +36,21 @@
 //! # Ok::<(), splitter::Refusal>(())
 //! ```
 //!
+//! The state tells what the run is at, without a call:
+//!
+//! ```
+//! use splitter::{Engine, State, NODE_WORDS};
+//!
+//! let (mut state, mut pool, mut work) = (State::ZERO, [0; 20 * NODE_WORDS], [0; 20]);
+//! let mut engine = Engine { state: &mut state, pool: &mut pool, work: &mut work };
+//! engine.start(2, &[10, 20, 30, 40, 50])?;
+//! engine.spawn(0)?;
+//! assert_eq!((engine.state.live_frames(), engine.state.deque_length(0)), (2, 2));
+//! assert_eq!((engine.state.bottom_depth(0), engine.state.bottom_depth(1)), (Some(1), None));
+//! assert!(!engine.state.main_returned());
+//! # Ok::<(), splitter::Refusal>(())
+//! ```
+//!
 //! A run can be saved as an image and read back, in another process too:
 //!
 //! ```
@@ -66,14 +81,23 @@ pub use answer::{answer, answers, Answer, Done, Refusal, Returned, Synced};
 pub use state::State;
 pub use step::Step;
 
+/// The version of splitter.h that this binding follows; the package has the same.
+pub const VERSION_MAJOR: u32 = 0;
+/// Its minor number.
+pub const VERSION_MINOR: u32 = 1;
+/// Both, to compare.
+pub const VERSION: u32 = VERSION_MAJOR * 1000 + VERSION_MINOR;
+
+/// None, where a place or a number could be.
+pub const NONE: u32 = u32::MAX;
 /// The words of the state's numbers.
 pub const NUMBERS_WORDS: usize = 5;
 /// The words of the state's deques.
 pub const DEQUES_WORDS: usize = 520;
 /// The words of the state's frame records.
-pub const FRAMES_WORDS: usize = MAX_FRAMES * FRAME_WORDS;
+pub const FRAMES_WORDS: usize = MAX_FRAMES * FRAME_RECORD_WORDS;
 /// The words of a frame record.
-pub const FRAME_WORDS: usize = 7;
+pub const FRAME_RECORD_WORDS: usize = 7;
 /// The words of a node.
 pub const NODE_WORDS: usize = 4;
 /// The most nodes of a pool.
@@ -178,6 +202,12 @@ impl Engine<'_> {
             Done::Written(free) => Ok(free),
             other => Err(astray(other)),
         }
+    }
+
+    /// The free nodes of a sound state and its pool: what the last write gave, without a write. 0 if the pool
+    /// holds fewer nodes than recorded; of a state that is not sound some number.
+    pub fn free_nodes(&self) -> u64 {
+        raw::free_nodes(&self.state.numbers, self.pool)
     }
 
     /// Runs a tape of records ([`Step::to_bytes`]), with two answer words for each ([`answers`]). A

@@ -1,4 +1,4 @@
-//! The library's seven functions, over slices of any length and with their numbers: for tests and
+//! The library's eight functions, over slices of any length and with their numbers: for tests and
 //! measurements. A product needs only [`Engine`](crate::Engine). The C functions are declared here and
 //! nowhere else in Rust.
 //!
@@ -6,33 +6,38 @@
 //! live for the call, and overlaps no other where one of them is written.
 #![allow(unsafe_code)]
 
+/// The length of a slice: splitter.h's `splitter_len`, 64 bits on every machine.
+pub type Len = u64;
+
 mod c {
+    use super::Len;
+
     extern "C" {
         pub fn splitter_start(
             numbers: *mut u32,
-            numbers_len: usize,
+            numbers_len: Len,
             deques: *mut u32,
-            deques_len: usize,
+            deques_len: Len,
             frames: *mut u32,
-            frames_len: usize,
+            frames_len: Len,
             workers: u32,
             values: *const u32,
-            values_len: usize,
+            values_len: Len,
             pool: *mut u32,
-            pool_len: usize,
+            pool_len: Len,
         ) -> u32;
 
         pub fn splitter_step(
             numbers: *mut u32,
-            numbers_len: usize,
+            numbers_len: Len,
             deques: *mut u32,
-            deques_len: usize,
+            deques_len: Len,
             frames: *mut u32,
-            frames_len: usize,
+            frames_len: Len,
             pool: *mut u32,
-            pool_len: usize,
+            pool_len: Len,
             work: *mut u32,
-            work_len: usize,
+            work_len: Len,
             kind: u32,
             worker: u32,
             field: u32,
@@ -41,55 +46,61 @@ mod c {
 
         pub fn splitter_tape(
             numbers: *mut u32,
-            numbers_len: usize,
+            numbers_len: Len,
             deques: *mut u32,
-            deques_len: usize,
+            deques_len: Len,
             frames: *mut u32,
-            frames_len: usize,
+            frames_len: Len,
             pool: *mut u32,
-            pool_len: usize,
+            pool_len: Len,
             work: *mut u32,
-            work_len: usize,
+            work_len: Len,
             tape: *const u8,
-            tape_len: usize,
+            tape_len: Len,
             answers: *mut u32,
-            answers_len: usize,
+            answers_len: Len,
         ) -> u32;
 
         pub fn splitter_save(
             numbers: *const u32,
-            numbers_len: usize,
+            numbers_len: Len,
             deques: *const u32,
-            deques_len: usize,
+            deques_len: Len,
             frames: *const u32,
-            frames_len: usize,
+            frames_len: Len,
             pool: *const u32,
-            pool_len: usize,
+            pool_len: Len,
             work: *mut u32,
-            work_len: usize,
+            work_len: Len,
             target: *mut u8,
-            target_len: usize,
+            target_len: Len,
         ) -> u32;
 
         pub fn splitter_load(
             numbers: *mut u32,
-            numbers_len: usize,
+            numbers_len: Len,
             deques: *mut u32,
-            deques_len: usize,
+            deques_len: Len,
             frames: *mut u32,
-            frames_len: usize,
+            frames_len: Len,
             pool: *mut u32,
-            pool_len: usize,
+            pool_len: Len,
             work: *mut u32,
-            work_len: usize,
+            work_len: Len,
             image: *const u8,
-            image_len: usize,
+            image_len: Len,
         ) -> u32;
 
         pub fn splitter_image_bytes(nodes: u32) -> u64;
 
         pub fn splitter_tree_nodes(n: u32) -> u64;
+
+        pub fn splitter_free_nodes(numbers: *const u32, numbers_len: Len, pool: *const u32, pool_len: Len) -> u64;
     }
+}
+
+fn len<T>(slice: &[T]) -> Len {
+    slice.len() as Len
 }
 
 /// The state's three parts, as they are lent. One of another length than
@@ -106,16 +117,16 @@ pub fn start(state: Parts, workers: u32, values: &[u32], pool: &mut [u32]) -> u3
     unsafe {
         c::splitter_start(
             state.numbers.as_mut_ptr(),
-            state.numbers.len(),
+            len(state.numbers),
             state.deques.as_mut_ptr(),
-            state.deques.len(),
+            len(state.deques),
             state.frames.as_mut_ptr(),
-            state.frames.len(),
+            len(state.frames),
             workers,
             values.as_ptr(),
-            values.len(),
+            len(values),
             pool.as_mut_ptr(),
-            pool.len(),
+            len(pool),
         )
     }
 }
@@ -127,15 +138,15 @@ pub fn step(state: Parts, pool: &mut [u32], work: &mut [u32], fields: [u32; 4]) 
     let both = unsafe {
         c::splitter_step(
             state.numbers.as_mut_ptr(),
-            state.numbers.len(),
+            len(state.numbers),
             state.deques.as_mut_ptr(),
-            state.deques.len(),
+            len(state.deques),
             state.frames.as_mut_ptr(),
-            state.frames.len(),
+            len(state.frames),
             pool.as_mut_ptr(),
-            pool.len(),
+            len(pool),
             work.as_mut_ptr(),
-            work.len(),
+            len(work),
             kind,
             worker,
             field,
@@ -151,19 +162,19 @@ pub fn tape(state: Parts, pool: &mut [u32], work: &mut [u32], tape: &[u8], answe
     unsafe {
         c::splitter_tape(
             state.numbers.as_mut_ptr(),
-            state.numbers.len(),
+            len(state.numbers),
             state.deques.as_mut_ptr(),
-            state.deques.len(),
+            len(state.deques),
             state.frames.as_mut_ptr(),
-            state.frames.len(),
+            len(state.frames),
             pool.as_mut_ptr(),
-            pool.len(),
+            len(pool),
             work.as_mut_ptr(),
-            work.len(),
+            len(work),
             tape.as_ptr(),
-            tape.len(),
+            len(tape),
             answers.as_mut_ptr(),
-            answers.len(),
+            len(answers),
         )
     }
 }
@@ -174,17 +185,17 @@ pub fn save(state: Parts, pool: &[u32], work: &mut [u32], target: &mut [u8]) -> 
     unsafe {
         c::splitter_save(
             state.numbers.as_ptr(),
-            state.numbers.len(),
+            len(state.numbers),
             state.deques.as_ptr(),
-            state.deques.len(),
+            len(state.deques),
             state.frames.as_ptr(),
-            state.frames.len(),
+            len(state.frames),
             pool.as_ptr(),
-            pool.len(),
+            len(pool),
             work.as_mut_ptr(),
-            work.len(),
+            len(work),
             target.as_mut_ptr(),
-            target.len(),
+            len(target),
         )
     }
 }
@@ -195,17 +206,17 @@ pub fn load(state: Parts, pool: &mut [u32], work: &mut [u32], image: &[u8]) -> u
     unsafe {
         c::splitter_load(
             state.numbers.as_mut_ptr(),
-            state.numbers.len(),
+            len(state.numbers),
             state.deques.as_mut_ptr(),
-            state.deques.len(),
+            len(state.deques),
             state.frames.as_mut_ptr(),
-            state.frames.len(),
+            len(state.frames),
             pool.as_mut_ptr(),
-            pool.len(),
+            len(pool),
             work.as_mut_ptr(),
-            work.len(),
+            len(work),
             image.as_ptr(),
-            image.len(),
+            len(image),
         )
     }
 }
@@ -220,4 +231,10 @@ pub fn image_bytes(nodes: u32) -> u64 {
 pub fn tree_nodes(n: u32) -> u64 {
     // SAFETY: the function takes and gives numbers only.
     unsafe { c::splitter_tree_nodes(n) }
+}
+
+/// The free nodes; 0 of numbers of another length, or of a pool with fewer nodes than recorded.
+pub fn free_nodes(numbers: &[u32], pool: &[u32]) -> u64 {
+    // SAFETY: each pointer and length is a borrowed slice's.
+    unsafe { c::splitter_free_nodes(numbers.as_ptr(), len(numbers), pool.as_ptr(), len(pool)) }
 }

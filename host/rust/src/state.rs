@@ -1,5 +1,8 @@
 use crate::raw::Parts;
-use crate::{DEQUES_WORDS, FRAMES_WORDS, NUMBERS_WORDS};
+use crate::{DEQUES_WORDS, FRAMES_WORDS, FRAME_RECORD_WORDS, MAX_FRAMES, NUMBERS_WORDS};
+
+/// The words of a worker in the deques: its deque's length, then its places.
+const DEQUE_WORDS: usize = 1 + MAX_FRAMES;
 
 /// The state of a run, as splitter.h has it. The calls write it; a host may read and copy it.
 #[derive(Clone, Debug, PartialEq, Eq)]
@@ -9,7 +12,7 @@ pub struct State {
     pub numbers: [u32; NUMBERS_WORDS],
     /// For each of 8 workers its deque's length, then 64 places for its frames from the top.
     pub deques: [u32; DEQUES_WORDS],
-    /// 64 records of [`FRAME_WORDS`](crate::FRAME_WORDS) words: live, parent or next free place, depth,
+    /// 64 records of [`FRAME_RECORD_WORDS`](crate::FRAME_RECORD_WORDS) words: live, parent or next free place, depth,
     /// outstanding, suspended, root, returning. The last is 1 on a suspended frame that waits as returning,
     /// else 0.
     pub frames: [u32; FRAMES_WORDS],
@@ -18,6 +21,52 @@ pub struct State {
 impl State {
     /// Zeros: what there is before a start, after a refused one and after a refused reading.
     pub const ZERO: State = State { numbers: [0; NUMBERS_WORDS], deques: [0; DEQUES_WORDS], frames: [0; FRAMES_WORDS] };
+
+    /// The workers of the run. This and the other queries read the state's words and call nothing. Of a state
+    /// that is not sound each gives some number; of [`State::ZERO`] all give 0, `None` or false.
+    pub fn workers(&self) -> u32 {
+        self.numbers[0]
+    }
+
+    /// The splitters of the run.
+    pub fn splitters(&self) -> u32 {
+        self.numbers[1]
+    }
+
+    /// All recorded nodes, in use and free.
+    pub fn nodes(&self) -> u32 {
+        self.numbers[2]
+    }
+
+    /// The live frames, those that wait among them: 0 to [`MAX_FRAMES`].
+    pub fn live_frames(&self) -> usize {
+        self.frames.chunks(FRAME_RECORD_WORDS).filter(|record| record[0] != 0).count()
+    }
+
+    /// The frames in the worker's deque, 0 to [`MAX_FRAMES`]: 0 if it is idle or does not exist; from 2 on it
+    /// can be stolen from.
+    pub fn deque_length(&self, worker: u8) -> usize {
+        self.deque(worker).len()
+    }
+
+    /// The depth of the frame that the worker executes, or `None` if it is idle or does not exist.
+    pub fn bottom_depth(&self, worker: u8) -> Option<u32> {
+        let place = *self.deque(worker).last()? as usize;
+        let record = self.frames.chunks(FRAME_RECORD_WORDS).nth(place)?;
+        Some(record[2])
+    }
+
+    /// Has Main returned? Then a run was started and no worker has a frame: steps are refused by
+    /// [`Refusal::RunIsOver`](crate::Refusal::RunIsOver).
+    pub fn main_returned(&self) -> bool {
+        self.workers() != 0 && self.deques.iter().step_by(DEQUE_WORDS).all(|length| *length == 0)
+    }
+
+    /// The places of the worker's frames, from the top.
+    fn deque(&self, worker: u8) -> &[u32] {
+        let Some(words) = self.deques.chunks(DEQUE_WORDS).nth(worker.into()) else { return &[] };
+        &words[1..][..MAX_FRAMES.min(words[0] as usize)]
+    }
 
     /// The parts to lend.
     pub fn parts(&mut self) -> Parts<'_> {

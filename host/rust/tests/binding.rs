@@ -1,9 +1,10 @@
 //! The binding's numbers, and document 01's example through it.
 
 use splitter::{answer, answers, raw, tree_nodes, Done, Engine, Refusal, Returned, State, Step, Synced};
-use splitter::{image_array_bytes, image_bytes, BLOCK_BYTES, BLOCK_WORDS, IMAGE_VERSION};
-use splitter::{DEQUES_WORDS, FRAMES_WORDS, FRAME_WORDS, NODE_WORDS, NUMBERS_WORDS};
+use splitter::{image_array_bytes, image_bytes, BLOCK_BYTES, BLOCK_WORDS, IMAGE_VERSION, NONE};
+use splitter::{DEQUES_WORDS, FRAMES_WORDS, FRAME_RECORD_WORDS, NODE_WORDS, NUMBERS_WORDS};
 use splitter::{MAX_FRAMES, MAX_NODES, MAX_SPLITTERS, MAX_WORKERS};
+use splitter::{VERSION, VERSION_MAJOR, VERSION_MINOR};
 use std::mem::{offset_of, size_of};
 
 /// The numbers of the refusals; 14 was one before R-3.
@@ -39,7 +40,7 @@ fn answers_keep_their_words() {
 
 const HEADER: &str = include_str!("../../include/splitter.h");
 
-/// `NoValues` to `NO_VALUES`.
+/// `BadTape` to `BAD_TAPE`.
 fn name_in_c(name: &str) -> String {
     let word = |c: char| if c.is_uppercase() { format!("_{c}") } else { c.to_uppercase().to_string() };
     name.chars().map(word).collect::<String>().trim_start_matches('_').to_string()
@@ -59,7 +60,7 @@ fn the_header_has_the_same_refusals() {
 
 #[test]
 fn the_header_has_the_same_outcomes() {
-    for outcome in [Returned::Continued, Returned::Idle, Returned::Resumed, Returned::Finished, Returned::Waits] {
+    for outcome in [Returned::Continued, Returned::BecameIdle, Returned::Resumed, Returned::Finished, Returned::Waits] {
         let name = name_in_c(&format!("{outcome:?}"));
         assert!(HEADER.contains(&format!(" SPLITTER_{name} = {}", outcome as u32)), "{name}");
     }
@@ -75,7 +76,7 @@ fn the_header_has_the_same_sizes() {
         ("NUMBERS_WORDS", NUMBERS_WORDS),
         ("DEQUES_WORDS", DEQUES_WORDS),
         ("FRAMES_WORDS", FRAMES_WORDS),
-        ("FRAME_WORDS", FRAME_WORDS),
+        ("FRAME_RECORD_WORDS", FRAME_RECORD_WORDS),
         ("NODE_WORDS", NODE_WORDS),
         ("MAX_NODES", MAX_NODES),
         ("MAX_SPLITTERS", MAX_SPLITTERS),
@@ -85,9 +86,20 @@ fn the_header_has_the_same_sizes() {
         ("BLOCK_BYTES", BLOCK_BYTES),
         ("BLOCK_WORDS", BLOCK_WORDS),
         ("IMAGE_VERSION", IMAGE_VERSION as usize),
+        ("NONE", NONE as usize),
+        ("VERSION_MAJOR", VERSION_MAJOR as usize),
+        ("VERSION_MINOR", VERSION_MINOR as usize),
     ] {
         assert!(HEADER.contains(&format!("#define SPLITTER_{name} {size}u")), "{name}");
     }
+}
+
+#[test]
+fn the_package_has_the_same_version() {
+    assert_eq!(env!("CARGO_PKG_VERSION_MAJOR"), VERSION_MAJOR.to_string());
+    assert_eq!(env!("CARGO_PKG_VERSION_MINOR"), VERSION_MINOR.to_string());
+    assert!(HEADER.contains("#define SPLITTER_VERSION (SPLITTER_VERSION_MAJOR * 1000u + SPLITTER_VERSION_MINOR)"));
+    assert_eq!(VERSION, 1);
 }
 
 /// As in the header, the parts lie one after the other.
@@ -125,7 +137,7 @@ const EXAMPLE: [(Step, Result<Done, Refusal>); 9] = [
     (Step::Write { worker: 1, splitter: 4, value: 99 }, Ok(Done::Written(5))),
     (Step::Read { worker: 0, splitter: 4 }, Ok(Done::Value(50))),
     (Step::Sync { worker: 1 }, Ok(Done::Synced(Synced::Suspended))),
-    (Step::Read { worker: 1, splitter: 4 }, Err(Refusal::WorkerIdle)),
+    (Step::Read { worker: 1, splitter: 4 }, Err(Refusal::WorkerHasNoFrame)),
     (Step::Return { worker: 0 }, Ok(Done::Returned(Returned::Resumed))),
     (Step::Read { worker: 0, splitter: 4 }, Ok(Done::Value(99))),
     (Step::Return { worker: 0 }, Ok(Done::Returned(Returned::Finished))),
@@ -158,6 +170,64 @@ fn the_example_step_by_step() {
     });
 }
 
+/// What the state tells of document 01's example: live frames, lengths of the deques, depths of the bottom frames.
+#[test]
+fn the_example_as_queries_see_it() {
+    let after: [(usize, [usize; 2], [Option<u32>; 2]); 9] = [
+        (2, [2, 0], [Some(1), None]),
+        (2, [1, 1], [Some(1), Some(0)]),
+        (2, [1, 1], [Some(1), Some(0)]),
+        (2, [1, 1], [Some(1), Some(0)]),
+        (2, [1, 0], [Some(1), None]),
+        (2, [1, 0], [Some(1), None]),
+        (1, [1, 0], [Some(0), None]),
+        (1, [1, 0], [Some(0), None]),
+        (0, [0, 0], [None, None]),
+    ];
+    with_example(|engine| {
+        for ((step, answer), (live, lengths, depths)) in EXAMPLE.into_iter().zip(after) {
+            assert_eq!(engine.step(step), answer);
+            let state = &engine.state;
+            assert_eq!((state.workers(), state.splitters(), state.nodes()), (2, 5, 20));
+            assert_eq!((state.live_frames(), state.main_returned()), (live, live == 0));
+            assert_eq!([0, 1].map(|worker| state.deque_length(worker)), lengths);
+            assert_eq!([0, 1].map(|worker| state.bottom_depth(worker)), depths);
+            assert_eq!((state.deque_length(2), state.bottom_depth(255)), (0, None));
+        }
+    });
+}
+
+/// Free nodes are what a write gives; all of them once Main has returned, and 0 in a pool that is too short.
+#[test]
+fn free_nodes_without_a_write() {
+    with_example(|engine| {
+        assert_eq!(engine.free_nodes(), 20 - tree_nodes(5));
+        for (step, answer) in EXAMPLE {
+            assert_eq!(engine.step(step), answer);
+            if let Ok(Done::Written(free)) = answer {
+                assert_eq!(engine.free_nodes(), free.into());
+            }
+        }
+        assert_eq!(engine.free_nodes(), 20);
+        assert_eq!(raw::free_nodes(&engine.state.numbers, &engine.pool[1..]), 0);
+        assert_eq!(raw::free_nodes(&engine.state.numbers[1..], engine.pool), 0);
+    });
+}
+
+#[test]
+fn queries_take_any_words() {
+    assert_eq!((State::ZERO.live_frames(), State::ZERO.bottom_depth(0), State::ZERO.main_returned()), (0, None, false));
+    for word in [1, 7, 63, 64, 65, 519, 1 << 31, u32::MAX] {
+        let state = State { numbers: [word; 5], deques: [word; DEQUES_WORDS], frames: [word; FRAMES_WORDS] };
+        assert_eq!((state.workers(), state.live_frames(), state.main_returned()), (word, MAX_FRAMES, false));
+        for worker in 0..=u8::MAX {
+            let exists = usize::from(worker) < MAX_WORKERS;
+            assert_eq!(state.deque_length(worker), if exists { MAX_FRAMES.min(word as usize) } else { 0 });
+            assert_eq!(state.bottom_depth(worker), if exists && word < 64 { Some(word) } else { None });
+        }
+    }
+}
+
 /// Document 02's R-2: from the root down, what one frame alone has is altered in place.
 #[test]
 fn a_write_takes_nodes_only_for_what_is_shared() {
@@ -174,7 +244,7 @@ fn a_write_takes_nodes_only_for_what_is_shared() {
     assert_eq!([engine.write(1, 0, 8), engine.write(1, 0, 9), engine.write(0, 0, 6)], [Ok(0); 3]);
     assert_eq!([engine.write(0, 1, 8), engine.write(1, 4, 8)], [Err(Refusal::PoolFull); 2]);
     assert_eq!((engine.read(0, 0), engine.read(1, 0)), (Ok(6), Ok(9)));
-    assert_eq!((engine.ret(0), engine.write(1, 4, 8)), (Ok(Returned::Idle), Ok(4)));
+    assert_eq!((engine.ret(0), engine.write(1, 4, 8)), (Ok(Returned::BecameIdle), Ok(4)));
 }
 
 /// A run of 4 workers with 5 splitters.
@@ -190,8 +260,11 @@ fn spawn_and_wait(engine: &mut Engine, worker: u8, thief: u8, place: usize) {
     engine.spawn(worker).expect("a place is free");
     engine.steal(thief, worker.into()).expect("a deque of two");
     assert_eq!(engine.ret(thief), Ok(Returned::Waits));
-    assert_eq!(engine.state.frames[FRAME_WORDS * place..][4..7], [1, engine.state.frames[FRAME_WORDS * place + 5], 1]);
-    assert_eq!(engine.read(thief, 0), Err(Refusal::WorkerIdle));
+    assert_eq!(
+        engine.state.frames[FRAME_RECORD_WORDS * place..][4..7],
+        [1, engine.state.frames[FRAME_RECORD_WORDS * place + 5], 1]
+    );
+    assert_eq!(engine.read(thief, 0), Err(Refusal::WorkerHasNoFrame));
 }
 
 /// Document 02's R-3: 63 frames wait, and one return ends them all.
@@ -203,7 +276,7 @@ fn a_chain_of_waiting_frames_ends_by_one_return() {
         }
         assert_eq!(engine.spawn(0), Err(Refusal::FramesFull));
         assert_eq!(engine.ret(0), Ok(Returned::Finished));
-        assert_eq!(engine.spawn(0), Err(Refusal::MainReturned));
+        assert_eq!(engine.spawn(0), Err(Refusal::RunIsOver));
         assert_eq!((engine.state.numbers[4], &engine.state.deques[..2]), (0, &[0, 0][..]));
     });
 }
@@ -214,11 +287,11 @@ fn where_a_chain_stops() {
     with_workers(|engine| {
         assert_eq!((engine.spawn(0), engine.steal(1, 0)), (Ok(1), Ok(0)));
         spawn_and_wait(engine, 0, 2, 1);
-        assert_eq!(engine.ret(0), Ok(Returned::Idle));
+        assert_eq!(engine.ret(0), Ok(Returned::BecameIdle));
         assert_eq!((engine.spawn(1), engine.steal(0, 1)), (Ok(1), Ok(0)));
         assert_eq!((engine.spawn(0), engine.steal(2, 0)), (Ok(1), Ok(0)));
         assert_eq!((engine.write(2, 4, 51), engine.sync(2)), (Ok(25), Ok(Synced::Suspended)));
-        assert_eq!(engine.ret(1), Ok(Returned::Idle));
+        assert_eq!(engine.ret(1), Ok(Returned::BecameIdle));
         spawn_and_wait(engine, 0, 3, 2);
         assert_eq!(engine.ret(0), Ok(Returned::Resumed));
         assert_eq!((engine.read(0, 4), engine.ret(0)), (Ok(51), Ok(Returned::Finished)));
@@ -237,7 +310,7 @@ fn memory_without_a_start_is_refused() {
 fn a_refused_start_leaves_zeros() {
     with_example(|engine| {
         let pool = engine.pool.to_vec();
-        assert_eq!(engine.start(0, &[10]), Err(Refusal::NoWorkers));
+        assert_eq!(engine.start(0, &[10]), Err(Refusal::BadWorkerCount));
         assert_eq!(*engine.state, State::ZERO);
         assert_eq!(engine.pool, pool);
     });
@@ -274,7 +347,7 @@ fn blocks(words: &[u32]) -> Vec<u8> {
 fn image_of(engine: &Engine, first: u32, frame_words: usize) -> Vec<u8> {
     let mut words = [&engine.state.numbers[..], &engine.state.deques].concat();
     words[0] = first;
-    words.extend(engine.state.frames.chunks(FRAME_WORDS).flat_map(|record| &record[..frame_words]));
+    words.extend(engine.state.frames.chunks(FRAME_RECORD_WORDS).flat_map(|record| &record[..frame_words]));
     words.extend(&*engine.pool);
     blocks(&words)
 }
@@ -287,15 +360,20 @@ fn both_forms_of_an_image() {
         for (step, answer) in EXAMPLE {
             assert_eq!(engine.step(step), answer);
             engine.save(&mut image).expect("room for the image");
-            assert_eq!(image[..], image_of(engine, IMAGE_VERSION + 2, FRAME_WORDS));
+            assert_eq!(image[..], image_of(engine, IMAGE_VERSION + 2, FRAME_RECORD_WORDS));
             let (state, pool, older) =
-                (engine.state.clone(), engine.pool.to_vec(), image_of(engine, 2, FRAME_WORDS - 1));
+                (engine.state.clone(), engine.pool.to_vec(), image_of(engine, 2, FRAME_RECORD_WORDS - 1));
             assert!(older.len() < image.len());
             engine.pool.fill(7);
             engine.load(&older).expect("an image from before");
             assert!(*engine.state == state && engine.pool == pool);
         }
-        let wrong = [(512 + 2, FRAME_WORDS), (u32::MAX, FRAME_WORDS), (2, FRAME_WORDS), (256 + 2, FRAME_WORDS - 1)];
+        let wrong = [
+            (512 + 2, FRAME_RECORD_WORDS),
+            (u32::MAX, FRAME_RECORD_WORDS),
+            (2, FRAME_RECORD_WORDS),
+            (256 + 2, FRAME_RECORD_WORDS - 1),
+        ];
         for image in wrong.map(|(first, frame_words)| image_of(engine, first, frame_words)) {
             assert_eq!(engine.load(&image), Err(Refusal::BadBlocks));
         }

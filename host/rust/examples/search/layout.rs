@@ -258,7 +258,7 @@ impl<'a> Search<'a> {
         for victim in 0..MAX_WORKERS {
             let depth = match self.engine.steal(thief, victim as u16) {
                 Ok(depth) => depth as usize,
-                Err(Refusal::NoVictim) => continue,
+                Err(Refusal::NothingToSteal) => continue,
                 Err(other) => return Err(other),
             };
             let mut stolen = self.runs[victim];
@@ -383,7 +383,7 @@ impl<'a> Search<'a> {
         let (parent, above) = (self.branches[branch].parent, self.above(branch));
         let (next, what) = match outcome {
             Returned::Continued => (parent, "ends; its parent goes on here"),
-            Returned::Idle => (None, "ends; the worker is idle"),
+            Returned::BecameIdle => (None, "ends; the worker is idle"),
             Returned::Resumed if above == parent => (above, "ends; its parent resumes here"),
             Returned::Resumed => (above, "ends; a branch above its parent resumes here"),
             Returned::Finished => (None, "ends; the search is over"),

@@ -52,10 +52,10 @@ fn refused_starts() -> Outcome {
     let tree = tree_nodes(BLOCKS.into()) as usize;
     let mut memory = Memory::new(tree);
     let mut engine = memory.lend();
-    show(engine.start(2, &[]), Refusal::NoValues, "a start without values")?;
-    show(engine.start(9, &FACTORY_MARKS), Refusal::NoWorkers, "a start with 9 workers")?;
+    show(engine.start(2, &[]), Refusal::BadValueCount, "a start without values")?;
+    show(engine.start(9, &FACTORY_MARKS), Refusal::BadWorkerCount, "a start with 9 workers")?;
     let mut memory = Memory::new(tree - 1);
-    show(memory.lend().start(2, &FACTORY_MARKS), Refusal::NoNodes, "a start with a node too few")
+    show(memory.lend().start(2, &FACTORY_MARKS), Refusal::BadNodeCount, "a start with a node too few")
 }
 
 /// Calls refused whole. Each leaves state and pool as they were, so the run goes on.
@@ -108,14 +108,14 @@ fn refused_steps(engine: &mut Engine) -> Outcome {
     let mut words = [0; 2];
     engine.tape(&[9, 0, 0, 0, 0, 0, 0, 0], &mut words)?;
     show(answer(words), Refusal::BadRecord, "a record of kind 9")?;
-    show(engine.spawn(2), Refusal::NoWorker, "worker 2 of 2 spawns")?;
-    show(engine.sync(1), Refusal::WorkerIdle, "worker 1 syncs")?;
-    show(engine.read(0, BLOCKS), Refusal::NoSplitter, "worker 0 reads block 16")
+    show(engine.spawn(2), Refusal::UnknownWorker, "worker 2 of 2 spawns")?;
+    show(engine.sync(1), Refusal::WorkerHasNoFrame, "worker 1 syncs")?;
+    show(engine.read(0, BLOCKS), Refusal::UnknownSplitter, "worker 0 reads block 16")
 }
 
 fn refused_steals(engine: &mut Engine) -> Outcome {
     show(engine.steal(0, 1), Refusal::ThiefBusy, "worker 0 steals")?;
-    show(engine.steal(1, 0), Refusal::NoVictim, "worker 1 steals from a deque of one")
+    show(engine.steal(1, 0), Refusal::NothingToSteal, "worker 1 steals from a deque of one")
 }
 
 /// Main moves to worker 1; its child stays on worker 0.
@@ -147,7 +147,7 @@ fn full_frames(engine: &mut Engine) -> Outcome {
     engine.ret(1)?;
     println!("    one has ended, the next spawn has depth {}", engine.spawn(1)?);
     while engine.ret(1)? != Returned::Finished {}
-    show(engine.read(1, 3), Refusal::MainReturned, "a read after Main's return")
+    show(engine.read(1, 3), Refusal::RunIsOver, "a read after Main's return")
 }
 
 /// What 14 refused before: the frame waits as returning, and can do nothing more. Main has returned only
@@ -157,11 +157,11 @@ fn waiting_main(engine: &mut Engine) -> Outcome {
     move_main(engine)?;
     assert_eq!(engine.ret(1)?, Returned::Waits);
     println!("    Main returns while its child runs elsewhere: it waits");
-    show(engine.read(1, 3), Refusal::WorkerIdle, "its worker reads block 3")?;
-    show(engine.steal(1, 0), Refusal::NoVictim, "and cannot steal the child")?;
+    show(engine.read(1, 3), Refusal::WorkerHasNoFrame, "its worker reads block 3")?;
+    show(engine.steal(1, 0), Refusal::NothingToSteal, "and cannot steal the child")?;
     println!("    the child reads block 3: {}", engine.read(0, 3)?);
     assert_eq!(engine.ret(0)?, Returned::Finished);
-    show(engine.spawn(0), Refusal::MainReturned, "the child has ended, and Main with it")
+    show(engine.spawn(0), Refusal::RunIsOver, "the child has ended, and Main with it")
 }
 
 /// Each refusal once, and what a host does about some.

@@ -2,7 +2,7 @@
 //! however they interleave, the same layout is the best.
 
 use crate::layout::{Memory, Search, Syncs, MAX_WORKERS, SYNCS};
-use splitter::FRAME_WORDS;
+use splitter::FRAME_RECORD_WORDS;
 use std::sync::Mutex;
 use std::thread;
 
@@ -52,7 +52,7 @@ fn search_in_order(syncs: Syncs, mut seed: u32) -> usize {
         seed = seed.wrapping_mul(1_664_525).wrapping_add(1_013_904_223);
         let worker = (seed >> 16) as u8 % MAX_WORKERS as u8;
         search.take_a_turn(worker).expect("a turn that the host knows");
-        let waiting = search.engine.state.frames.chunks(FRAME_WORDS).filter(|record| record[6] == 1);
+        let waiting = search.engine.state.frames.chunks(FRAME_RECORD_WORDS).filter(|record| record[6] == 1);
         most = most.max(waiting.count());
     }
     check_found(&search);
