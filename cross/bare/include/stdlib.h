@@ -1,0 +1,3 @@
+/* For host/c/stack.c. */
+#pragma once
+_Noreturn void exit(int status);
