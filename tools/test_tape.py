@@ -8,6 +8,7 @@ import struct
 import subprocess
 import sys
 import tempfile
+import time
 import unittest
 import xml.dom.minidom
 from pathlib import Path
@@ -29,8 +30,8 @@ def example(name):
     return script.encode((HERE / "examples" / f"{name}.tape").read_text())
 
 
-def tape(*words):
-    return subprocess.run([sys.executable, HERE / "tape.py", *words], capture_output=True)
+def tape(*words, given=b""):
+    return subprocess.run([sys.executable, HERE / "tape.py", *words], input=given, capture_output=True)
 
 
 def random_line(chance, workers, n):
@@ -407,7 +408,204 @@ class Words(unittest.TestCase):
     def test_a_missing_splitrun_ends_with_code_2(self):
         done = tape("run", HERE / "examples/note_b.tape", "--splitrun", "/nowhere/splitrun")
         self.assertEqual(done.returncode, 2)
-        self.assertIn(b"cannot be run", done.stderr)
+        self.assertIn(b"cannot be run: there is no /nowhere/splitrun; make run first", done.stderr)
+
+    def test_deep_names_are_short(self):
+        names = {(): "Main", (1,): "1", (1, 1): "1.1", (1, 1, 1): "1^3", (1,) * 63: "1^63", (2, 1, 1, 1, 1, 3, 3): "2.1^4.3.3", (12,) * 3: "12^3"}
+        for name, short in names.items():
+            self.assertEqual(machine.name_text(name), short)
+        words = explain.run_words(machine.run(script.encode("start 1 1\nvalues 1\n" + "0 spawn\n" * 63)))
+        self.assertEqual(words[63], "frame 1^62 spawns frame 1^63, depth 63, a copy of frame 1^62's values. Free nodes: 0")
+        words = explain.run_words(machine.run(script.encode(f"{LONE}{CHAIN}0 return\n")))
+        self.assertIn("frame 1^63 ends, and with it 63 frames from frame 1^62 up to Main, which waited; the run is over", words[-2])
+
+
+STEP = "start 1 9\nvalues 5 6\n"
+
+
+class Expects(unittest.TestCase):
+    def misses(self, text, printed=None):
+        parsed = script.parse(text)
+        return [(m.expect.line, m.expect.text, m.got) for m in explain.missed(parsed.expects, printed or machine.run(parsed.data).lines)]
+
+    def test_on_the_line_or_on_one_of_its_own(self):
+        for text in ("0 read 1 expect 105 6\n", "0 read 1\nexpect 105 6\n", "0 read 1 # a comment\n\n   expect  105  006 # six\n"):
+            parsed = script.parse(STEP + text)
+            self.assertEqual([(e.record, e.text) for e in parsed.expects], [(1, "105 6")])
+            self.assertEqual(parsed.data, script.encode(STEP + "0 read 1\n"))
+
+    def test_what_comes_and_what_does_not(self):
+        self.assertEqual(self.misses(STEP + "0 read 1 expect 105 6\n0 read 2 expect 15 0\nexpect free 6\n"), [])
+        wrong = STEP + "0 read 1 expect 105 5\n0 read 0 expect 105 5\n0 return\nexpect 102 2\nexpect free 8\n"
+        self.assertEqual(self.misses(wrong), [(3, "105 5", "105 6"), (6, "102 2", "102 3"), (7, "free 8", "free 9")])
+        self.assertEqual(self.misses("start 9 9\nvalues 1\nexpect refused 2\n"), [])
+        self.assertEqual(self.misses("start 9 9\nvalues 1\n0 read 0 expect 105 1\n"), [(3, "105 1", "refused 2")])
+        self.assertEqual(self.misses(STEP + "0 spawn\n0 read 0 expect 105 5\n", ["1 2 9"]), [(4, "105 5", "(no line)")])
+
+    def test_raw_records(self):
+        self.assertEqual(self.misses(STEP + "raw 07 00 00 00 00 00 00 00 expect 7 0\nraw 01\nexpect refused 4\n"), [(3, "7 0", "refused 4")])
+
+    def test_errors(self):
+        for text, line, words in (
+            ("expect 105 5\n", 3, "before the first step"),
+            ("0 read 1 expect\n", 3, "two words"),
+            ("0 read 1 expect 105\n", 3, "two words"),
+            ("0 read 1 expect 105 6 7\n", 3, "two words"),
+            ("0 read 1 expect 105 x\n", 3, "decimal"),
+            ("0 read 1 expect free x\n", 3, "decimal"),
+            ("0 read 1 expect 105 4294967296\n", 3, "more than 4294967295"),
+            ("0 read 1 expect 105 6\nexpect 105 6\n", 4, "expected in line 3 already"),
+            ("0 read 1\nexpect free 9\n0 read 1\n", 4, "nothing may come after it"),
+            ("expect free 9\nexpect free 9\n", 3, "nothing may come after it"),
+        ):
+            with self.assertRaises(script.ScriptError) as caught:
+                script.parse(STEP + text)
+            self.assertEqual(caught.exception.line, line, text)
+            self.assertIn(words, str(caught.exception))
+        for text, line in (("start 1 9 expect 1 1\nvalues 1\n", 1), ("start 1 9\nvalues 1 expect 1 1\n", 2), ("raw 00\n" * 3 + "expect 1 1", 4)):
+            with self.assertRaises(script.ScriptError) as caught:
+                script.parse(text)
+            self.assertEqual(caught.exception.line, line)
+
+    @needs_splitrun
+    def test_exit_codes(self):
+        for last, code in (("105 6", 0), ("105 7", 1)):
+            for command in ("run", "draw"):
+                done = tape(command, "-", "--splitrun", SPLITRUN, given=f"{STEP}0 read 1\nexpect {last}\n".encode())
+                self.assertEqual(done.returncode, code)
+                self.assertEqual(b"EXPECTED ANSWERS THAT DID NOT COME: 1\n!!! line 4: record 1: expected 105 7, splitrun says 105 6" in done.stderr, code == 1)
+                if command == "run":
+                    self.assertIn(f"expected answers that came: {1 - code} of 1\n".encode(), done.stdout)
+                    self.assertEqual(b"!!! EXPECTED 105 7 (line 4). Main reads splitter 1: 6" in done.stdout, code == 1)
+
+
+class Encodings(unittest.TestCase):
+    TEXT = "start 1 9 # \u00e4\nvalues 5\n0 read 0\n"
+
+    def test_byte_order_marks(self):
+        want = script.encode("start 1 9\nvalues 5\n0 read 0\n")
+        for name in ("utf-8", "utf-8-sig", "utf-16", "utf-32"):
+            for end in ("\n", "\r\n", "\r"):
+                self.assertEqual(script.encode(script.text_of(self.TEXT.replace("\n", end).encode(name))), want)
+        for mark, name in script.MARKS:
+            self.assertEqual(script.encode(script.text_of(mark + self.TEXT.encode(name))), want)
+
+    def test_other_encodings_are_refused_with_a_line_number(self):
+        for data, line, words in (
+            ("start 1 9\n\nvalues 5 # \u00e4\n".encode("latin-1"), 3, "byte 0xe4 is not UTF-8; save the script as UTF-8"),
+            ("start 1 9\r\rvalues 5 # \u00e4\r".encode("latin-1"), 3, "byte 0xe4"),
+            (self.TEXT.encode("utf-16-le"), 1, "byte 0xe4"),
+            ("start 1 9\nvalues 5\n".encode("utf-16-le"), 1, "UTF-16 without a byte-order mark"),
+            (b"\xff\xfes\0t\0\n\0x", 2, "is not UTF-16-LE"),
+            (b"start 1 9\nvalues 5\n0 read\0\n", 3, "a zero byte"),
+        ):
+            with self.assertRaises(script.ScriptError) as caught:
+                script.text_of(data)
+            self.assertEqual(caught.exception.line, line, data)
+            self.assertIn(words, str(caught.exception))
+
+    def test_what_is_not_seen_is_written_out(self):
+        with self.assertRaises(script.ScriptError) as caught:
+            script.encode("start 1 9\nvalues 5\n\ufeff0 read 0\n")
+        self.assertIn("line 3: the worker must be a decimal number, not '\\ufeff0'", str(caught.exception))
+        with self.assertRaises(script.ScriptError) as caught:
+            script.encode("start 1 9\nvalues 5\n" + "x" * 5000)
+        self.assertLess(len(str(caught.exception)), 120)
+
+
+class Limits(unittest.TestCase):
+    def test_the_limits_are_splitrun_s(self):
+        five, read = "values 1 2 3 4 5\n", "0 read 0\n"
+        for text, words in (
+            (f"start 1 1024\n{five}" + read * 2048, ""),
+            ("start 1 600\nvalues" + " 1" * 256, ""),
+            (f"start 1 1025\n{five}", "line 1: 1,025 nodes, and at most 1,024 fit"),
+            ("start 1 600\n\nvalues" + " 1" * 257, "line 3: 257 values, and at most 256 fit"),
+            (f"start 1 20\n{five}\n" + read * 2049, "line 2052: 16,392 bytes of records, and at most 16,384 fit, that is 2,048 records"),
+            (f"start 1 20\n{five}" + read * 2048 + "raw 01", "line 2051: 16,385 bytes of records"),
+            ("start 1 2000\nvalues" + " 1" * 300, "line 1: 2,000 nodes, and at most 1,024 fit; line 2: 300 values"),
+            ("raw 01 00", "the header is cut short: 2 of 8 bytes"),
+            ("raw 01 00 05 00 14 00 00 00\nraw 01 00 00 00 01 00\n", "the values are cut short: 1 of 5"),
+        ):
+            parsed = script.parse(text)
+            self.assertTrue(cli.unfit_words(parsed).startswith(words), cli.unfit_words(parsed))
+            self.assertEqual(machine.run(parsed.data).lines == ["unfit"], bool(words))
+            if os.path.exists(SPLITRUN):
+                self.assertEqual(cli.splitrun_lines(SPLITRUN, parsed.data) == ["unfit"], bool(words))
+
+    def test_refused_before_splitrun_is_run(self):
+        for command in (["run", "-", "--splitrun", "/nowhere"], ["draw", "-", "--splitrun", "/nowhere"], ["compare-note-b", "-"]):
+            done = tape(*command, given=b"start 1 1025\nvalues 1\n")
+            self.assertEqual((done.returncode, done.stdout), (2, b""))
+            self.assertEqual(done.stderr, b"tape.py: -: splitrun would print unfit: line 1: 1,025 nodes, and at most 1,024 fit\n")
+
+    def test_encode_writes_it_with_a_note(self):
+        done = tape("encode", "-", given=b"start 1 1025\nvalues 1\n")
+        self.assertEqual((done.returncode, done.stdout), (0, script.encode("start 1 1025\nvalues 1\n")))
+        self.assertIn(b"note: splitrun will print unfit: line 1: 1,025 nodes", done.stderr)
+
+    def test_time_is_linear_in_the_script(self):
+        """Ten times the lines take some ten times as long; a quadratic tool takes a hundred times."""
+        times = []
+        for count in (5000, 50000):
+            text = STEP + "0 write 1 4294967295 expect 106 6\n" * count
+            begin = time.process_time()
+            script.parse(text)
+            times.append(time.process_time() - begin)
+        self.assertLess(times[1], 30 * times[0])
+
+
+class Ends(unittest.TestCase):
+    def shell(self, line):
+        return subprocess.run(["bash", "-c", line, sys.executable, HERE / "tape.py", HERE / "examples/waits.tape"], capture_output=True)
+
+    def test_a_closed_pipe_is_quiet_and_keeps_the_code(self):
+        text = f"values {' '.join(['7'] * 60000)}"
+        for command, given, code in (("encode -", f"start 1 9\n{text}\n", 0), ("decode", "x" * 200000, 0), ("--help", "", 0)):
+            line = f'"$0" "$1" {command} 2>&3 | true; exit ${{PIPESTATUS[0]}}'
+            done = subprocess.run(["bash", "-c", f"exec 3>&2; {line}", sys.executable, HERE / "tape.py"], input=given.encode(), capture_output=True)
+            self.assertEqual(done.returncode, code)
+            self.assertNotIn(b"Traceback", done.stderr)
+            self.assertNotIn(b"Broken", done.stderr)
+
+    @needs_splitrun
+    def test_a_closed_pipe_does_not_hide_a_failure(self):
+        for last, code in (("106 6", 0), ("106 5", 1)):
+            given = STEP + "0 write 1 7\n" * 2000 + f"expect {last}\n"
+            line = f'exec 3>&2; "$0" "$1" run - --splitrun "$2" 2>&3 | head -n 1; exit ${{PIPESTATUS[0]}}'
+            done = subprocess.run(["bash", "-c", line, sys.executable, HERE / "tape.py", SPLITRUN], input=given.encode(), capture_output=True)
+            self.assertEqual((done.returncode, done.stdout.count(b"\n")), (code, 1))
+            self.assertNotIn(b"Traceback", done.stderr)
+
+    def test_a_full_device_is_said(self):
+        for command in ("encode", "compare-note-b"):
+            done = self.shell(f'"$0" "$1" {command} "$2" > /dev/full')
+            self.assertEqual((done.returncode, done.stderr), (2, b"tape.py: standard output: No space left on device\n"))
+
+    def test_closed_outputs(self):
+        self.assertEqual(self.shell('"$0" "$1" encode "$2" >&-').returncode, 2)
+        self.assertEqual(self.shell('"$0" "$1" encode - <&-').stderr, b"tape.py: standard input is closed\n")
+
+    def test_what_cannot_be_read(self):
+        for words in (["encode", "/nowhere/x"], ["run", HERE], ["image", "/nowhere/x"]):
+            done = tape(*words)
+            self.assertEqual((done.returncode, done.stdout, done.stderr.count(b"\n")), (2, b"", 1))
+        self.assertEqual(tape("fly").returncode, 2)
+
+    def test_nothing_to_draw_or_compare(self):
+        for command, where in (("draw", ["--splitrun", SPLITRUN]), ("compare-note-b", [])):
+            if command == "draw" and not os.path.exists(SPLITRUN):
+                continue
+            done = tape(command, "-", *where, given=b"start 9 9\nvalues 1\n")
+            self.assertEqual((done.returncode, done.stdout), (2, b""))
+            self.assertIn(b"the call is refused whole, number 2: At a start, there are 0 or more than 8 workers.", done.stderr)
+
+    @needs_splitrun
+    def test_the_program_is_found_from_anywhere(self):
+        if Path(SPLITRUN) != ROOT / "target/bin/splitrun":
+            self.skipTest("SPLITRUN names another")
+        done = subprocess.run([sys.executable, HERE / "tape.py", "run", HERE / "examples/waits.tape"], capture_output=True, cwd="/")
+        self.assertEqual((done.returncode, done.stderr), (0, b""))
 
 
 class Documents(unittest.TestCase):
@@ -421,6 +619,21 @@ class Documents(unittest.TestCase):
             data, text = example(name), (HERE / f"examples/{name}.tape").read_text()
             own = machine.run(data)
             self.on_the_page(text, explain.explained(data, own, own.lines)[0])
+
+    def test_the_page_s_script_gives_what_it_expects(self):
+        page = (ROOT / "docs/TAPES.md").read_text().split("## The script\n")[1].split("\nNumbers are decimal.")[0]
+        parsed = script.parse(page)
+        self.assertEqual(len(parsed.expects), 3)
+        self.assertEqual(explain.missed(parsed.expects, machine.run(parsed.data).lines), [])
+
+    def test_the_expected_answers_are_what_the_tool_prints(self):
+        text = (HERE / "examples/document01.tape").read_text()
+        self.on_the_page(text)
+        wrong = script.parse(text.replace("expect 105 50", "expect 105 99"))
+        misses = explain.missed(wrong.expects, DOCUMENT01)
+        rows = explain.explained(wrong.data, machine.run(wrong.data), DOCUMENT01, misses)[0].splitlines()
+        self.on_the_page(*[row + "\n" for row in rows if "EXPECTED" in row], f"!!! {misses[0].words()}\n")
+        self.assertEqual((len(wrong.expects), len(misses)), (10, 1))
 
     def test_note_b_is_what_the_tool_prints(self):
         data = example("note_b")
@@ -459,7 +672,8 @@ class Pictures(unittest.TestCase):
         svg = draw.picture(machine.run(example("waits")))
         shapes = xml.dom.minidom.parseString(svg).getElementsByTagName("rect")
         dashes = [shape.getAttribute("stroke-dasharray") for shape in shapes]
-        self.assertEqual((dashes.count("5 3"), dashes.count("1.5 3")), (1, 3))
+        # Main's wait goes on in the second row; and an entry of the legend for each
+        self.assertEqual((dashes.count("5 3"), dashes.count("1.5 3")), (1 + 1 + 1, 3 + 1))
         words = [box[4] for box in text_boxes(svg)]
         for part in ("Main waits", "1 returns", "Main returns", "2 returns", "return, 2 end", "return, 3 end"):
             self.assertIn(part, words)
@@ -470,6 +684,61 @@ class Pictures(unittest.TestCase):
         words = [box[4] for box in text_boxes(svg)]
         for part in ("write 255", ":= 4294967294", "read 255", "= 4294967294"):
             self.assertIn(part, words)
+
+    def words(self, text, *window):
+        return [box[4] for box in text_boxes(draw.picture(machine.run(script.encode(text)), True, *window))]
+
+    def test_refused_records_have_their_fields(self):
+        text = "start 2 9\nvalues 5 6\n0 read 9\n0 write 700 4294967294\n1 steal 44\n0 steal 3\n9 spawn\n1 sync\nraw 07 00 01 00 ff 00 00 00\n"
+        words = self.words(text)
+        for part in ("read 9", "write 700", ":= 4294967294", "steal 44", "steal 3", "spawn", "sync", "raw 07000100", "ff000000"):
+            self.assertIn(part, words)
+        for number in (15, 12, 11, 8, 10, 7):
+            self.assertIn(f"refused {number}", words)
+            self.assertIn(f"refused {number}: {explain.REFUSED[number]}", words)
+
+    def test_rows(self):
+        for count in range(45):
+            rows = draw.rows_of_records(1, count)
+            self.assertEqual([r for a, b in rows for r in range(a, b + 1)], list(range(1, count + 1)))
+            self.assertTrue(all(b - a < draw.MOST for a, b in rows))
+            self.assertEqual(len(rows), max(1, -(-count // draw.MOST)))
+
+    def test_a_part_of_a_run(self):
+        text = (HERE / "examples/waits.tape").read_text()
+        words = self.words(text, 9, 12)
+        self.assertIn("3 workers, 5 splitters, 20 nodes; free 20 at the end; records 9 to 12 of 21", words)
+        self.assertEqual([w for w in words if w.isdigit() and int(w) > 2], ["9", "10", "11", "12"])
+        for part in ("1.1", "1.2", "Main waits", "1 returns", "return, 2 end"):
+            self.assertIn(part, words)
+        self.assertNotIn("refused 9: Main has returned.", words)
+
+    def test_the_legend_has_an_entry_for_each_sign_met(self):
+        words = self.words("start 1 9\nvalues 5\n0 read 0\n")
+        self.assertEqual([w for w in words if w in {entry[2] for entry in draw.LEGEND}], ["the frame that a worker executes", "read"])
+        all_words = [entry[2] for entry in draw.LEGEND]
+        words = self.words((HERE / "examples/waits.tape").read_text())
+        self.assertEqual([w for w in words if w in all_words][-len(all_words) :], all_words)
+
+    def test_a_frame_has_one_colour_in_every_part(self):
+        run = machine.run(example("waits"))
+        for first in range(1, 22):
+            whole, part = draw.Picture(run, 1, 21), draw.Picture(run, first, 21)
+            self.assertEqual(whole.colours, part.colours)
+
+    def test_many_frames_that_end_at_once(self):
+        self.assertIn("return 64 end", self.words(f"{LONE}{CHAIN}0 return\n", 250, 253))
+
+    def test_no_record_at_all(self):
+        self.assertIn("Main", self.words("start 1 9\nvalues 5\n"))
+
+    @needs_splitrun
+    def test_windows(self):
+        for words, code in (((), 0), (("--from", "21"), 0), (("--to", "1"), 0), (("--from", "4", "--to", "9"), 0), (("--from", "0"), 2),
+                            (("--to", "22"), 2), (("--from", "9", "--to", "8"), 2), (("--from", "x"), 2), (("--to", "-1"), 2)):  # fmt: skip
+            done = tape("draw", HERE / "examples/waits.tape", "--splitrun", SPLITRUN, *words)
+            self.assertEqual((done.returncode, bool(done.stdout)), (code, code == 0), words)
+            self.assertNotIn(b"Traceback", done.stderr)
 
 
 NONE = 0xFFFFFFFF

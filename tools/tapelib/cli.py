@@ -1,38 +1,106 @@
-"""The commands of tape.py. Exit codes: 0 well, 1 splitrun differs from the plain machine or an image would be refused, 2 cannot be done."""
+"""The commands of tape.py. Exit codes: 0 well; 1 splitrun differs from the plain machine, an expected answer did not come, or an
+image would be refused; 2 cannot be done."""
 import argparse
+import os
 import subprocess
 import sys
+from pathlib import Path
 
 from . import draw, explain, image, machine, script
 
-DEFAULT = "target/bin/splitrun"
+DEFAULT = str(Path(__file__).resolve().parents[2] / "target/bin/splitrun")
+LARGEST_SCRIPT = 64 * 1024 * 1024
+MOST_SAID = 20  # expected answers in the message at the end; the table has all
 
 
 class Trouble(Exception):
     """Something that the user must put right."""
 
 
-def read_script(path):
-    """Splitrun's input of the script at path (- is standard input)."""
+def to_nothing():
+    """What is still to be written to standard output goes nowhere."""
+    os.dup2(os.open(os.devnull, os.O_WRONLY), sys.stdout.fileno())
+
+
+def put(text):
+    """Text or bytes on standard output. Where its reader has closed the pipe the rest is dropped, and the command goes on."""
+    if sys.stdout is None:
+        raise Trouble("standard output is closed")
     try:
-        if path == "-":
-            text = sys.stdin.read()
-        else:
-            with open(path, encoding="utf-8") as file:
-                text = file.read()
-        return script.encode(text)
+        sys.stdout.buffer.write(text if isinstance(text, bytes) else text.encode("utf-8", "surrogateescape"))
+        sys.stdout.flush()
+    except BrokenPipeError:
+        to_nothing()
+    except OSError as error:
+        to_nothing()
+        raise Trouble(f"standard output: {error.strerror}") from None
+
+
+def say(text):
+    """A message on standard error, if that is still read."""
+    try:
+        print(text, file=sys.stderr, flush=True)
+    except OSError:
+        pass
+
+
+def read_bytes(path, most):
+    """At most this many bytes and one of the file at path (- is standard input)."""
+    try:
+        if path != "-":
+            with open(path, "rb") as file:
+                return file.read(most + 1)
+        if sys.stdin is None:
+            raise Trouble("standard input is closed")
+        return sys.stdin.buffer.read(most + 1)
+    except (OSError, ValueError) as error:
+        raise Trouble(f"{path}: {getattr(error, 'strerror', None) or error}") from None
+
+
+def parsed_script(path):
+    """The script at path (- is standard input)."""
+    data = read_bytes(path, LARGEST_SCRIPT)
+    if len(data) > LARGEST_SCRIPT:
+        raise Trouble(f"{path}: more than {LARGEST_SCRIPT:,} bytes, the most of a script")
+    try:
+        return script.parse(script.text_of(data))
     except script.ScriptError as error:
         raise Trouble(f"{path}: {error}") from None
-    except (OSError, UnicodeDecodeError) as error:
-        raise Trouble(f"{path}: {error}") from None
+
+
+def read_script(path):
+    """Splitrun's input of the script at path (- is standard input)."""
+    return parsed_script(path).data
+
+
+def unfit_words(parsed):
+    """The limits that make splitrun print `unfit`, with the script's lines; empty if it takes the script."""
+    words = []
+    for place, text in machine.unfit(parsed.data):
+        line = f"line {parsed.lines[place]}: " if place < len(parsed.lines) else ""
+        words.append(line + text)
+    return "; ".join(words)
+
+
+def fit_script(path):
+    """The script at path, refused if splitrun would call its input unfit."""
+    parsed = parsed_script(path)
+    limits = unfit_words(parsed)
+    if limits:
+        raise Trouble(f"{path}: splitrun would print unfit: {limits}")
+    return parsed
 
 
 def splitrun_lines(path, data):
     """What splitrun prints, without the line ends; a missing last line end shows as a last line."""
     try:
         done = subprocess.run([path], input=data, capture_output=True, timeout=60)
-    except (OSError, subprocess.TimeoutExpired) as error:
-        raise Trouble(f"splitrun cannot be run: {error}") from None
+    except FileNotFoundError:
+        raise Trouble(f"splitrun cannot be run: there is no {path}; make run first, or name the program with --splitrun") from None
+    except subprocess.TimeoutExpired:
+        raise Trouble("splitrun cannot be run: it has not ended after 60 seconds") from None
+    except (OSError, ValueError) as error:
+        raise Trouble(f"splitrun cannot be run: {path}: {getattr(error, 'strerror', None) or error}") from None
     if done.returncode:
         raise Trouble(f"splitrun ended with code {done.returncode}")
     lines = done.stdout.decode("ascii", "replace").split("\n")
@@ -40,68 +108,86 @@ def splitrun_lines(path, data):
 
 
 def checked_run(arguments):
-    """(input, the plain machine's run, the explained text, whether splitrun agrees)."""
-    data = read_script(arguments.script)
-    run = machine.run(data)
-    text, alike = explain.explained(data, run, splitrun_lines(arguments.splitrun, data))
-    return data, run, text, alike
+    """(the script, the plain machine's run, the explained text, whether splitrun agrees, the expected answers that did not come)."""
+    parsed = fit_script(arguments.script)
+    run = machine.run(parsed.data)
+    printed = splitrun_lines(arguments.splitrun, parsed.data)
+    misses = explain.missed(parsed.expects, printed)
+    text, alike = explain.explained(parsed.data, run, printed, misses)
+    return parsed, run, text, alike, misses
 
 
-def shout(alike):
-    """Says loudly that splitrun and the plain machine differ; the exit code."""
-    if alike:
-        return 0
+def shout(alike, misses=()):
+    """Says loudly that splitrun and the plain machine differ, or that an expected answer did not come; the exit code."""
     bar = "!" * 78
-    print(f"{bar}\n!!! SPLITRUN DIFFERS FROM THE PLAIN MACHINE: one of the two has a bug\n{bar}", file=sys.stderr)
-    return 1
+    if not alike:
+        say(f"{bar}\n!!! SPLITRUN DIFFERS FROM THE PLAIN MACHINE: one of the two has a bug\n{bar}")
+    if misses:
+        lines = "".join(f"!!! {miss.words()}\n" for miss in misses[:MOST_SAID])
+        more = f"!!! and {len(misses) - MOST_SAID} more\n" if len(misses) > MOST_SAID else ""
+        say(f"{bar}\n!!! EXPECTED ANSWERS THAT DID NOT COME: {len(misses)}\n{lines}{more}{bar}")
+    return 0 if alike and not misses else 1
 
 
 def do_encode(arguments):
-    sys.stdout.buffer.write(read_script(arguments.script))
+    parsed = parsed_script(arguments.script)
+    put(parsed.data)
+    limits = unfit_words(parsed)
+    if limits:
+        say(f"tape.py: note: splitrun will print unfit: {limits}")
     return 0
 
 
 def do_decode(_):
-    sys.stdout.write(script.decode(sys.stdin.buffer.read()))
+    data = read_bytes("-", LARGEST_SCRIPT)
+    if len(data) > LARGEST_SCRIPT:
+        raise Trouble(f"standard input: more than {LARGEST_SCRIPT:,} bytes")
+    put(script.decode(data))
     return 0
 
 
 def do_run(arguments):
-    _, _, text, alike = checked_run(arguments)
-    sys.stdout.write(text)
+    parsed, _, text, alike, misses = checked_run(arguments)
     if alike:
-        print("\nsplitrun and the plain machine agree on every line")
-    sys.stdout.flush()
-    return shout(alike)
+        text += "\nsplitrun and the plain machine agree on every line\n"
+    if parsed.expects:
+        text += f"expected answers that came: {len(parsed.expects) - len(misses)} of {len(parsed.expects)}\n"
+    put(text)
+    return shout(alike, misses)
+
+
+def window(arguments, records):
+    """The first and the last record to draw; a script without records is drawn whole."""
+    first = 1 if arguments.first is None else arguments.first
+    last = records if arguments.last is None else arguments.last
+    if not 1 <= first <= last <= records and (first, last) != (1, records):
+        raise Trouble(f"no records {first} to {last} to draw: the script has {explain.count_words(records, 'record')}")
+    return first, last
 
 
 def do_draw(arguments):
-    _, run, text, alike = checked_run(arguments)
-    if run.events is None:
+    _, run, text, alike, misses = checked_run(arguments)
+    if run.events is None and alike and not misses:
         raise Trouble(f"nothing to draw: {explain.run_words(run)[-1]}")
-    sys.stdout.buffer.write(draw.picture(run, alike).encode("utf-8"))
-    if not alike:
-        print(text, file=sys.stderr)
-    return shout(alike)
+    if run.events is not None:
+        put(draw.picture(run, alike, *window(arguments, len(run.events))))
+    if not alike or misses:
+        say(text)
+    return shout(alike, misses)
 
 
 def do_compare(arguments):
-    data = read_script(arguments.script)
-    text, _ = explain.side_by_side(data, machine.run(data), machine.run(data, note_b=True))
-    sys.stdout.write(text)
+    data = fit_script(arguments.script).data
+    run = machine.run(data)
+    if run.events is None:
+        raise Trouble(f"nothing to compare: {explain.run_words(run)[-1]}")
+    put(explain.side_by_side(data, run, machine.run(data, note_b=True))[0])
     return 0
 
 
 def read_image(path):
     """The bytes of the file at path (- is standard input)."""
-    try:
-        if path == "-":
-            data = sys.stdin.buffer.read(image.LARGEST + 1)
-        else:
-            with open(path, "rb") as file:
-                data = file.read(image.LARGEST + 1)
-    except OSError as error:
-        raise Trouble(f"{path}: {error.strerror or error}") from None
+    data = read_bytes(path, image.LARGEST)
     if not data:
         raise Trouble(f"{path}: empty; an image has at least {image.called_for(1)} blocks of {image.BLOCK} bytes")
     if len(data) > image.LARGEST:
@@ -112,7 +198,7 @@ def read_image(path):
 
 def do_image(arguments):
     text, taken = image.described(arguments.image, read_image(arguments.image))
-    sys.stdout.write(text)
+    put(text)
     return 0 if taken else 1
 
 
@@ -134,14 +220,31 @@ def parser():
         elif name != "decode":
             command.add_argument("script", help="the script's file, - for standard input")
         if name in ("run", "draw"):
-            command.add_argument("--splitrun", default=DEFAULT, help=f"the program (default {DEFAULT})")
+            command.add_argument("--splitrun", default=DEFAULT, help="the program (default target/bin/splitrun of this repository)")
+        if name == "draw":
+            command.add_argument("--from", dest="first", type=int, metavar="RECORD", help="the first record to draw (default 1)")
+            command.add_argument("--to", dest="last", type=int, metavar="RECORD", help="the last record to draw (default the last)")
+    from . import audit  # here, for it imports this module
+
+    audit.add_command(commands)
     return top
 
 
-def main(words):
-    arguments = parser().parse_args(words)
+def parsed_words(words):
     try:
+        return parser().parse_args(words)
+    except SystemExit:
+        put("")
+        raise
+
+
+def main(words):
+    try:
+        arguments = parsed_words(words)
         return arguments.action(arguments)
     except Trouble as error:
-        print(f"tape.py: {error}", file=sys.stderr)
+        say(f"tape.py: {error}")
+        return 2
+    except KeyboardInterrupt:
+        say("tape.py: interrupted")
         return 2

@@ -1,17 +1,20 @@
-"""A run as an SVG picture: a lane for each worker, a column for each record."""
+"""A run as an SVG picture: a lane for each worker, a column for each record, rows of at most ten records."""
 from html import escape
 
-from .explain import REFUSED, event_words
+from .explain import REFUSED, event_words, size_words
 from .machine import name_text
 
 LEFT, COLUMN, TOP = 100, 96, 66  # the first column's x, a column's width, the first lane's y
-LABELS, BAR, WAIT, GAP = 34, 26, 22, 22  # heights: two label lines, a bar, a waiting row, between lanes
+LINE, BAR, WAIT, GAP = 12, 26, 22, 22  # heights: a label's line, a bar, a waiting row, between lanes
+NUMBERS, BETWEEN = 30, 14  # heights: the records' numbers over a row, between two rows
+MOST = 10  # the most records of a row
 LETTER = 6.7  # the width of a letter at 11 px
+BLUE, GREEN, GREY, RED, BLACK = "#1f4e9c", "#1a7a3c", "#777", "#c00", "#222"
 PALETTE = ("#9ecae9", "#ffd092", "#b5dfa8", "#f4b6c8", "#d3c3ea", "#e8dd8a", "#a5ded8", "#dcc0a6")
 
 
 def at(column):
-    """The x of a record; 0 is the start."""
+    """The x of a row's column; 0 is what was before its first record."""
     return LEFT + column * COLUMN
 
 
@@ -31,6 +34,27 @@ def rect(x, y, width, high, fill, extra=""):
 def titled(words, *parts):
     """Parts with the words shown when the pointer is on them."""
     return f"<g><title>{escape(words)}</title>{''.join(parts)}</g>"
+
+
+def arrow(x, start, end, colour):
+    """A vertical arrow."""
+    tip = 7 if end < start else -7
+    line = f'<path d="M{x:g} {start:g}V{end + tip:g}" stroke="{colour}" stroke-width="2" fill="none"/>'
+    return line + f'<path d="M{x:g} {end:g}l-5 {tip}h10z" fill="{colour}"/>'
+
+
+def dot(x, y, fill):
+    return f'<circle cx="{x:g}" cy="{y:g}" r="5" fill="{fill}" stroke="#222" stroke-width="1.5"/>'
+
+
+def cross(x, y):
+    return f'<path d="M{x - 5:g} {y - 5:g}l10 10m0 -10l-10 10" stroke="{RED}" stroke-width="2.5"/>'
+
+
+def wait_rect(x, y, width, high, colour, returning):
+    """At a sync white and dashed, as returning grey and dotted."""
+    fill, dash = ("#e6e6e6", "1.5 3") if returning else ("#fff", "5 3")
+    return rect(x, y, width, high, fill, f' stroke="{colour}" stroke-width="2" stroke-dasharray="{dash}"')
 
 
 def stretches(states):
@@ -77,164 +101,236 @@ def rows_of(waits_of_lane):
     return rows
 
 
-class Picture:
-    """Where the lanes lie, and the parts drawn so far."""
+def rows_of_records(first, last):
+    """The records first to last in rows (first, last) of about as many each, at most MOST."""
+    count = last - first + 1
+    rows = max(1, -(-count // MOST))
+    ends = [first - 1 + count * k // rows for k in range(rows + 1)]
+    return [(a + 1, b) for a, b in zip(ends, ends[1:])]
 
-    def __init__(self, run):
-        self.run, self.events = run, run.events
-        self.colours, self.parts = {}, []
-        self.waits = {}
-        for wait in waiting(self.events):
-            self.waits.setdefault(wait.worker, []).append(wait)
-        strays = any(e.worker >= run.workers for e in self.events)
-        self.lanes, y = [], TOP
-        for worker in range(run.workers + strays):
+
+# Each sign with its key: (key, what it looks like in the legend, words).
+LEGEND = (
+    ("bar", lambda x, y: rect(x, y - 7, 26, 14, PALETTE[0], ' stroke="#555" rx="3"'), "the frame that a worker executes"),
+    ("sync", lambda x, y: wait_rect(x, y - 7, 26, 14, PALETTE[0], False), "waits at a sync"),
+    ("returning", lambda x, y: wait_rect(x, y - 7, 26, 14, PALETTE[0], True), "has returned, waits for its children"),
+    ("steal", lambda x, y: arrow(x + 13, y - 9, y + 9, BLUE), "steal"),
+    ("resumes", lambda x, y: arrow(x + 13, y + 9, y - 9, GREEN), "resumption"),
+    ("ends", lambda x, y: arrow(x + 13, y - 9, y + 9, GREY), "ends with its last child"),
+    ("read", lambda x, y: dot(x + 13, y, "#fff"), "read"),
+    ("write", lambda x, y: dot(x + 13, y, BLACK), "write"),
+)
+
+
+class Row:
+    """Some records side by side: where its lanes lie, and the parts drawn so far."""
+
+    def __init__(self, picture, first, last, top):
+        self.picture, self.run, self.first, self.last = picture, picture.run, first, last
+        self.events, self.parts = picture.run.events[first - 1 : last], []
+        self.lanes, y = [], top + NUMBERS  # of each lane the y of its bar
+        self.top, self.waits = top, {}
+        strays = any(event.worker >= self.run.workers for event in self.events)
+        for worker in range(self.run.workers + strays):
+            y += LINE * self.label_lines(worker) + 10
             self.lanes.append(y)
-            rows = rows_of(self.waits.get(worker, []))
-            y += LABELS + BAR + WAIT * (max(rows) + 1 if rows else 0) + GAP
-        self.right, self.bottom = at(len(self.events) + 1) + 10, y
+            y += BAR + GAP + WAIT * self.place_waits(worker)
+        self.right, self.bottom = self.x(last + 1), y - GAP + 6
 
-    def colour(self, name):
-        return self.colours.setdefault(name, PALETTE[len(self.colours) % len(PALETTE)])
+    def x(self, record):
+        """The x of a record; what was before the row begins at its left, what comes after ends at its right."""
+        return at(min(max(record, self.first - 1), self.last + 1) - self.first + 1)
 
-    def bar_y(self, worker):
-        return self.lanes[min(worker, len(self.lanes) - 1)] + LABELS
+    def lane(self, worker):
+        return min(worker, self.run.workers)
 
-    def wait_y(self, worker, row):
-        return self.bar_y(worker) + BAR + 4 + row * WAIT
+    def label_lines(self, worker):
+        """The most lines of a label in the lane; 0 if no record is in it."""
+        return max([0] + [len(label_words(event)[0]) for event in self.events if self.lane(event.worker) == worker])
+
+    def place_waits(self, worker):
+        """Keeps the lane's waits seen in this row, each with its place under the bar; how many places there are."""
+        seen = [w for w in self.picture.waits if w.worker == worker and w.first <= self.last and w.last >= self.first]
+        places = rows_of(seen)
+        for wait, place in zip(seen, places):
+            self.waits[wait] = self.lanes[worker] + BAR + 4 + place * WAIT
+        return max(places) + 1 if places else 0
 
     def grid(self):
         """The lanes' names and the records' numbers."""
-        self.parts.append(text(LEFT - 84, TOP - 12, "record", ' fill="#666"'))
-        for column in range(1, len(self.events) + 1):
-            self.parts.append(f'<path d="M{at(column)} {TOP - 6}V{self.bottom - 10}" stroke="#e4e4e4"/>')
-            self.parts.append(text(at(column) - 4, TOP - 12, column, ' fill="#666"'))
+        y = self.top + NUMBERS
+        self.parts.append(text(LEFT - 84, y - 12, "record", ' fill="#666"'))
+        for record in range(self.first, self.last + 1):
+            x = self.x(record)
+            self.parts.append(f'<path d="M{x} {y - 6}V{self.bottom}" stroke="#e4e4e4"/>')
+            self.parts.append(text(x - LETTER / 2 * len(str(record)), y - 12, record, ' fill="#666"'))
         for worker, y in enumerate(self.lanes):
             name = f"worker {worker}" if worker < self.run.workers else "no worker"
-            self.parts.append(rect(LEFT, y + LABELS + BAR / 2 - 1, self.right - LEFT - 10, 2, "#d0d0d0"))
-            self.parts.append(text(LEFT - 84, y + LABELS + 17, name, ' font-weight="bold"'))
+            self.parts.append(rect(LEFT, y + BAR / 2 - 1, self.right - LEFT, 2, "#d0d0d0"))
+            self.parts.append(text(LEFT - 84, y + 17, name, ' font-weight="bold"'))
 
     def bars(self):
         """A bar for each stretch in which a frame is a worker's bottom."""
-        start = ((),) + (None,) * (self.run.workers - 1)
         for worker in range(self.run.workers):
-            states = [start[worker]] + [event.bottoms[worker] for event in self.events]
+            states = [bottoms[worker] for bottoms in self.picture.bottoms[self.first - 1 : self.last + 1]]
             for first, last, name in stretches(states):
-                self.bar(at(first), at(last), self.bar_y(worker), name)
+                self.bar(at(first), at(last), self.lanes[worker], name)
 
     def bar(self, x, end, y, name):
-        shape = rect(x, y, end - x, BAR, self.colour(name), ' stroke="#555" rx="3"')
+        shape = rect(x, y, end - x, BAR, self.picture.colours[name], ' stroke="#555" rx="3"')
         label = text(x + 9, y + 17, fit(name_text(name), 11), ' font-weight="bold"')
         self.parts.append(titled(f"frame {name_text(name)} is executed", shape, label))
-
-    def waits_with_rows(self):
-        """Each wait with the y of its row."""
-        for worker, lane in self.waits.items():
-            for wait, row in zip(lane, rows_of(lane)):
-                yield wait, self.wait_y(worker, row)
+        self.picture.met.add("bar")
 
     def suspensions(self):
-        """At a sync white and dashed, as returning grey and dotted."""
-        for wait, y in self.waits_with_rows():
-            x, name = at(wait.first), name_text(wait.frame)
-            fill, dash, word, how = ("#e6e6e6", "1.5 3", "returns", " as returning") if wait.returning else ("#fff", "5 3", "waits", "")
-            stroke = f' stroke="{self.colour(wait.frame)}" stroke-width="2" stroke-dasharray="{dash}"'
-            shape = rect(x, y, at(wait.last) - x, WAIT - 6, fill, stroke)
+        for wait, y in self.waits.items():
+            x, name = self.x(wait.first), name_text(wait.frame)
+            word, how, key = ("returns", " as returning", "returning") if wait.returning else ("waits", "", "sync")
+            shape = wait_rect(x, y, self.x(wait.last) - x, WAIT - 6, self.picture.colours[wait.frame], wait.returning)
             label = text(x + 9, y + 12, fit(f"{name} {word}", 12), ' fill="#555"')
             self.parts.append(titled(f"frame {name} is suspended{how}", shape, label))
-
-    def arrow(self, x, start, end, colour):
-        """A vertical arrow in a record's column."""
-        tip = 7 if end < start else -7
-        line = f'<path d="M{x} {start}V{end + tip}" stroke="{colour}" stroke-width="2" fill="none"/>'
-        head = f'<path d="M{x} {end}l-5 {tip}h10z" fill="{colour}"/>'
-        self.parts.append(line + head)
+            self.picture.met.add(key)
 
     def steal(self, x, event):
-        victim, thief = self.bar_y(event.low), self.bar_y(event.worker)
+        victim, thief = self.lanes[event.low], self.lanes[event.worker]
         down = thief > victim
-        self.arrow(x, victim + (BAR if down else 0), thief + (0 if down else BAR), "#1f4e9c")
+        return arrow(x, victim + (BAR if down else 0), thief + (0 if down else BAR), BLUE)
 
-    def wait_over(self, column, event):
+    def wait_over(self, record, event):
         """Green from the wait of a frame that resumes to the worker's bar; grey from the bar to the wait of each frame that ends."""
-        bar = self.bar_y(event.worker)
-        for wait, row in self.waits_with_rows():
-            if wait.last != column:
+        bar, out = self.lanes[event.worker], ""
+        for wait, y in self.waits.items():
+            if wait.last != record:
                 continue
-            near_bar, near_row = (bar, row + WAIT - 6) if bar > row else (bar + BAR, row)
-            if wait.returning:
-                self.arrow(at(column) - 5, near_bar, near_row, "#777")
-            else:
-                self.arrow(at(column), near_row, near_bar, "#1a7a3c")
+            far = WAIT - 6 if y < bar or wait.worker == event.worker else 0
+            near_bar = bar if y < bar else bar + BAR
+            self.picture.met.add("ends" if wait.returning else "resumes")
+            out += arrow(self.x(record) - 5, near_bar, y + far, GREY) if wait.returning else arrow(self.x(record), y + far, near_bar, GREEN)
+        return out
 
-    def label(self, x, event, first, second, colour):
-        """Two lines over the bar, right of the record's line."""
-        y = self.bar_y(event.worker)
-        style = f' fill="{colour}"'
-        return text(x + 7, y - 18, fit(first, 13), style) + text(x + 7, y - 6, fit(second, 13), style)
+    def label(self, x, event):
+        """Lines over the bar, right of the record's line."""
+        lines, colour = label_words(event)
+        y = self.lanes[self.lane(event.worker)] - 6 - LINE * (len(lines) - 1)
+        return "".join(text(x + 7, y + LINE * k, fit(line, 13), f' fill="{colour}"') for k, line in enumerate(lines))
 
-    def mark(self, column, event):
-        """What a record did: its label, and its dot, cross or arrow."""
-        x, y = at(column), self.bar_y(event.worker) + BAR / 2
-        first, second, colour = label_words(event)
-        label = self.label(x, event, first, second, colour)
-        sign = ""
+    def sign(self, record, event):
+        """A dot, a cross or an arrow."""
+        x, y = self.x(record), self.lanes[self.lane(event.worker)] + BAR / 2
         if event.refusal:
-            sign = f'<path d="M{x - 5} {y - 5}l10 10m0 -10l-10 10" stroke="#c00" stroke-width="2.5"/>'
-        elif event.kind in ("read", "write"):
-            fill = "#fff" if event.kind == "read" else "#222"
-            sign = f'<circle cx="{x}" cy="{y}" r="5" fill="{fill}" stroke="#222" stroke-width="1.5"/>'
-        elif event.kind == "steal":
-            self.steal(x, event)
-        elif event.kind == "return":
-            self.wait_over(column, event)
-        self.parts.append(titled(f"record {column}: {event_words(event)}", sign, label))
+            return cross(x, y)
+        if event.kind == "return":
+            return self.wait_over(record, event)
+        if event.kind not in ("read", "write", "steal"):
+            return ""
+        self.picture.met.add(event.kind)
+        return self.steal(x, event) if event.kind == "steal" else dot(x, y, "#fff" if event.kind == "read" else BLACK)
+
+    def marks(self):
+        """What each record did."""
+        for record, event in enumerate(self.events, self.first):
+            words = f"record {record}: {event_words(event)}"
+            self.parts.append(titled(words, self.sign(record, event), self.label(self.x(record), event)))
+
+
+class Picture:
+    """The records first to last of a run, in rows, and what is shown in all of them."""
+
+    def __init__(self, run, first, last):
+        self.run, self.first, self.last = run, first, last
+        self.met, self.parts = set(), []
+        names = [()] + [event.other for event in run.events if event.kind == "spawn" and not event.refusal]
+        self.colours = {name: PALETTE[place % len(PALETTE)] for place, name in enumerate(names)}
+        self.bottoms = [((),) + (None,) * (run.workers - 1)] + [event.bottoms for event in run.events]
+        self.waits = [wait for wait in waiting(run.events) if wait.first <= last and wait.last >= first]
+        self.right, self.bottom = 0, TOP - NUMBERS
+        for a, b in rows_of_records(first, last):
+            self.row(a, b)
+
+    def row(self, first, last):
+        row = Row(self, first, last, self.bottom)
+        for drawn in (row.grid, row.bars, row.suspensions, row.marks):
+            drawn()
+        self.parts += row.parts
+        self.right, self.bottom, self.last_row = max(self.right, row.right), row.bottom + BETWEEN, row
 
     def legend(self):
-        """The signs and their meaning, and the refusals met, below the lanes."""
-        lines = ["bar: the frame a worker executes; dashed: it waits at a sync; grey and dotted: it has returned and waits for its children"]
-        lines.append("blue arrow: steal; green arrow: resumption; grey arrow: it ends with its last child")
-        lines.append("open dot: read; full dot: write; red cross: refused, with its number")
-        met = sorted({event.refusal for event in self.events} - {0})
-        lines += [f"refused {number}: {REFUSED[number]}" for number in met]
-        for line in lines:
-            self.parts.append(text(LEFT - 84, self.bottom + 10, line, ' fill="#444"'))
-            self.bottom += 16
-            self.right = max(self.right, LEFT - 84 + LETTER * len(line) + 16)
+        """An entry for each sign and each refusal met, below the rows."""
+        x, wide, self.bottom = LEFT - 84, max(self.right, 700), self.bottom + 10
+        for sign, words in ((sign, words) for key, sign, words in LEGEND if key in self.met):
+            end = x + 34 + LETTER * len(words)
+            if end > wide and x > LEFT - 84:
+                x, end, self.bottom = LEFT - 84, LEFT - 50 + LETTER * len(words), self.bottom + 24
+            self.entry(x, sign(x, self.bottom), words, "#444")
+            x = end + 22
+        self.bottom += 24
+        for number in sorted({event.refusal for event in self.run.events[self.first - 1 : self.last]} - {0}):
+            self.entry(LEFT - 84, cross(LEFT - 71, self.bottom), f"refused {number}: {REFUSED[number]}", RED)
+            self.bottom += 18
+
+    def entry(self, x, sign, words, colour):
+        self.parts.append(sign + text(x + 34, self.bottom + 4, words, f' fill="{colour}"'))
+        self.right = max(self.right, x + 34 + LETTER * len(words))
+
+    def title(self):
+        size = f"{size_words(self.run)}; {self.run.lines[-1]} at the end"
+        whole = (self.first, self.last) == (1, len(self.run.events))
+        return size if whole else f"{size}; records {self.first} to {self.last} of {len(self.run.events)}"
+
+
+def raw_words(record):
+    """A record that is no step, in two lines."""
+    return [f"raw {record[:4].hex()}", record[4:].hex()]
+
+
+def refused_words(event):
+    """A refused record with its fields."""
+    if event.refusal == 7:
+        return raw_words(event.record)
+    if event.kind == "write":
+        return [f"write {event.low}", f":= {event.value}"]
+    return [f"{event.kind} {event.low}" if event.kind in ("steal", "read") else event.kind]
 
 
 def label_words(event):
-    """(first line, second line, colour) of a record's label."""
+    """(lines, colour) of a record's label."""
     if event.refusal:
-        kind = event.kind if event.kind != "?" else "raw"
-        return kind, f"refused {event.refusal}", "#c00"
+        return refused_words(event) + [f"refused {event.refusal}"], RED
     me = name_text(event.frame)
     if event.kind == "read":
-        return f"read {event.low}", f"= {event.number}", "#222"
+        return [f"read {event.low}", f"= {event.number}"], BLACK
     if event.kind == "write":
-        return f"write {event.low}", f":= {event.value}", "#222"
+        return [f"write {event.low}", f":= {event.value}"], BLACK
     if event.kind == "spawn":
-        return "spawn", name_text(event.other), "#222"
+        return ["spawn", name_text(event.other)], BLACK
     if event.kind == "steal":
-        return "steal", me, "#1f4e9c"
+        return ["steal", me], BLUE
     if event.kind == "sync":
-        return "sync", "waits" if event.number else "passes", "#222"
+        return ["sync", "waits" if event.number else "passes"], BLACK
     ends = {0: "goes on", 1: "idle", 2: "resumes", 3: "run over", 4: "waits"}
-    first = f"return, {len(event.ended)} end" if len(event.ended) > 1 else "return"
-    return first, ends[event.number], "#1a7a3c" if event.number == 2 else "#222"
+    return [ended_words(len(event.ended)), ends[event.number]], GREEN if event.number == 2 else BLACK
 
 
-def picture(run, alike=True):
-    """The SVG text of a run whose records were run."""
-    drawing = Picture(run)
-    drawing.grid()
-    drawing.bars()
-    drawing.suspensions()
-    for column, event in enumerate(run.events, 1):
-        drawing.mark(column, event)
+def ended_words(count):
+    """At most 13 letters: a label's width."""
+    if count < 2:
+        return "return"
+    return f"return, {count} end" if count < 10 else f"return {count} end"
+
+
+def page(drawing, title, warning=""):
+    """The SVG text of a drawing with its legend, its title and a warning below that."""
     drawing.legend()
-    wide, high = drawing.right, drawing.bottom + 10
-    title = f"{run.workers} workers, {len(run.values)} splitters, {run.nodes} nodes; {run.lines[-1]} at the end"
-    loud = "" if alike else text(LEFT - 84, 42, "SPLITRUN DIFFERS FROM THIS, THE PLAIN MACHINE'S RUN", ' fill="#c00" font-weight="bold"')
-    head = f'<svg xmlns="http://www.w3.org/2000/svg" width="{wide:g}" height="{high:g}" viewBox="0 0 {wide:g} {high:g}" font-family="monospace" font-size="11">'
-    return "\n".join([head, rect(0, 0, wide, high, "#fff"), text(LEFT - 84, 24, title, ' font-size="14"'), loud, *drawing.parts, "</svg>"]) + "\n"
+    parts = [text(LEFT - 84, 24, title, ' font-size="14"')]
+    if warning:
+        parts.append(text(LEFT - 84, 40, warning, f' fill="{RED}" font-weight="bold"'))
+    wide, high = max(drawing.right + 10, 30 + 8.6 * len(title), 30 + 7 * len(warning)), drawing.bottom + 4
+    size = f'width="{wide:g}" height="{high:g}" viewBox="0 0 {wide:g} {high:g}"'
+    head = f'<svg xmlns="http://www.w3.org/2000/svg" {size} font-family="monospace" font-size="11">'
+    return "\n".join([head, rect(0, 0, wide, high, "#fff"), *parts, *drawing.parts, "</svg>"]) + "\n"
+
+
+def picture(run, alike=True, first=1, last=None):
+    """The SVG text of the records first to last of a run whose records were run."""
+    drawing = Picture(run, first, len(run.events) if last is None else last)
+    return page(drawing, drawing.title(), "" if alike else "SPLITRUN DIFFERS FROM THIS, THE PLAIN MACHINE'S RUN")

@@ -1,6 +1,8 @@
 """Each answer of a run in words, and two machines side by side."""
+from dataclasses import dataclass
+
 from .machine import name_text, tree_nodes
-from .script import record_line, split_input, split_records
+from .script import Expect, record_line, split_input, split_records
 
 # Document 01's sentences, "Refused, in checking order"; 16 as document 02, R-2, has it; 14 is gone with R-3.
 REFUSED = {
@@ -33,6 +35,8 @@ def who(name):
 def waited_words(event):
     """The frames that had returned before and waited, and now end too."""
     names = [who(name) for name in event.ended[1:]]
+    if len(names) > 4:
+        return f", and with it {len(names)} frames from {names[0]} up to {names[-1]}, which waited"
     return f", and with it {', '.join(names)}, which waited" if names else ""
 
 
@@ -89,9 +93,15 @@ def event_words(event):
     return f"refused {event.refusal}: {REFUSED[event.refusal]}{short}{bottom} Nothing changes. Free nodes: {event.free}"
 
 
+def size_words(run):
+    """2 workers, 5 splitters, 20 nodes"""
+    counts = ((run.workers, "worker"), (len(run.values), "splitter"), (run.nodes, "node"))
+    return ", ".join(count_words(count, what) for count, what in counts)
+
+
 def start_words(run):
     """The first line, in words."""
-    text = f"{run.workers} workers, {len(run.values)} splitters, {run.nodes} nodes"
+    text = size_words(run)
     if run.events is None:
         return text
     tree = tree_nodes(len(run.values))
@@ -126,10 +136,34 @@ def table(rows):
     return ["  ".join([*(c.ljust(w) for c, w in zip(row, widths)), row[-1]]).rstrip() for row in rows]
 
 
-def explained(data, run, printed):
+@dataclass
+class Missed:
+    """An expected answer that did not come, and the line that splitrun printed in its place."""
+
+    expect: Expect
+    got: str
+
+    def words(self):
+        what = f"record {self.expect.record}" if self.expect.record else "the last line"
+        return f"line {self.expect.line}: {what}: expected {self.expect.text}, splitrun says {self.got}"
+
+
+def missed(expects, printed):
+    """The expected answers that did not come."""
+    out = []
+    for expect in expects:
+        at = expect.record or len(printed) - 1
+        got = printed[at] if 0 <= at < len(printed) else "(no line)"
+        if got != expect.text:
+            out.append(Missed(expect, got))
+    return out
+
+
+def explained(data, run, printed, misses=()):
     """(text, whether all answers are alike) for splitrun's lines next to the plain machine's."""
     rows, alike = [("record", "step", "answer", "in words")], printed == run.lines
     words, steps = run_words(run), step_texts(data, run)
+    wrong = {miss.expect.record or len(printed) - 1: miss.expect for miss in misses}
     for at in range(max(len(printed), len(run.lines))):
         got = printed[at] if at < len(printed) else "(no line)"
         want = run.lines[at] if at < len(run.lines) else "(no line)"
@@ -138,6 +172,8 @@ def explained(data, run, printed):
         text = words[at] if at < len(words) else ""
         if got != want:
             text = f"!!! DIFFERS: splitrun says '{got}', the plain machine '{want}' ({text})"
+        if at in wrong:
+            text = f"!!! EXPECTED {wrong[at].text} (line {wrong[at].line}). {text}"
         rows.append((label, step, got, text))
     return "\n".join(table(rows)) + "\n", alike
 

@@ -3,11 +3,15 @@
 With note_b=True the machine has the bug of integration note B: a frame that resumes after its last
 child takes that child's values."""
 import struct
+from collections import Counter
 from dataclasses import dataclass
+from itertools import groupby
 
 from .script import NAMES, is_step, split_input, split_records
 
 MOST_FRAMES = 64
+# Splitrun's limits (document 01): past one of them it prints `unfit`.
+MOST_SPLITTERS, MOST_NODES, MOST_BYTES = 256, 1024, 16384
 
 
 def height(n):
@@ -20,18 +24,13 @@ def tree_nodes(n):
     return sum((n + 2**level - 1) >> level for level in range(height(n) + 1))
 
 
-def triples(marks):
-    """The triples of level, group and last write in the group; marks has the last write to each splitter."""
-    found, row = set(), list(marks)
-    for level in range(height(len(marks)) + 1):
-        found.update((level, group, mark) for group, mark in enumerate(row))
-        row = [max(row[at : at + 2]) for at in range(0, len(row), 2)]
-    return found
-
-
 def name_text(name):
-    """Main, or the chain of spawn ordinals: 1.2"""
-    return ".".join(str(k) for k in name) or "Main"
+    """Main, or the chain of spawn ordinals: 1.2; from three equal ones on, 1.2^3 is 1.2.2.2"""
+    parts = []
+    for ordinal, group in groupby(name):
+        count = len(list(group))
+        parts += [f"{ordinal}^{count}"] if count > 2 else [str(ordinal)] * count
+    return ".".join(parts) or "Main"
 
 
 @dataclass
@@ -62,17 +61,24 @@ class Event:
 
 
 class Frame:
-    """A live frame: its values, and for each splitter the number of its last write."""
+    """A live frame: its values, and on each level the number of the last write to each group."""
 
-    def __init__(self, name, values, marks):
-        self.name, self.values, self.marks = name, list(values), list(marks)
+    def __init__(self, name, values, levels):
+        self.name, self.values, self.levels = name, list(values), [list(row) for row in levels]
         self.children, self.spawned = 0, 0
         self.suspended = self.returning = False
-        self.triples = triples(marks)
 
-    def marks_after(self, splitter, mark):
-        """The marks after a write of this number."""
-        return self.marks[:splitter] + [mark] + self.marks[splitter + 1 :]
+    def path(self, splitter):
+        """The triples of level, group and last write that have the splitter in their group."""
+        return [(level, splitter >> level, row[splitter >> level]) for level, row in enumerate(self.levels)]
+
+    def triples(self):
+        return [(level, group, mark) for level, row in enumerate(self.levels) for group, mark in enumerate(row)]
+
+    def mark(self, splitter, write):
+        """A write of this number to the splitter: the last one in each of its groups."""
+        for level, row in enumerate(self.levels):
+            row[splitter >> level] = write
 
 
 class Machine:
@@ -81,21 +87,30 @@ class Machine:
     def __init__(self, workers, values, nodes, note_b=False):
         self.n, self.nodes, self.note_b = len(values), nodes, note_b
         self.writes = 0
-        main = Frame((), values, [0] * self.n)
+        self.held = Counter()  # of each distinct triple, how many live frames have it
+        main = Frame((), values, [[0] * ((self.n + 2**level - 1) >> level) for level in range(height(self.n) + 1)])
         self.frames = {(): main}
         self.deques = [[] for _ in range(workers)]
         self.deques[0].append(main)
-        self.count_free()
+        self.hold(main.triples())
 
-    def count_free(self):
-        used = set().union(*(frame.triples for frame in self.frames.values()))
-        self.free = self.nodes - len(used)
+    @property
+    def free(self):
+        """The pool's nodes less the distinct triples."""
+        return self.nodes - len(self.held)
+
+    def hold(self, triples):
+        self.held.update(triples)
+
+    def drop(self, triples):
+        for triple in triples:
+            self.held[triple] -= 1
+            if not self.held[triple]:
+                del self.held[triple]
 
     def new_nodes(self, frame, splitter):
-        """How many nodes more are in use after a write."""
-        others = (other.triples for other in self.frames.values() if other is not frame)
-        used = triples(frame.marks_after(splitter, self.writes + 1)).union(*others)
-        return len(used) - (self.nodes - self.free)
+        """How many distinct triples more there are after a write: its new ones, less those that only this frame had."""
+        return sum(self.held[triple] > 1 for triple in frame.path(splitter))
 
     def bottoms(self):
         return tuple(deque[-1].name if deque else None for deque in self.deques)
@@ -150,8 +165,9 @@ class Machine:
         parent = deque[-1]
         parent.children += 1
         parent.spawned += 1
-        child = Frame(parent.name + (parent.spawned,), parent.values, parent.marks)
+        child = Frame(parent.name + (parent.spawned,), parent.values, parent.levels)
         self.frames[child.name] = child
+        self.hold(child.triples())
         deque.append(child)
         event.other, event.number = child.name, len(child.name)
 
@@ -162,11 +178,11 @@ class Machine:
             event.number = 4
             return
         self.end(event, deque, frame)
-        self.count_free()
 
     def end(self, event, deque, frame):
         """The end of a frame, and of those above it that waited as returning for it alone: outcome 0 to 3."""
         del self.frames[frame.name]
+        self.drop(frame.triples())
         event.ended += (frame.name,)
         if frame.name == ():
             event.number = 3
@@ -187,9 +203,15 @@ class Machine:
             event.number, parent.suspended = 2, False
             deque.append(parent)
             if self.note_b:
-                parent.values, parent.marks, parent.triples = frame.values, frame.marks, frame.triples
+                self.take_view(parent, frame)
         else:
             event.number = 1
+
+    def take_view(self, parent, child):
+        """Note B's bug."""
+        self.drop(parent.triples())
+        parent.values, parent.levels = child.values, child.levels
+        self.hold(parent.triples())
 
     def do_steal(self, event, deque):
         frame = self.deques[event.low].pop(0)
@@ -207,9 +229,10 @@ class Machine:
     def do_write(self, event, deque):
         frame = deque[-1]
         self.writes += 1
-        frame.values[event.low], frame.marks = event.value, frame.marks_after(event.low, self.writes)
-        frame.triples = triples(frame.marks)
-        self.count_free()
+        self.drop(frame.path(event.low))
+        frame.values[event.low] = event.value
+        frame.mark(event.low, self.writes)
+        self.hold(frame.path(event.low))
         event.number = self.free
 
 
@@ -236,12 +259,35 @@ def whole_refusal(workers, values, nodes, tail):
     return 4 if len(tail) % 8 else 0
 
 
+def cut_short(data):
+    """What is missing in an input whose header or values are cut short."""
+    if len(data) < 8:
+        return f"the header is cut short: {len(data)} of 8 bytes"
+    return f"the values are cut short: {(len(data) - 8) // 4} of {struct.unpack('<H', data[2:4])[0]}"
+
+
+def unfit(data):
+    """The limits of splitrun that an input breaks, each (the script's line of it: 0 start, 1 values, 2 the first record; words)."""
+    parts = split_input(data)
+    if parts is None:
+        return [(0, cut_short(data))]
+    _, nodes, values, tail = parts
+    found = []
+    if nodes > MOST_NODES:
+        found.append((0, f"{nodes:,} nodes, and at most {MOST_NODES:,} fit"))
+    if len(values) > MOST_SPLITTERS:
+        found.append((1, f"{len(values):,} values, and at most {MOST_SPLITTERS} fit"))
+    if len(tail) > MOST_BYTES:
+        most = f"at most {MOST_BYTES:,} fit, that is {MOST_BYTES // 8:,} records"
+        found.append((2 + MOST_BYTES // 8, f"{len(tail):,} bytes of records, and {most}"))
+    return found
+
+
 def run(data, note_b=False):
     """The plain machine on splitrun's input bytes."""
-    parts = split_input(data)
-    if parts is None or len(parts[2]) > 256 or parts[1] > 1024 or len(parts[3]) > 16384:
+    if unfit(data):
         return Run(["unfit"])
-    workers, nodes, values, tail = parts
+    workers, nodes, values, tail = split_input(data)
     result = Run([f"{workers} {len(values)} {nodes}"], None, 0, workers, tuple(values), nodes)
     result.refused = whole_refusal(workers, values, nodes, tail)
     if result.refused:

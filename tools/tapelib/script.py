@@ -1,12 +1,26 @@
 """The readable script and splitrun's input bytes, both ways."""
+import codecs
 import re
 import struct
+from dataclasses import dataclass
 
 KINDS = {"spawn": 1, "return": 2, "steal": 3, "sync": 4, "read": 5, "write": 6}
 NAMES = {number: name for name, number in KINDS.items()}
 # What each kind is followed by: (what it is called, the largest that fits).
 SPLITTER, VICTIM, VALUE = ("splitter", 0xFFFF), ("victim", 0xFFFF), ("value", 0xFFFFFFFF)
 FIELDS = {"spawn": (), "return": (), "sync": (), "steal": (VICTIM,), "read": (SPLITTER,), "write": (SPLITTER, VALUE)}
+
+
+# A byte-order mark, and the encoding that it says. UTF-32's begins with UTF-16's.
+MARKS = (
+    (codecs.BOM_UTF8, "utf-8"),
+    (codecs.BOM_UTF32_LE, "utf-32-le"),
+    (codecs.BOM_UTF32_BE, "utf-32-be"),
+    (codecs.BOM_UTF16_LE, "utf-16-le"),
+    (codecs.BOM_UTF16_BE, "utf-16-be"),
+)
+DECIMAL = re.compile(r"[0-9]{1,20}")
+LAST_LINES = ("free", "refused")
 
 
 class ScriptError(Exception):
@@ -17,10 +31,15 @@ class ScriptError(Exception):
         self.line = line
 
 
+def shown(word):
+    """A word of the script for a message: cut if it is long, with signs that are not seen written out."""
+    return repr(word if len(word) <= 40 else word[:40] + "..")
+
+
 def number(line, word, what, most):
     """A decimal number from 0 to most."""
-    if not re.fullmatch(r"[0-9]{1,20}", word):
-        raise ScriptError(line, f"{what} must be a decimal number, not '{word}'")
+    if not DECIMAL.fullmatch(word):
+        raise ScriptError(line, f"{what} must be a decimal number, not {shown(word)}")
     if int(word) > most:
         raise ScriptError(line, f"{what} {word} is more than {most}")
     return int(word)
@@ -32,7 +51,7 @@ def raw_bytes(line, words):
         raise ScriptError(line, f"raw takes at most 8 bytes, not {len(words)}")
     for word in words:
         if not re.fullmatch(r"[0-9a-fA-F]{2}", word):
-            raise ScriptError(line, f"a raw byte is two hexadecimal digits, not '{word}'")
+            raise ScriptError(line, f"a raw byte is two hexadecimal digits, not {shown(word)}")
     return bytes(int(word, 16) for word in words)
 
 
@@ -43,7 +62,7 @@ def step_bytes(line, words):
         raise ScriptError(line, "the step's kind is missing")
     kind, rest = words[1], words[2:]
     if kind not in KINDS:
-        raise ScriptError(line, f"'{kind}' is no step; the steps are {', '.join(KINDS)}")
+        raise ScriptError(line, f"{shown(kind)} is no step; the steps are {', '.join(KINDS)}")
     fields = FIELDS[kind]
     if len(rest) != len(fields):
         wanted = " ".join(what for what, _ in fields) or "nothing"
@@ -71,24 +90,113 @@ def header_bytes(start, values):
 
 def records_bytes(lines):
     """The records of the lines after the header."""
-    out = b""
+    out = bytearray()
     for place, (line, words) in enumerate(lines):
         record = raw_bytes(line, words[1:]) if words[0] == "raw" else step_bytes(line, words)
         if len(record) < 8 and place + 1 < len(lines):
             raise ScriptError(line, "only the last line may be raw with fewer than 8 bytes")
         out += record
-    return out
+    return bytes(out)
+
+
+@dataclass
+class Expect:
+    """An answer that the script expects: its text, its line, and the record from 1 on; 0 is splitrun's last line."""
+
+    line: int
+    record: int
+    text: str
+
+
+@dataclass
+class Parsed:
+    """A script: splitrun's input, the numbers of its lines (start, values, each record; none if all are raw), what it expects."""
+
+    data: bytes
+    lines: list
+    expects: list
+
+
+def text_of(data):
+    """The text of a script's bytes: UTF-8, or as its byte-order mark says. Line ends are made alike."""
+    mark, name = next((pair for pair in MARKS if data.startswith(pair[0])), (b"", "utf-8"))
+    body = data[len(mark) :]
+    try:
+        text = body.decode(name)
+    except UnicodeDecodeError as error:
+        line = lines_before(body[: error.start].decode(name, "replace"))
+        raise ScriptError(line, f"byte 0x{body[error.start]:02x} is not {name.upper()}; save the script as UTF-8") from None
+    if "\0" in text:
+        line = lines_before(text[: text.index("\0")])
+        raise ScriptError(line, "a zero byte: no text, or UTF-16 without a byte-order mark; save the script as UTF-8")
+    return one_line_end(text)
+
+
+def one_line_end(text):
+    return text.replace("\r\n", "\n").replace("\r", "\n")
+
+
+def lines_before(text):
+    """The number of the line in which the text ends."""
+    return one_line_end(text).count("\n") + 1
+
+
+def expected_text(line, words):
+    """The answer after `expect`, as splitrun prints it."""
+    if len(words) != 2:
+        raise ScriptError(line, "expect takes an answer's two words, such as 105 50, or free N, or refused N")
+    if words[0] in LAST_LINES:
+        return f"{words[0]} {number(line, words[1], 'the expected number', 0xFFFFFFFF)}"
+    return " ".join(str(number(line, word, "an expected word", 0xFFFFFFFF)) for word in words)
+
+
+def split_expects(lines):
+    """(the lines without what is expected, each Expect): `expect` follows a step on its line or on one of its own."""
+    steps, expects = [], []
+    for line, words in lines:
+        if expects and not expects[-1].record:
+            raise ScriptError(expects[-1].line, f"expect {expects[-1].text} is about the last line of splitrun; nothing may come after it")
+        at = words.index("expect") if "expect" in words else len(words)
+        if at:
+            steps.append((line, words[:at]))
+        if at < len(words):
+            expects.append(expect_of(line, words[at + 1 :], len(steps) - 2))
+            check_place(expects, len(steps))
+    return steps, expects
+
+
+def expect_of(line, words, record):
+    text = expected_text(line, words)
+    return Expect(line, 0 if words[0] in LAST_LINES else record, text)
+
+
+def check_place(expects, steps):
+    """The newest Expect has a step before it (or start and values, if it is about the last line), and the step no other."""
+    new, last = expects[-1], expects[-1].text.startswith(LAST_LINES)
+    if steps < (2 if last else 3):
+        raise ScriptError(new.line, "expect stands after a step, and before the first step come start and values")
+    if len(expects) > 1 and expects[-2].record == new.record:
+        raise ScriptError(new.line, f"the answer to this step is expected in line {expects[-2].line} already")
+
+
+def parse(text):
+    """The script. One of raw lines alone is those bytes as they are."""
+    lines = [(at, line.split("#")[0].split()) for at, line in enumerate(text.split("\n"), 1)]
+    lines = [(at, words) for at, words in lines if words]
+    if not lines:
+        raise ScriptError(1, "the script is empty; the first line must be: start WORKERS NODES")
+    steps, expects = split_expects(lines)
+    if all(words[0] == "raw" for _, words in steps):
+        if expects:
+            raise ScriptError(expects[0].line, "a script of raw lines alone has no steps, so no answers to expect")
+        return Parsed(records_bytes(steps), [], [])
+    data = header_bytes(steps[0], steps[1] if len(steps) > 1 else None) + records_bytes(steps[2:])
+    return Parsed(data, [line for line, _ in steps], expects)
 
 
 def encode(text):
-    """Splitrun's input of a script. A script of raw lines alone is those bytes as they are."""
-    lines = [(at, line.split("#")[0].split()) for at, line in enumerate(text.split("\n"), 1)]
-    lines = [(at, words) for at, words in lines if words]
-    if lines and all(words[0] == "raw" for _, words in lines):
-        return records_bytes(lines)
-    if not lines:
-        raise ScriptError(1, "the script is empty; the first line must be: start WORKERS NODES")
-    return header_bytes(lines[0], lines[1] if len(lines) > 1 else None) + records_bytes(lines[2:])
+    """Splitrun's input of a script."""
+    return parse(text).data
 
 
 def is_step(record):

@@ -1,0 +1,183 @@
+#!/usr/bin/env python3
+"""Runs what docs/FORMATS.md shows: its tape writer, its image reader, its tables of lines, nodes and sizes.
+
+Needs target/bin/splitrun (or SPLITRUN), target/staticlib/libsplitter.a and gcc; without them the tests that need them are skipped."""
+import os
+import re
+import shutil
+import struct
+import subprocess
+import sys
+import tempfile
+import unittest
+from pathlib import Path
+
+ROOT = Path(__file__).resolve().parent.parent
+SPLITRUN = Path(os.environ.get("SPLITRUN", ROOT / "target/bin/splitrun"))
+ARCHIVE = ROOT / "target/staticlib/libsplitter.a"
+TEXT = (ROOT / "docs/FORMATS.md").read_text()
+WRITER, READER = re.findall(r"```python\n(.*?)```", TEXT, re.S)
+WRITE_8 = struct.pack("<BBHI", 6, 0, 0, 8)
+SIZES = [1, 10, 11, 20, 72, 1024, 2048, 16384]
+
+# The example's first five records, then a save into the file argv[1]. It prints the nodes after the start, answers, sizes.
+PROGRAM = """
+#include <stdio.h>
+#include "splitter.h"
+static struct splitter_state state;
+static uint32_t pool[80], work[20];
+static const uint32_t values[5] = {10, 20, 30, 40, 50}, sizes[] = {%s};
+static uint8_t image[SPLITTER_IMAGE_BYTES(20)];
+static const struct splitter_lent lent = {&state, pool, 80, work, 20};
+static void show(uint64_t answer) {
+    printf("%%u %%u\\n", splitter_answer_kind(answer), splitter_answer_number(answer));
+}
+int main(int argc, char **argv) {
+    FILE *file = argc == 2 ? fopen(argv[1], "wb") : NULL;
+    if (file == NULL || splitter_lent_start(&lent, 2, values, 5) != 0) { return 1; }
+    for (unsigned i = 0; i < 80; i += 4) { printf("%%u %%u %%u %%u\\n", pool[i], pool[i + 1], pool[i + 2], pool[i + 3]); }
+    show(splitter_lent_step(&lent, 257, 0, 0, 0));
+    show(splitter_lent_step(&lent, 1, 256, 0, 0));
+    show(splitter_lent_step(&lent, 5, 0, 65536, 0));
+    show(splitter_lent_step(&lent, 3, 1, 65536, 0));
+    show(splitter_spawn(&lent, 0));
+    show(splitter_steal(&lent, 1, 0));
+    show(splitter_write(&lent, 1, 4, 99));
+    show(splitter_read(&lent, 0, 4));
+    show(splitter_sync(&lent, 1));
+    for (unsigned i = 0; i < sizeof sizes / sizeof sizes[0]; i++) { printf("%%u\\n", (unsigned)splitter_image_bytes(sizes[i])); }
+    if (splitter_lent_save(&lent, image, sizeof image) != 0) { return 1; }
+    return fwrite(image, 1, sizeof image, file) != sizeof image || fclose(file) != 0;
+}
+""" % ", ".join(map(str, SIZES))
+
+
+def table(before):
+    """The rows, without the head, of the first table after these words."""
+    rows = []
+    for line in TEXT[TEXT.index(before) :].split("\n"):
+        if line.startswith("|"):
+            rows.append([cell.strip() for cell in line.strip("|").split("|")])
+        elif rows:
+            break
+    return rows[2:]
+
+
+def number(cell):
+    return 0xFFFFFFFF if cell == "none" else int(cell.replace(",", ""))
+
+
+def run_python(source, *words):
+    return subprocess.run([sys.executable, "-c", source, *words], capture_output=True, check=False)
+
+
+def splitrun(data):
+    return subprocess.run([SPLITRUN], input=data, capture_output=True, check=True).stdout.decode()
+
+
+def edge_records(cell):
+    """The records of a row of the edges: none, w, or so many bytes."""
+    if cell == "w":
+        return WRITE_8
+    return bytes(number(cell.split()[0])) if cell else b""
+
+
+def edge_input(workers, n, nodes, records):
+    return struct.pack(f"<HHI{n}I", workers, n, nodes, *range(n)) + records
+
+
+def whole_nodes(rows):
+    """The rows of the nodes, those of several nodes taken apart."""
+    for row in rows:
+        first, _, last = row[0].partition(" to ")
+        for i in range(int(last or first) - int(first) + 1):
+            spans = [cell.partition(" to ") for cell in row[1:5]]
+            step = [(number(end) - number(start)) // max(1, int(last or first) - int(first)) if end else 0 for start, _, end in spans]
+            yield [number(start) + by * i for (start, _, _), by in zip(spans, step)]
+
+
+class Tapes(unittest.TestCase):
+    def test_the_writer_writes_the_example(self):
+        self.assertEqual(run_python(WRITER).stdout, (ROOT / "crates/splitrun/stdin").read_bytes())
+
+    def test_the_example_in_bytes_is_the_example(self):
+        rows = table("nodes, the values 10 20 30 40 50")
+        data = b"".join(bytes.fromhex(row[0].split("`")[1]) for row in rows if row[0])
+        whole = (ROOT / "crates/splitrun/stdin").read_bytes()
+        self.assertEqual(data, whole[:8] + whole[28:])
+        self.assertEqual("".join(row[2].strip("`") + "\n" for row in rows), (ROOT / "crates/splitrun/stdout").read_text())
+
+    @unittest.skipUnless(SPLITRUN.exists(), "no splitrun")
+    def test_edges(self):
+        rows = table("Edges, each")
+        self.assertEqual(len(rows), 10)
+        for workers, n, nodes, records, lines in rows:
+            wanted = "".join(line + "\n" for line in re.findall(r"`(.*?)`", lines))
+            data = edge_input(number(workers), number(n), number(nodes), edge_records(records))
+            self.assertEqual(splitrun(data), wanted, lines)
+
+
+@unittest.skipUnless(ARCHIVE.exists() and shutil.which("gcc"), "no library or no gcc")
+class Images(unittest.TestCase):
+    @classmethod
+    def setUpClass(cls):
+        cls.scratch = tempfile.TemporaryDirectory()
+        folder = Path(cls.scratch.name)
+        (folder / "save.c").write_text(PROGRAM)
+        command = ["gcc", "-std=c99", f"-I{ROOT / 'host/include'}", "-o", folder / "save", folder / "save.c", ARCHIVE]
+        subprocess.run(command, check=True)
+        cls.image = folder / "image"
+        cls.said = subprocess.run([folder / "save", cls.image], capture_output=True, check=True).stdout.decode().split("\n")
+
+    @classmethod
+    def tearDownClass(cls):
+        cls.scratch.cleanup()
+
+    def read(self, data):
+        path = Path(self.scratch.name) / "changed"
+        path.write_bytes(data)
+        return run_python(READER, str(path))
+
+    def test_nodes_after_a_start(self):
+        wanted = [" ".join(map(str, node)) for node in whole_nodes(table("After a start with 5 splitters"))]
+        self.assertEqual(self.said[:20], wanted)
+
+    def test_answers(self):
+        self.assertEqual(self.said[20:29], ["7 0", "8 0", "15 0", "12 0", "101 1", "103 0", "106 5", "105 50", "104 1"])
+
+    def test_sizes(self):
+        rows = re.findall(r"\| bytes, version (\d) \|(.*)\|", TEXT)
+        sizes = {version: [number(cell.strip()) for cell in cells.split("|")] for version, cells in rows}
+        self.assertEqual([str(size) for size in sizes["1"]], self.said[29:37])
+        self.assertEqual(sizes["0"], [512 * -(-(909 + 4 * nodes) // 127) for nodes in SIZES])
+
+    def test_the_reader_prints_what_is_shown(self):
+        shown = TEXT[TEXT.index("saved after its fifth record") :].split("\n\n")[1]
+        wanted = "".join(line[4:] + "\n" for line in shown.split("\n"))
+        self.assertEqual(run_python(READER, str(self.image)).stdout.decode(), wanted)
+
+    def test_the_first_bytes(self):
+        shown = bytes.fromhex(re.search(r"that image begins `([0-9a-f ]+)`", TEXT)[1])
+        self.assertEqual(self.image.read_bytes()[: len(shown)], shown)
+
+    def test_the_reader_reads_the_form_before(self):
+        said = run_python(READER, str(ROOT / "tests/host/data/r1_run.image"))
+        self.assertEqual(said.stdout.decode().split("\n")[0], "version 0: 4 workers, 5 splitters, 40 nodes")
+
+    def test_the_reader_refuses_damage(self):
+        data = self.image.read_bytes()
+        changed = data[:700] + bytes([data[700] ^ 1]) + data[701:]
+        for bad, why in [(changed, "block 1: its check"), (data[:-512], "not as many"), (data[:100], "no whole block"), (b"", "no whole block")]:
+            said = self.read(bad)
+            self.assertEqual((said.returncode, said.stdout), (1, b""))
+            self.assertIn(why, said.stderr.decode())
+
+    def test_the_check_by_bytes_is_the_check_by_words(self):
+        data = self.image.read_bytes()
+        for at in range(0, len(data), 512):
+            by_bytes = sum(byte * 256 ** (offset % 4) for offset, byte in enumerate(data[at : at + 508])) % 2**32
+            self.assertEqual(by_bytes, struct.unpack_from("<I", data, at + 508)[0])
+
+
+if __name__ == "__main__":
+    unittest.main()
