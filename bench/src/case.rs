@@ -120,7 +120,7 @@ fn max_live(n: usize, nodes: usize) -> usize {
     MAX_LIVE.min((nodes - path_nodes(n)) / tree_nodes(n))
 }
 
-fn values(n: usize) -> Vec<u32> {
+pub fn values(n: usize) -> Vec<u32> {
     (0..n as u32).map(|i| 1000 + i).collect()
 }
 

@@ -1,12 +1,12 @@
 //! Every peer must answer as the library does, before anything is measured.
 
 use crate::case::{path_nodes, Case, Workload, SHARED_WRITES, WAITING};
+use crate::filling::{Filled, FullStep, FILLINGS, FULL_STEPS, POOL_FULL, WRITTEN};
 use crate::images;
+use crate::job::FULL_CALLS;
 use crate::measure::{answers, step_answers};
 use crate::peer::{Peer, PEERS};
 use crate::steps;
-
-const WRITTEN: u32 = 106;
 
 /// Peers with nodes: all words. Others: a write's second word, the free nodes, is left out.
 fn assert_same_answers(case: &Case, what: &str) {
@@ -88,9 +88,49 @@ fn assert_waits(workload: Workload, n: usize) {
     );
 }
 
-/// Every workload at every size, the single steps, and the images.
+/// Library and plain Rust fill the pools alike, and the write after a full pool's is the only one that both refuse, by 16.
+fn assert_filled() {
+    for filling in FILLINGS {
+        let case = Filled::new(filling).as_tape();
+        let given = answers(Peer::Library, &case);
+        let what = format!("pool {}", filling.name());
+        assert_eq!(given, answers(Peer::Plain, &case), "{what}: plain");
+        let mut refused = given.chunks(2).filter(|pair| pair[0] < 100);
+        assert_eq!(
+            refused.next(),
+            filling.is_full().then_some(&[POOL_FULL, 0][..]),
+            "{what}: the first refusal"
+        );
+        assert_eq!(refused.next(), None, "{what}: another refusal");
+    }
+}
+
+/// Steps in a full pool: the tape's answers, and those of single steps, are the same; only `Refused` is refused, by 16.
+fn assert_full_steps() {
+    for step in FULL_STEPS {
+        let case = step.case(FULL_CALLS);
+        let given = answers(Peer::Library, &case);
+        let what = format!("full pool, {}", step.name());
+        let expected = |pair: &[u32]| match step {
+            FullStep::Refused => *pair == [POOL_FULL, 0],
+            _ => pair[0] > 100,
+        };
+        assert!(given.chunks(2).all(expected), "{what}: other answers");
+        assert_eq!(given, answers(Peer::Plain, &case), "{what}: plain");
+        for peer in [Peer::Library, Peer::Plain] {
+            let steps = step_answers(peer, &case);
+            assert_eq!(given, steps.as_flattened(), "{what}: single steps");
+        }
+    }
+    let last = answers(Peer::Library, &FullStep::EndAll.case(1));
+    assert_eq!(last, [102, 3], "full pool: the return that ends all");
+}
+
+/// Every workload at every size, the single steps, the filled pools, and the images.
 pub fn all(workloads: &[Workload], sizes: &[usize]) {
     images::compare();
+    assert_filled();
+    assert_full_steps();
     for (workload, n, nodes) in steps::all() {
         let what = format!("single steps, {} {n}", workload.name());
         assert_same_steps(&Case::steps(workload, n, nodes), &what);

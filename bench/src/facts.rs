@@ -1,6 +1,7 @@
 //! Where and with what the figures were made.
 
 use std::fs;
+use std::path::Path;
 use std::process::Command;
 
 /// The archive that this program is linked with.
@@ -9,7 +10,11 @@ const ARCHIVE: &str = env!("SPLITTER_ARCHIVE");
 /// What a command prints, or a dash.
 fn said(program: &str, words: &[&str]) -> String {
     let output = Command::new(program).args(words).output();
-    let text = output.map(|output| String::from_utf8_lossy(&output.stdout).trim().to_string());
+    let text = output.map(|output| {
+        String::from_utf8_lossy(&output.stdout)
+            .trim_end()
+            .to_string()
+    });
     text.ok()
         .filter(|text| !text.is_empty())
         .unwrap_or_else(|| "-".into())
@@ -32,25 +37,40 @@ fn archive() -> String {
     )
 }
 
-/// The commit; dirty if a file of it has changed, but for what the bench itself writes.
-fn commit() -> String {
-    let git = |words: &[&str]| {
-        said(
-            "git",
-            &[&["-C", env!("CARGO_MANIFEST_DIR")], words].concat(),
-        )
-    };
-    let changed = git(&[
+/// What git says of the repository that this bench is of, or a dash.
+fn git(words: &[&str]) -> String {
+    let at = ["-C", env!("CARGO_MANIFEST_DIR")];
+    said("git", &[&at, words].concat())
+}
+
+/// The files that are changed or new since the commit, a line for each, but for what the bench itself writes.
+fn changes() -> Option<String> {
+    let files = git(&[
         "status",
         "--porcelain",
-        "--untracked-files=no",
+        "--untracked-files=normal",
         "--",
         ":/",
         ":(top,exclude)docs/BENCH.md",
         ":(top,exclude)docs/bench_*.svg",
     ]);
-    let dirty = if changed == "-" { "" } else { "-dirty" };
-    git(&["describe", "--always"]) + dirty
+    (files != "-").then_some(files)
+}
+
+fn commit() -> String {
+    let changed = changes().map_or("", |_| ", with changes");
+    git(&["describe", "--always"]) + changed
+}
+
+/// Why no report may be written to this folder: it is the repository's docs, and the tree is not that of a commit.
+pub fn objection(docs: &Path) -> Option<String> {
+    let of_repository = Path::new(&git(&["rev-parse", "--show-toplevel"])).join("docs");
+    let same = docs.canonicalize().ok()? == of_repository.canonicalize().ok()?;
+    let files = changes().filter(|_| same)?;
+    Some(format!(
+        "not written, as these files are changed or new since the commit:\n{files}\n\
+        Commit them first; or bench/run FOLDER writes there, and marks the commit \"with changes\"."
+    ))
 }
 
 /// Lines of a list in markdown.

@@ -4,6 +4,7 @@ use crate::case::{Standing, LONG_WORKLOADS, WORKLOADS};
 use crate::checks::{self, CheckCost};
 use crate::compare;
 use crate::facts;
+use crate::filled::{self, FilledCost, FullStepCost};
 use crate::images::{self, ImageCost};
 use crate::peer::PEERS;
 use crate::pictures;
@@ -16,6 +17,7 @@ use crate::timing::{self, Time};
 use std::fs;
 use std::io;
 use std::path::Path;
+use std::time::Duration;
 
 /// The sizes of the growth curves; those of the tables are among them.
 const GROWTH: [usize; 9] = [1, 2, 4, 8, 16, 32, 64, 128, 256];
@@ -31,14 +33,32 @@ pub struct Figures {
     pub sharing: Vec<CheckCost>,
     /// The same after writes in each frame.
     pub written: Vec<CheckCost>,
+    /// The check of filled pools.
+    pub filled: Vec<FilledCost>,
+    /// The check's time, of those that are timed.
+    pub filled_times: [Duration; 3],
+    /// Steps in a full pool.
+    pub full_steps: Vec<FullStepCost>,
     /// Single steps.
     pub steps: Vec<StepCost>,
     /// Saving and reading.
     pub images: Vec<ImageCost>,
 }
 
-/// Writes BENCH.md, bench_records.svg and bench_check.svg to `docs`, and prints the first.
+impl Figures {
+    /// The checks of all states but the filled pools.
+    pub fn checks(&self) -> impl Iterator<Item = &CheckCost> {
+        let all = [&self.over_nodes, &self.sharing, &self.written];
+        all.into_iter().flatten()
+    }
+}
+
+/// Writes BENCH.md, bench_records.svg and bench_check.svg to `docs`, and prints the first. To the repository's docs only from a commit.
 pub fn run(docs: &Path) -> io::Result<()> {
+    fs::read_dir(docs)?;
+    if let Some(objection) = facts::objection(docs) {
+        return Err(io::Error::other(objection));
+    }
     eprintln!("bench: all peers answer alike?");
     compare::all(&WORKLOADS, &GROWTH);
     let figures = measure();
@@ -62,18 +82,24 @@ fn measure() -> Figures {
     let facts = facts::list();
     eprintln!("bench: time");
     let times = timing::time_all(&LONG_WORKLOADS, &SIZES);
+    let filled_times = filled::times();
     eprintln!("bench: instructions of records");
     let costs = records::count(&PEERS, &WORKLOADS, &GROWTH);
     eprintln!("bench: instructions of the check");
     let all_sizes =
         |standings: fn(usize) -> Vec<Standing>| checks::count(&SIZES.map(standings).concat());
+    let filled = filled::count();
     eprintln!("bench: instructions of single steps");
     let steps = steps::count();
+    let full_steps = filled::count_steps();
     eprintln!("bench: instructions of saving and reading");
     let images = images::count();
     Figures {
         facts,
         stack: stack::measure(),
+        filled,
+        filled_times,
+        full_steps,
         steps,
         images,
         costs,

@@ -1,6 +1,7 @@
 //! A case by name, so that another process can be asked to run it.
 
-use crate::case::{Case, Standing, Workload};
+use crate::case::{Case, Standing, Workload, RECORDS};
+use crate::filling::{Filled, Filling, FullStep};
 
 #[derive(Clone, Copy, PartialEq, Eq, Debug)]
 pub enum Job {
@@ -14,7 +15,16 @@ pub enum Job {
     Steps(Workload, usize, usize),
     /// What is done with the image of such a state.
     Image(ImageCall, Standing),
+    /// An empty tape on a filled pool.
+    Filled(Filling),
+    /// Steps in a full pool, each in a call of its own.
+    FullSteps(FullStep),
+    /// Such steps as the records of one tape.
+    FullTape(FullStep),
 }
+
+/// Single steps in a full pool.
+pub const FULL_CALLS: usize = 16;
 
 #[derive(Clone, Copy, PartialEq, Eq, Debug)]
 pub enum ImageCall {
@@ -62,6 +72,9 @@ impl Job {
             Job::Rest(workload, n) => Case::records(workload, n).rest(workload),
             Job::Check(standing) | Job::Image(_, standing) => Case::standing(standing),
             Job::Steps(workload, n, nodes) => Case::steps(workload, n, nodes),
+            Job::Filled(filling) => Filled::new(filling).case(),
+            Job::FullSteps(step) => step.case(FULL_CALLS),
+            Job::FullTape(step) => step.case(RECORDS),
         }
     }
 
@@ -81,6 +94,9 @@ impl Job {
                 ]
                 .concat()
             }
+            Job::Filled(filling) => vec!["filled".into(), filling.name().into()],
+            Job::FullSteps(step) => vec!["full_steps".into(), step.name().into()],
+            Job::FullTape(step) => vec!["full_tape".into(), step.name().into()],
         }
     }
 
@@ -104,6 +120,9 @@ impl Job {
                 number(n)?,
                 number(nodes)?,
             )),
+            ["filled", filling] => Some(Job::Filled(Filling::named(filling)?)),
+            ["full_steps", step] => Some(Job::FullSteps(FullStep::named(step)?)),
+            ["full_tape", step] => Some(Job::FullTape(FullStep::named(step)?)),
             [workload, n] => Some(Job::Records(Workload::named(workload)?, number(n)?)),
             [workload, n, "rest"] => Some(Job::Rest(Workload::named(workload)?, number(n)?)),
             _ => None,

@@ -62,7 +62,7 @@ pub fn bench_measured_copy(image: &[u8], target: &mut [u8]) {
 pub fn once(peer: Peer, job: Job) {
     let case = job.case();
     match job {
-        Job::Steps(..) => {
+        Job::Steps(..) | Job::FullSteps(_) => {
             let steps = steps(&case);
             let mut answers = step_answers(peer, &case);
             bench_measured_steps(peer.begin(&case).as_mut(), &steps, &mut answers);
@@ -73,7 +73,7 @@ pub fn once(peer: Peer, job: Job) {
             assert!(again == image, "{}: reads something else", peer.name());
             image_call(peer, &case, call, &image);
         }
-        Job::Records(..) | Job::Rest(..) | Job::Check(_) => {
+        Job::Records(..) | Job::Rest(..) | Job::Check(_) | Job::Filled(_) | Job::FullTape(_) => {
             let mut answers = answers(peer, &case);
             let mut run = peer.begin(&case);
             let refusal = bench_measured(run.as_mut(), &case.tape, &mut answers);

@@ -3,6 +3,7 @@
 use crate::case::{Standing, MAX_NODES, WORKLOADS};
 use crate::checks;
 use crate::compare;
+use crate::filled;
 use crate::images;
 use crate::peer::Peer;
 use crate::records::{self, Cost};
@@ -31,6 +32,10 @@ pub fn run() {
         "{}",
         tables::checks(&checks::count(&standings())).markdown()
     );
+    println!("The same with n = 256 and 16,384 nodes, by how many are in use:\n");
+    println!("{}", tables::filled(&filled::count()).markdown());
+    println!("Instructions of steps in a full pool, the check included:\n");
+    println!("{}", tables::full_steps(&filled::count_steps()).markdown());
 }
 
 fn standings() -> Vec<Standing> {

@@ -6,11 +6,14 @@ use crate::case::{
 };
 use crate::checks::CheckCost;
 use crate::contents;
+use crate::filled::FilledCost;
 use crate::full::Figures;
 use crate::goals;
 use crate::images;
+use crate::job::FULL_CALLS;
 use crate::peer::PEERS;
 use crate::records::Cost;
+use crate::sizing;
 use crate::table::Table;
 use crate::tables;
 use crate::timing::{Time, ROUNDS};
@@ -51,18 +54,15 @@ const PICTURES: &str = "\
 ";
 
 pub fn text(figures: &Figures) -> String {
-    let checks: Vec<&CheckCost> = [&figures.over_nodes, &figures.sharing, &figures.written]
-        .into_iter()
-        .flatten()
-        .collect();
     [
         HEAD.to_string(),
         figures.facts.clone(),
+        sizing::text(figures),
         format!(
             "\n## Goals\n\n{}\n",
             goals::list(
                 &figures.costs,
-                &checks,
+                &check_ratios(figures),
                 &figures.images,
                 figures.stack.as_ref()
             )
@@ -74,10 +74,18 @@ pub fn text(figures: &Figures) -> String {
         rates(figures),
         steps(figures),
         check(figures),
+        filled(figures),
         saving(figures),
         PICTURES.to_string(),
     ]
     .concat()
+}
+
+/// Of every state measured.
+fn check_ratios(figures: &Figures) -> Vec<f64> {
+    let filled = figures.filled.iter().map(FilledCost::ratio);
+    let others = figures.checks().map(CheckCost::ratio);
+    others.chain(filled).collect()
 }
 
 fn section(title: &str, text: &str, table: Table) -> String {
@@ -182,6 +190,31 @@ random splitters in every frame after its spawn.";
         ),
     ]
     .concat()
+}
+
+fn filled(figures: &Figures) -> String {
+    let intro = "\
+Instructions of a call with an empty tape; n is 256, the pool has 16,384 nodes. Two workers, the second idle; the frames are a line of
+descendants of Main. Each makes its writes after its spawn, to random splitters, until so many nodes are in use, or, in a full pool, until
+a write is refused by 16: then fewer nodes are free than it needs. \"All splitters written\": full views, of which half the nodes are
+leaves. \"Writes far apart\": to every fourth splitter, so that three in four of the nodes that a frame takes are inner ones, which have two
+links to follow. \"Per node\" is per node of the pool.";
+    let steps = format!(
+        "\
+In the pool that is full after random writes. \"Single\" is a call with one step, its check included: the mean over {FULL_CALLS} calls, one after
+the other. \"In a tape\" is a call with 8,192 such records, its check included, divided by 8,192. A write that takes no node is one to a
+splitter that the frame has written since its spawn. Before the return that ends all frames the second worker steals all but the last one,
+and they wait as returning: it is one call, and frees all nodes."
+    );
+    section(
+        "The soundness check of a filled pool",
+        intro,
+        tables::filled(&figures.filled),
+    ) + &section(
+        "Steps in a full pool",
+        &steps,
+        tables::full_steps(&figures.full_steps),
+    )
 }
 
 fn saving(figures: &Figures) -> String {

@@ -2,6 +2,8 @@
 
 use crate::case::{Workload, LONG_WORKLOADS};
 use crate::checks::CheckCost;
+use crate::filled::{self, FilledCost, FullStepCost};
+use crate::filling::Filling;
 use crate::images::{CallCosts, ImageCost};
 use crate::peer::{Peer, PEERS};
 use crate::records::{self, Cost};
@@ -104,6 +106,70 @@ pub fn checks(checks: &[CheckCost]) -> Table {
             format!("{:.2}", check.ratio()),
         ];
         table.row([numbers.to_vec(), costs].concat());
+    }
+    table
+}
+
+/// The check of filled pools, also per node of the pool and against that of the untouched one.
+pub fn filled(costs: &[FilledCost]) -> Table {
+    let header = [
+        "pool",
+        "nodes in use",
+        "live frames",
+        "writes each",
+        "library",
+        "plain",
+        "library / plain",
+        "library per node",
+        "library / untouched",
+    ];
+    let untouched = filled::find(costs, Filling::Untouched).library as f64;
+    let mut table = Table::new(header.map(String::from).into());
+    for cost in costs {
+        table.row(vec![
+            cost.filling.name().to_string(),
+            grouped(cost.used as u64),
+            cost.frames.to_string(),
+            cost.filling.writes().to_string(),
+            grouped(cost.library),
+            grouped(cost.plain),
+            format!("{:.2}", cost.ratio()),
+            format!("{:.1}", cost.per_node()),
+            format!("{:.2}", cost.library as f64 / untouched),
+        ]);
+    }
+    table
+}
+
+/// Steps in a full pool, in calls of their own and as records of a tape.
+pub fn full_steps(costs: &[FullStepCost]) -> Table {
+    let header = [
+        "step",
+        "single, library",
+        "single, plain",
+        "library / plain",
+        "in a tape, library",
+        "in a tape, plain",
+        "library / plain",
+    ];
+    let mut table = Table::new(header.map(String::from).into());
+    for cost in costs {
+        let single = cost.single.map(|count| grouped(count.round() as u64));
+        let taped = match cost.taped {
+            Some(taped) => taped.map(|count| format!("{count:.1}")),
+            None => ["-", "-"].map(String::from),
+        };
+        let ratio = |[library, plain]: [f64; 2]| format!("{:.2}", library / plain);
+        table.row(
+            [
+                vec![cost.step.name().to_string()],
+                single.to_vec(),
+                vec![ratio(cost.single)],
+                taped.to_vec(),
+                vec![cost.taped.map_or("-".into(), ratio)],
+            ]
+            .concat(),
+        );
     }
     table
 }

@@ -62,6 +62,11 @@ fn time_peers(workload: Workload, n: usize) -> Vec<Time> {
     times.into()
 }
 
+/// The time of the library's first call with an empty tape.
+pub fn time_first(case: &Case) -> Duration {
+    clock(Peer::Library.begin(case).as_mut(), &[], &mut [])
+}
+
 fn clock(run: &mut dyn Run, tape: &[u8], answers: &mut [u32]) -> Duration {
     let begun = Instant::now();
     let refusal = bench_measured(run, tape, answers);

@@ -37,20 +37,20 @@ pub const WRITE: u32 = 6;
 #[derive(Clone, Copy, Debug, PartialEq, Eq)]
 #[repr(u32)]
 pub enum Refusal {
-    NoValues = 1,
-    NoWorkers,
-    NoNodes,
+    BadValueCount = 1,
+    BadWorkerCount,
+    BadNodeCount,
     BadTape,
     ShortWork,
     Unsound,
     BadRecord,
-    NoWorker,
-    MainReturned,
-    WorkerIdle,
+    UnknownWorker,
+    RunIsOver,
+    WorkerHasNoFrame,
     ThiefBusy,
-    NoVictim,
+    NothingToSteal,
     FramesFull,
-    NoSplitter = 15,
+    UnknownSplitter = 15,
     PoolFull,
 }
 
@@ -259,11 +259,11 @@ pub fn start(workers: u32, values: &[u32], pool: &mut [u32]) -> (State, u32) {
 
 fn refuse_start(workers: u32, values: usize, nodes: usize) -> Option<Refusal> {
     if values == 0 || values > MAX_SPLITTERS {
-        Some(Refusal::NoValues)
+        Some(Refusal::BadValueCount)
     } else if workers == 0 || workers as usize > MAX_WORKERS {
-        Some(Refusal::NoWorkers)
+        Some(Refusal::BadWorkerCount)
     } else if nodes < tree_nodes(values as u32) as usize || nodes > MAX_NODES {
-        Some(Refusal::NoNodes)
+        Some(Refusal::BadNodeCount)
     } else {
         None
     }
@@ -425,12 +425,12 @@ impl<'a> Engine<'a> {
     /// The bottom frame of a worker. A worker that is not idle shows that Main lives.
     fn bottom(&self, worker: u32) -> Result<usize, Refusal> {
         if worker >= self.state.workers {
-            return Err(Refusal::NoWorker);
+            return Err(Refusal::UnknownWorker);
         }
         match self.state.deques[worker as usize].bottom() {
             Some(frame) => Ok(frame as usize),
-            None if self.main_lives => Err(Refusal::WorkerIdle),
-            None => Err(Refusal::MainReturned),
+            None if self.main_lives => Err(Refusal::WorkerHasNoFrame),
+            None => Err(Refusal::RunIsOver),
         }
     }
 
@@ -531,11 +531,11 @@ impl<'a> Engine<'a> {
     fn steal(&mut self, thief: u32, victim: u32) -> Result<u32, Refusal> {
         match self.bottom(thief) {
             Ok(_) => return Err(Refusal::ThiefBusy),
-            Err(Refusal::WorkerIdle) => {}
+            Err(Refusal::WorkerHasNoFrame) => {}
             Err(refusal) => return Err(refusal),
         }
         if victim >= self.state.workers || self.state.deques[victim as usize].length < 2 {
-            return Err(Refusal::NoVictim);
+            return Err(Refusal::NothingToSteal);
         }
         let stolen = self.state.deques[victim as usize].take_top();
         self.state.deques[thief as usize].push(stolen);
@@ -559,7 +559,7 @@ impl<'a> Engine<'a> {
     fn read(&mut self, worker: u32, splitter: u32) -> Result<u32, Refusal> {
         let bottom = self.bottom(worker)?;
         if splitter >= self.state.splitters {
-            return Err(Refusal::NoSplitter);
+            return Err(Refusal::UnknownSplitter);
         }
         let mut node = self.state.frames[bottom].root;
         for level in (0..self.height).rev() {
@@ -575,7 +575,7 @@ impl<'a> Engine<'a> {
     fn write(&mut self, worker: u32, splitter: u32, value: u32) -> Result<u32, Refusal> {
         let bottom = self.bottom(worker)?;
         if splitter >= self.state.splitters {
-            return Err(Refusal::NoSplitter);
+            return Err(Refusal::UnknownSplitter);
         }
         let mut node = self.state.frames[bottom].root;
         let mut above = NONE;

@@ -1,0 +1,90 @@
+//! The report's first section, for whoever sizes a pool: what the check costs at most.
+
+use crate::case::MAX_NODES;
+use crate::filled::{self, FilledCost, FullStepCost, TIMED, TIMED_POOLS};
+use crate::filling::{FullStep, N};
+use crate::full::Figures;
+use crate::goals::CHECK_LIMIT;
+use crate::table::grouped;
+
+/// Instructions that a check takes at most in the states measured: some, and so many for each node of the pool.
+struct Bound {
+    first: u64,
+    per_node: u64,
+}
+
+impl Bound {
+    fn of(figures: &Figures) -> Self {
+        let per_node = filled::most(&figures.filled).per_node().ceil() as u64;
+        let beside = |nodes: usize, library: u64| library.saturating_sub(per_node * nodes as u64);
+        let checks = figures.checks();
+        let most = checks.map(|check| beside(check.standing.nodes, check.library));
+        Bound {
+            first: most.max().unwrap_or(0).next_multiple_of(100),
+            per_node,
+        }
+    }
+}
+
+pub fn text(figures: &Figures) -> String {
+    let most = filled::most(&figures.filled);
+    let [untouched, full, apart] = TIMED.map(|filling| filled::find(&figures.filled, filling));
+    let [time, full_time, apart_time] = figures.filled_times.map(|time| time.as_secs_f64() * 1e6);
+    let Bound { first, per_node } = Bound::of(figures);
+    let step = |step| single(&figures.full_steps, step);
+    let read = step(FullStep::Read);
+    format!(
+        "
+## Sizing
+
+**The soundness check costs at most {per_node} instructions per node of the pool, and {first} beside, in every state measured; it is paid once
+per call, whether the call has one step or a tape of thousands.** A node in use costs more than a free one, so size by the full pool. With
+{nodes} nodes and n = {N} the check takes {untouched} instructions while the pool is untouched and up to {most} when it is full,
+{times:.1} times as many ({used} nodes in use, {frames} live frames). {plain}
+
+Size by the instructions, as time need not follow them. The check of a pool that was not checked before takes on this machine, as the
+median of {TIMED_POOLS} pools: untouched ({untouched} instructions) {time:.0} microseconds, full after random writes ({full}) {full_time:.0}, full after writes
+far apart ({apart}; these pools differ in their values only) {apart_time:.0}. Repeated on a pool that has not changed it can be faster.
+
+A save pays the check too, and a reading, for what it has read. In the full pool of \"Steps in a full pool\" a read in a call of its own
+takes {single} instructions, nearly all of them the check; as one of 8,192 records of a tape it takes {taped:.0}, its share of the check
+included. The costliest step there is a return that ends all frames and frees all nodes: {end} instructions.
+",
+        first = grouped(first),
+        nodes = grouped(MAX_NODES as u64),
+        untouched = grouped(untouched.library),
+        most = grouped(most.library),
+        full = grouped(full.library),
+        apart = grouped(apart.library),
+        times = most.library as f64 / untouched.library as f64,
+        used = grouped(most.used as u64),
+        frames = most.frames,
+        plain = against_plain(&figures.filled),
+        single = whole(read.single[0]),
+        taped = read.taped.map_or(0.0, |[library, _]| library),
+        end = whole(step(FullStep::EndAll).single[0]),
+    )
+}
+
+fn single(costs: &[FullStepCost], step: FullStep) -> &FullStepCost {
+    let found = costs.iter().find(|cost| cost.step == step);
+    found.expect("it was counted")
+}
+
+fn whole(count: f64) -> String {
+    grouped(count.round() as u64)
+}
+
+fn against_plain(costs: &[FilledCost]) -> String {
+    let ratios = || costs.iter().map(FilledCost::ratio);
+    let (least, most) = (
+        ratios().fold(f64::MAX, f64::min),
+        ratios().fold(0.0, f64::max),
+    );
+    let kept = if most <= CHECK_LIMIT {
+        "within"
+    } else {
+        "above"
+    };
+    format!("That is {least:.2} to {most:.2} times plain Rust's, {kept} the goal of {CHECK_LIMIT}.")
+}
