@@ -12,6 +12,7 @@ use Rattle.words.specs.Loops.{follow-none, follow-step}
 use Rattle.pool.specs.Pool.{nextFree}
 use Rattle.soundness.specs.Numbers.{numbersIn}
 use Rattle.soundness.specs.Soundness.{freeCount}
+use Rattle.image.specs.Widths.{numberCount}
 use Rattle.splitter.specs.Queries.{freeOn}
 
 module _ (next : ℕ → ℕ) (m k a : ℕ) where
@@ -32,16 +33,16 @@ chain-start next m a = let f : m - 0 ≡ m = omega arith in omega (arith, ap (λ
 -- ---- the ways out of `splitter_free_nodes`
 
 module _ (ns ws : List ℕ) where
-  pub free-other : length ns ≢ 5 → 0 ≡ freeOn ns ws
+  pub free-other : length ns ≢ numberCount → 0 ≡ freeOn ns ws
   unfolding freeOn
-  free-other h = rw (ne-eqb (length ns) 5 h)
+  free-other h = rw (ne-eqb (length ns) numberCount h)
 
-  pub free-short : length ns ≡ 5 → length ws / 4 < getD ns 2 0 → 0 ≡ freeOn ns ws
+  pub free-short : length ns ≡ numberCount → length ws / 4 < getD ns 2 0 → 0 ≡ freeOn ns ws
   unfolding freeOn
-  free-short l h = rw (eq-eqb (length ns) 5 l, lt-leb (getD ns 2 0) (length ws / 4) h)
+  free-short l h = rw (eq-eqb (length ns) numberCount l, lt-leb (getD ns 2 0) (length ws / 4) h)
 
-  pub free-counted : (r : ℕ) → length ns ≡ 5 → getD ns 2 0 ≤ length ws / 4 → r ≡ length (follow (getD ns 2 0 + 1) (nextFree ws) (getD ns 3 0)) → r ≡ freeOn ns ws
+  pub free-counted : (r : ℕ) → length ns ≡ numberCount → getD ns 2 0 ≤ length ws / 4 → r ≡ length (follow (getD ns 2 0 + 1) (nextFree ws) (getD ns 3 0)) → r ≡ freeOn ns ws
   unfolding freeOn
   free-counted r l h e =
       let f : r ≡ freeCount (numbersIn ns) ws = e ∙ ap (λ (m : ℕ). length (follow m (nextFree ws) (getD ns 3 0))) (add-one (getD ns 2 0)) in
-      rw (eq-eqb (length ns) 5 l, le-leb (getD ns 2 0) (length ws / 4) h) f
+      rw (eq-eqb (length ns) numberCount l, le-leb (getD ns 2 0) (length ws / 4) h) f

@@ -6,9 +6,10 @@ use lib.ListN.{length}
 use lib.Dec.{eqb, leb}
 use Rattle.soundness.specs.Numbers.{numbersIn}
 use Rattle.soundness.specs.Soundness.{freeCount}
+use Rattle.image.specs.Widths.{numberCount}
 use Rattle.semantics.specs.Entries.{wholeNodes}
 
--- the nodes on the free chain of the state with the numbers ns and the pool ws; 0 where ns are not five numbers, or the pool holds fewer nodes
--- than they record
+-- the nodes on the free chain of the state with the numbers ns and the pool ws; 0 where ns have another length than they must have, or the pool
+-- holds fewer nodes than they record
 unfoldable pub freeOn : List ℕ → List ℕ → ℕ
-freeOn ns ws = cond (eqb (length ns) 5 && leb (numbersIn ns .nodes) (wholeNodes ws)) (freeCount (numbersIn ns) ws) 0
+freeOn ns ws = cond (eqb (length ns) numberCount && leb (numbersIn ns .nodes) (wholeNodes ws)) (freeCount (numbersIn ns) ws) 0

@@ -5,6 +5,8 @@ ghost use lib.ListN.{length};
 ghost use Rattle.words.specs.Basics.{follow};
 ghost use Rattle.pool.specs.Pool.{nextFree};
 ghost use Rattle.splitter.specs.Queries.{freeOn};
+use image::NODE_WORDS;
+use image::NUMBER_COUNT;
 use pool::NONE;
 use pool::left_of;
 
@@ -30,11 +32,11 @@ fn chain_length(pool: &[u32], first: u32, most: u64) -> u64
 pub extern "C" fn splitter_free_nodes(numbers: &[u32], pool: &[u32]) -> u64
     ensures { λ r. ⌜ r ≡ freeOn (now (numbers .entry)) (now (pool .entry)) ⌝ }
 {
-    if numbers.len() != 5 {
+    if numbers.len() != NUMBER_COUNT {
         return 0;
     }
     let nodes = numbers[2] as usize;
-    if pool.len() / 4 < nodes {
+    if pool.len() / NODE_WORDS < nodes {
         return 0;
     }
     chain_length(pool, numbers[3], nodes as u64 + 1)
