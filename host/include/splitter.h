@@ -237,9 +237,9 @@ uint64_t splitter_image_bytes(uint32_t nodes);
  * for 0; a start takes 1 to SPLITTER_MAX_SPLITTERS splitters. */
 uint64_t splitter_tree_nodes(uint32_t n);
 
-/* The free nodes of a sound state and its pool, as a write's answer tells them, asked without one. It follows the free nodes one by one. 0 if
- * numbers has another length than SPLITTER_NUMBERS_WORDS or the pool holds fewer nodes than recorded; of a state that is not sound some
- * number, after at most nodes + 1 steps. Only reads, and needs no work slice. */
+/* The free nodes of a sound state and its pool, as a write's answer tells them, asked without one. It follows the free nodes one by one.
+ * 0 if numbers has another length than SPLITTER_NUMBERS_WORDS or the pool holds fewer nodes than recorded; of a state that is not sound
+ * some number, after at most nodes + 1 steps. Only reads, and needs no work slice. */
 uint64_t splitter_free_nodes(const uint32_t *SPLITTER_RESTRICT numbers, splitter_len numbers_len,
                              const uint32_t *SPLITTER_RESTRICT pool, splitter_len pool_len);
 

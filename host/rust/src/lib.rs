@@ -204,7 +204,7 @@ impl Engine<'_> {
         }
     }
 
-    /// The free nodes of a sound state and its pool: what the last write gave, without a write. 0 if the pool
+    /// The free nodes of a sound state and its pool, as a write tells them, asked without one. 0 if the pool
     /// holds fewer nodes than recorded; of a state that is not sound some number.
     pub fn free_nodes(&self) -> u64 {
         raw::free_nodes(&self.state.numbers, self.pool)
