@@ -2,7 +2,7 @@
 use mathlib.Core.Path.{_≡_}
 use mathlib.Core.Bool.{Bool, true, false, cond, not, _||_, _&&_}
 use mathlib.Core.List.{List, [], _∷_, _++_}
-use Prim.Native.Nat.{ℕ, zero, suc, _+_, _%_, _^_, _<_}
+use Prim.Native.Nat.{ℕ, zero, suc, _+_, _-_, _*_, _%_, _^_, _<_}
 use lib.Dec.{eqb, ltb}
 
 -- document 01: "None is 4,294,967,295"
@@ -12,6 +12,14 @@ none = 4294967295
 -- a + b in a word
 abbrev pub plus : ℕ → ℕ → ℕ
 plus a b = (a + b) % 2 ^ 32
+
+-- a - b in a word
+abbrev pub minus : ℕ → ℕ → ℕ
+minus a b = (a + (2 ^ 32 - b)) % 2 ^ 32
+
+-- a * b in a word
+abbrev pub times : ℕ → ℕ → ℕ
+times a b = (a * b) % 2 ^ 32
 
 -- f 0 + .. + f (k - 1)
 abbrev pub sum : ℕ → (ℕ → ℕ) → ℕ
@@ -46,6 +54,11 @@ Chain next N a (x ∷ xs) = (a ≡ x) × (x < N) × Chain next N (next x) xs
 abbrev pub all : ℕ → (ℕ → Bool) → Bool
 all zero f = true
 all (suc n) f = all n f && f n
+
+-- f holds of some number below n
+abbrev pub some : ℕ → (ℕ → Bool) → Bool
+some zero f = false
+some (suc n) f = some n f || f n
 
 -- of how many numbers below n it holds
 abbrev pub howMany : ℕ → (ℕ → Bool) → ℕ

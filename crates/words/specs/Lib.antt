@@ -14,3 +14,5 @@ pub mod Tallies
 pub mod Below
 -- a chain that is followed to its end
 pub mod Followed
+-- linked lists: one more at the end, one taken out
+pub mod Linked

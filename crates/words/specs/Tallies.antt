@@ -2,17 +2,17 @@
 use mathlib.Core.Path.{_≡_, refl, sym, ap, _∙_}
 use mathlib.Core.Logic.{_≢_, _⊎_, inl, inr}
 use mathlib.Core.Bool.{Bool, true, false, cond, _||_, _&&_}
-use mathlib.Core.List.{List, _∷_}
+use mathlib.Core.List.{List, [], _∷_}
 use Prim.Native.Nat.{ℕ, zero, suc, _+_, _*_, _≤_, _<_}
 use native.Mathlib.Omega.{arith}
 use native.Mathlib.Decide.{ℕ-discrete}
 use lib.ListN.{length}
-use lib.Dec.{eqb}
+use lib.Dec.{eqb, ltb}
 use borrow.Author.Tests.{eq-eqb, ne-eqb, eqb-true}
 pub use Rattle.words.specs.Loops.{follow-step, follow-none}
-use Rattle.words.specs.Basics.{none, sum, all, howMany, implies, count, follow}
-use Rattle.words.specs.Tests.{decided, true≢false}
-use Rattle.words.specs.Counting.{sum-upd, sum-ge, sum-one, all-at, all-of, howMany-zero, howMany-none, hit, miss, δ-same, δ-other, count-cons}
+use Rattle.words.specs.Basics.{none, sum, all, some, howMany, implies, count, follow, below}
+use Rattle.words.specs.Tests.{decided, true≢false, both, lt-of}
+use Rattle.words.specs.Counting.{sum-upd, sum-ge, sum-zero, sum-one, when, when-zero, when-pos, all-at, all-of, howMany-zero, howMany-none, hit, miss, δ-same, δ-other, count-nil, count-cons}
 
 -- ---- tests
 
@@ -102,6 +102,42 @@ count-step i x xs = elim (ℕ-discrete x i) [
   | yes e ↦ rw (count-cons i x xs, eq-eqb x i e, e, δ-same i)
   | no e ↦ rw (count-cons i x xs, ne-eqb x i e, δ-other i x (λ d. e (sym d)))
 ]
+
+-- ---- a test that holds of some number below n
+
+pub some-at : (n : ℕ) (f : ℕ → Bool) → some n f ≡ true → (i : ℕ) × (i < n) × (f i ≡ true)
+some-at zero f e = absurd (true≢false (sym e))
+some-at (suc n) f e = elim (either (some n f) (f n) e) [
+  | inl h ↦ (let r = some-at n f h in (r .0, omega (arith, r .1), r .2))
+  | inr h ↦ (n, omega arith, h)
+]
+
+pub some-of : (n : ℕ) (f : ℕ → Bool) (i : ℕ) → i < n → f i ≡ true → some n f ≡ true
+some-of zero f i b e = absurd (omega arith)
+some-of (suc n) f i b e = elim (ℕ-discrete i n) [
+  | yes d ↦ or-right (some n f) (ap f (sym d) ∙ e)
+  | no d ↦ or-left (f n) (some-of n f i (omega arith) e)
+]
+
+-- ---- a sum over a list of numbers below N, each there once
+
+abbrev pub total : (ℕ → ℕ) → List ℕ → ℕ
+total g [] = 0
+total g (x ∷ xs) = g x + total g xs
+
+pub total-sum : (N : ℕ) (g : ℕ → ℕ) (L : List ℕ) → below N L ≡ true → ((p : ℕ) → p < N → count p L ≤ 1) → total g L ≡ sum N (λ p. when (count p L) (g p))
+total-sum N g [] b h = sym (sum-zero N (λ p. when (count p []) (g p)) (λ p c. when-zero (count p []) (g p) (count-nil p)))
+total-sum N g (x ∷ L) b h =
+    let r = both (ltb x N) (below N L) b in
+    let z : count x L ≡ 0 = omega (arith, h x (lt-of (r .0)), count-cons x x L, δ-same x) in
+    omega (
+      arith,
+      total-sum N g L (r .1) (λ p c. omega (arith, h p c, count-cons p x L)),
+      sum-upd N x (λ p. when (count p (x ∷ L)) (g p)) (λ p. when (count p L) (g p)) (lt-of (r .0))
+          (λ p c d. ap (λ k. when k (g p)) (count-cons p x L ∙ omega (arith, δ-other p x d))),
+      when-zero (count x L) (g x) z,
+      when-pos (count x (x ∷ L)) (g x) (omega (arith, count-cons x x L, δ-same x)),
+    )
 
 -- ---- the list that a chain is followed to
 

@@ -3,7 +3,7 @@ ghost use mathlib.Core.Path.{_≡_};
 ghost use mathlib.Core.List.{_++_};
 ghost use Prim.Native.Nat.{_-_, _≤_};
 ghost use lib.ListN.{length, getD, set, drop, replicate};
-ghost use Rattle.words.specs.Basics.{plus};
+ghost use Rattle.words.specs.Basics.{plus, minus, times};
 
 // The word at `at`, and 0 past the end.
 pub fn word(ws: &[u32], at: usize) -> u32
@@ -63,4 +63,18 @@ pub fn sub(a: u32, b: u32) -> u32
     ensures { λ r. ⌜ r ≡ a - b ⌝ }
 {
     if a < b { 0 } else { a - b }
+}
+
+// a - b in a word.
+pub fn wrapping_sub(a: u32, b: u32) -> u32
+    ensures { λ r. ⌜ r ≡ minus a b ⌝ }
+{
+    std::num::wrapping_sub_u32(a, b)
+}
+
+// a * b in a word. (std::num has no wrapping multiply.)
+pub fn mul(a: u32, b: u32) -> u32
+    ensures { λ r. ⌜ r ≡ times a b ⌝ }
+{
+    ((a as u64 * b as u64) % 4294967296) as u32
 }
