@@ -12,3 +12,5 @@ pub mod Wide
 pub mod Random
 -- records, as bytes, to steps
 pub mod Records
+-- tapes with folds
+pub mod Folds

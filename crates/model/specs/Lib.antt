@@ -4,6 +4,8 @@ pub mod Machine
 pub mod Steps
 pub mod Run
 pub mod Demand3
+-- R-5: what the frames have folded.
+pub mod Views
 pub mod Record
 -- What is proved about them.
 pub mod Theory

@@ -6,7 +6,7 @@ use lib.ListN.{length, getD}
 use lib.Dec.{ltb, eqb}
 use Rattle.model.specs.Steps.{firstTrue}
 use Rattle.model.specs.declared.Step.{Step}
-use Rattle.model.specs.declared.Step.the-variants.{Spawn, Return, Steal, Sync, Read, Write}
+use Rattle.model.specs.declared.Step.the-variants.{Spawn, Return, Steal, Sync, Read, Write, Fold}
 use Rattle.model.specs.declared.Decoded.{Decoded}
 use Rattle.model.specs.declared.Decoded.the-variants.{Valid, Invalid}
 
@@ -19,7 +19,7 @@ little (b ∷ bs) = b + 256 * little bs
 unfoldable pub unusedSet : ℕ → ℕ → ℕ → Bool
 unusedSet kind field value =
     cond (eqb kind 5) (not (eqb value 0))
-    (cond (eqb kind 6) false (cond (not (eqb value 0)) true (cond (eqb kind 3) false (not (eqb field 0)))))
+    (cond (eqb kind 6) false (cond (not (eqb value 0)) (not (eqb kind 7)) (cond (eqb field 0) false (not (eqb kind 3) && not (eqb kind 7)))))
 
 -- "Unused fields are zero."
 abbrev pub validIf : Bool → Step → Decoded
@@ -27,7 +27,8 @@ validIf true s = Valid s
 validIf false s = Invalid
 
 -- by "kind, worker, a 16-bit splitter (victim for steal), a 32-bit value (write only)". Refusal 7: "The kind is not 1 to 6, or
--- an unused field is not zero."
+-- an unused field is not zero.", and "Refusal 7 lets kind 7 pass" (R-5): "Record kind 7 folds its value into the reducer named in
+-- its splitter field"
 unfoldable pub recordOf : ℕ → ℕ → ℕ → ℕ → Decoded
 recordOf kind worker field value =
     firstTrue Invalid (
@@ -37,6 +38,7 @@ recordOf kind worker field value =
     ∷ (eqb kind 4, validIf (eqb field 0 && eqb value 0) (Sync worker))
     ∷ (eqb kind 5, validIf (eqb value 0) (Read worker field))
     ∷ (eqb kind 6, Valid (Write worker field value))
+    ∷ (eqb kind 7, Valid (Fold worker field value))
     ∷ [])
 
 -- "A record is 8 bytes": those from `at`. Fewer are no record (a tape that a call accepts has whole records only)

@@ -8,7 +8,7 @@ use lib.ListN.{length}
 use Rattle.words.specs.Basics.{same}
 use Rattle.model.specs.declared.Step.{Step}
 use Rattle.model.specs.Machine.{Name, Frame, Machine, deque}
-use Rattle.model.specs.Steps.{Action, spawn, return, sync, read, write, Turn, acting, stealing, turnOf, stepOf, refusal, accepted, step, answer, valueAt}
+use Rattle.model.specs.Steps.{Action, spawn, return, sync, read, write, fold, Turn, acting, stealing, turnOf, stepOf, refusal, accepted, step, answer, valueAt}
 
 -- ---- a run
 
@@ -44,6 +44,7 @@ readValue q return = 0
 readValue q sync = 0
 readValue q (read x) = valueAt q x
 readValue q (write x v) = 0
+readValue q (fold r x) = 0
 
 abbrev pub entry : Frame → Action → Entry
 entry q a = record { frame = q .name; action = a; value = readValue q a }
@@ -75,6 +76,7 @@ readBy return v = []
 readBy sync v = []
 readBy (read x) v = v ∷ []
 readBy (write x y) v = []
+readBy (fold r x) v = []
 
 abbrev pub reads : List Entry → List ℕ
 reads [] = []
@@ -90,6 +92,7 @@ spawns (return ∷ as′) = spawns as′
 spawns (sync ∷ as′) = spawns as′
 spawns (read x ∷ as′) = spawns as′
 spawns (write x v ∷ as′) = spawns as′
+spawns (fold r x ∷ as′) = spawns as′
 
 -- the names of a run's frames: Main's, and for each frame one for each of its accepted spawns, "k counted from 1"
 abbrev pub IsFrame : List Entry → Name → Type 0
@@ -107,6 +110,7 @@ follow return e inner after on = e ∷ on
 follow sync e inner after on = e ∷ on
 follow (read x) e inner after on = e ∷ on
 follow (write x v) e inner after on = e ∷ on
+follow (fold r x) e inner after on = e ∷ on
 
 -- a frame's own steps with its children's lists put in; the next spawn is its k-th, and `inner k` is the k-th child's list
 abbrev pub withChildren : (ℕ → List Entry) → ℕ → List Entry → List Entry

@@ -5,7 +5,7 @@ use Prim.Native.Nat.{ℕ, zero, suc}
 use lib.ListN.{length, getD, set}
 use lib.Dec.{ltb}
 use Rattle.model.specs.declared.Step.{Step}
-use Rattle.model.specs.declared.Step.the-variants.{Spawn, Return, Steal, Sync, Read, Write}
+use Rattle.model.specs.declared.Step.the-variants.{Spawn, Return, Steal, Sync, Read, Write, Fold}
 use Rattle.model.specs.History.{Event}
 use Rattle.words.specs.Basics.{same}
 use Rattle.model.specs.Machine.{Name, Frame, Machine, depth, maxFrames, live, deque, withFrames, withDeque, isEmpty, top, belowTop, hasChild, hasFrame, those, others, inUse, freeNodes}
@@ -15,6 +15,8 @@ pub data Action : Type 0 where
   spawn return sync : Action
   read : ℕ → Action
   write : ℕ → ℕ → Action
+  -- R-5: "folds its value into the reducer named"
+  fold : ℕ → ℕ → Action
 
 -- a step is a worker's turn: its bottom frame acts, or it steals from a victim
 pub data Turn : Type 0 where
@@ -28,6 +30,7 @@ turnOf (Steal w v) = stealing w v
 turnOf (Sync w) = acting w sync
 turnOf (Read w x) = acting w (read x)
 turnOf (Write w x v) = acting w (write x v)
+turnOf (Fold w r x) = acting w (fold r x)
 
 abbrev pub stepOf : ℕ → Action → Step
 stepOf w spawn = Spawn w
@@ -35,6 +38,7 @@ stepOf w return = Return w
 stepOf w sync = Sync w
 stepOf w (read x) = Read w x
 stepOf w (write x v) = Write w x v
+stepOf w (fold r x) = Fold w r x
 
 -- ---- a write
 
@@ -63,10 +67,15 @@ noWorker M w = not (ltb w (length (M .deques)))
 abbrev pub notBelow : ℕ → ℕ → Bool
 notBelow x n = not (ltb x n)
 
+-- R-5: "Three reducers"
+abbrev pub reducers : ℕ
+reducers = 3
+
 -- of the deque with bottom q:
 -- 13. "The step is a spawn and 64 frames live."
 -- 14 "no longer occurs" (R-3).
 -- 15. "The step is a read or a write and the splitter is not below n."
+-- 20. "kind 7 names no reducer, in the place of 15" (R-5).
 -- 16. "when the write would bring that count above the pool's nodes" (R-2), the count being that of the nodes in use
 abbrev pub actionTests : Machine → ℕ → List Frame → Action → List (Bool × ℕ)
 actionTests M w [] a = []
@@ -75,6 +84,7 @@ actionTests M w (q ∷ d) return = []
 actionTests M w (q ∷ d) sync = []
 actionTests M w (q ∷ d) (read x) = (notBelow x (M .splitters), 15) ∷ []
 actionTests M w (q ∷ d) (write x v) = (notBelow x (M .splitters), 15) ∷ (ltb (M .nodes) (inUse (M .splitters) (live (afterWrite M w q d x v))), 16) ∷ []
+actionTests M w (q ∷ d) (fold r x) = (notBelow r reducers, 20) ∷ []
 
 -- 8. "The worker does not exist."
 -- 9. "Main has returned." That is, no frame lives (Theory.MainEnds shows that this is outcome 3)
@@ -144,6 +154,7 @@ afterEnd M w q (g ∷ d) = withDeque M w (g ∷ d)
 -- spawn: the child "goes to the bottom of the same deque"
 -- return: "the bottom frame ends"; "A return with a live child now suspends the frame as returning" (R-3)
 -- sync: "with no live child the bottom frame passes"; "Else it is suspended"
+-- fold: it alters nothing here; Views says what it does to the frame's view
 abbrev pub afterAction : Machine → ℕ → List Frame → Action → Machine
 afterAction M w [] a = M
 afterAction M w (q ∷ d) spawn = withDeque M w (child q ∷ afterSpawn q ∷ d)
@@ -151,6 +162,7 @@ afterAction M w (q ∷ d) return = cond (hasChild (q .name) (live M)) (suspend M
 afterAction M w (q ∷ d) sync = cond (hasChild (q .name) (live M)) (suspend M w q d) M
 afterAction M w (q ∷ d) (read x) = M
 afterAction M w (q ∷ d) (write x v) = afterWrite M w q d x v
+afterAction M w (q ∷ d) (fold r x) = M
 
 -- "an idle worker takes the top frame of a victim with at least two frames"
 abbrev pub afterSteal : Machine → ℕ → ℕ → Machine
@@ -176,7 +188,7 @@ valueAt q x = getD (q .values) x 0
 abbrev pub endOutcome : Machine → ℕ → List Frame → ℕ
 endOutcome M w d = firstTrue 2 ((not (hasFrame [] (live M)), 3) ∷ (not (isEmpty d), 0) ∷ (isEmpty (deque M w), 1) ∷ [])
 
--- "spawn the child's depth", "return and sync the outcome, read the value, write the free nodes left"
+-- "spawn the child's depth", "return and sync the outcome, read the value, write the free nodes left"; "answers 107 0" (R-5)
 abbrev pub actionAnswer : Machine → ℕ → List Frame → Action → ℕ × ℕ
 actionAnswer M w [] a = (0, 0)
 actionAnswer M w (q ∷ d) spawn = (101, depth (child q))
@@ -184,6 +196,7 @@ actionAnswer M w (q ∷ d) return = (102, cond (hasChild (q .name) (live M)) 4 (
 actionAnswer M w (q ∷ d) sync = (104, cond (hasChild (q .name) (live M)) 1 0)
 actionAnswer M w (q ∷ d) (read x) = (105, valueAt q x)
 actionAnswer M w (q ∷ d) (write x v) = (106, freeNodes (afterWrite M w q d x v))
+actionAnswer M w (q ∷ d) (fold r x) = (107, 0)
 
 -- "steal the stolen frame's depth"
 abbrev pub stolenDepth : List Frame → ℕ

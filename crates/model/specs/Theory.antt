@@ -31,6 +31,27 @@ pub mod MainEnds
 pub mod RunLive
 -- the theorem
 pub mod Demand3Proof
+-- ---- R-5: the views, and the totals
+-- the names that pass a test
+pub mod Filter
+-- a name that is another one or lies below it
+pub mod Under
+-- the views' names, and that they are those of the live frames
+pub mod ViewNames
+-- each after all below it, before its parent
+pub mod PostOrder
+-- siblings eldest first: the order on names
+pub mod ViewOrder
+-- the totals are Main's child-first list of folds
+pub mod Totals
+-- and empty while Main lives
+pub mod NoTotals
+-- frames that end, one after the other
+pub mod JoinViews
+-- the children of a frame, eldest first
+pub mod Siblings
+-- whose view is the next one
+pub mod NextView
 -- ---- invariants of the machine, for those who relate another state to it
 -- the shape of a deque
 pub mod DequeShape

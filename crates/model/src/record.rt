@@ -39,12 +39,12 @@ fn misused(kind: u32, field: u32, value: u32) -> bool
         return false;
     }
     if value != 0 {
-        return true;
+        return kind != 7;
     }
-    if kind == 3 {
+    if field == 0 {
         return false;
     }
-    field != 0
+    (kind != 3) & (kind != 7)
 }
 
 // The step of a record with these fields.
@@ -61,6 +61,7 @@ pub fn step_of(kind: u32, worker: u32, field: u32, value: u32) -> Decoded
         4 => Decoded::Valid(Step::Sync(worker)),
         5 => Decoded::Valid(Step::Read(worker, field)),
         6 => Decoded::Valid(Step::Write(worker, field, value)),
+        7 => Decoded::Valid(Step::Fold(worker, field, value)),
         _ => Decoded::Invalid,
     }
 }

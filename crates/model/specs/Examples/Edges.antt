@@ -3,7 +3,7 @@ use mathlib.Core.Path.{_≡_, refl}
 use mathlib.Core.List.{List, [], _∷_, map}
 use lib.ListN.{replicate}
 use Rattle.sizes.specs.Sizes.{height, width}
-use Rattle.model.specs.declared.Step.the-variants.{Spawn, Return, Steal, Sync, Read, Write}
+use Rattle.model.specs.declared.Step.the-variants.{Spawn, Return, Steal, Sync, Read, Write, Fold}
 use Rattle.model.specs.History.{nodesInUse}
 use Rattle.model.specs.Steps.{refusal, step, answer}
 use Rattle.model.specs.Examples.Cases.{Case, answered, expected}
@@ -82,6 +82,8 @@ edges =
       steps = Spawn 0 ∷ Spawn 0 ∷ Steal 1 0 ∷ Steal 2 0 ∷ Sync 1 ∷ Return 2 ∷ Return 0 ∷ Return 0 ∷ [];
       expected = (101, 1) ∷ (101, 2) ∷ (103, 0) ∷ (103, 1) ∷ (104, 1) ∷ (102, 4) ∷ (102, 2) ∷ (102, 3) ∷ [];
     }
+    -- R-5: "answers 107 0"; "20, kind 7 names no reducer, in the place of 15"
+    ∷ record { workers = 1; values = 7 ∷ []; nodes = 1; steps = Fold 0 2 5 ∷ Fold 0 3 5 ∷ Fold 1 3 5 ∷ Return 0 ∷ Fold 0 0 1 ∷ []; expected = (107, 0) ∷ (20, 0) ∷ (8, 0) ∷ (102, 3) ∷ (9, 0) ∷ [] }
     -- "skipping the new path when the written value is equal": a write of the same value takes the nodes that are shared, and
     -- is refused for want of them
     ∷ record { workers = 1; values = 7 ∷ []; nodes = 1; steps = Spawn 0 ∷ Write 0 0 7 ∷ Return 0 ∷ Write 0 0 7 ∷ []; expected = (101, 1) ∷ (16, 0) ∷ (102, 0) ∷ (106, 0) ∷ [] }

@@ -10,6 +10,7 @@ use Rattle.model.specs.History.{nodesInUse}
 use Rattle.model.specs.Machine.{start, freeNodes}
 use Rattle.model.specs.Steps.{refusal, step, answer}
 use Rattle.model.specs.Run.{run, answers, Returned}
+use Rattle.model.specs.Views.{totalsOf}
 use Rattle.model.specs.Demand3.{oneWorkerOf, Demand3}
 use Rattle.model.specs.Theory.Demand3Proof.{demand3}
 
@@ -45,3 +46,8 @@ returned = there (there (there (there (there (there (there (there (here refl))))
 
 demanded : Demand3 2 values 20 tape
 demanded = demand3 2 values 20 tape returned
+
+-- R-5: "document 01's example gains `reduced 0 4294967295 1 0`": nothing is folded
+none-folded : totalsOf 2 values 20 tape ≡ []
+unfolding refusal answer step nodesInUse height width
+none-folded = refl

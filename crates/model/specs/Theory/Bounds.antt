@@ -9,7 +9,7 @@ use lib.ListN.{length, length-set}
 use Rattle.words.specs.Lists.{In-perm, perm-length}
 use Rattle.model.specs.History.{Event}
 use Rattle.model.specs.Machine.{Frame, Machine, maxFrames, live, start}
-use Rattle.model.specs.Steps.{Action, spawn, return, sync, read, write, Turn, written, afterTurn}
+use Rattle.model.specs.Steps.{Action, spawn, return, sync, read, write, fold, Turn, written, afterTurn}
 use Rattle.model.specs.Theory.LiveRun.{successors, Allowed}
 use Rattle.model.specs.Theory.Effects.{Passes, live-start}
 use Rattle.model.specs.Theory.RunSteps.{live-kept}
@@ -36,6 +36,7 @@ sized-successor n nodes q R spawn ok k f (there (here e)) = rw e (record { value
 sized-successor n nodes q R return ok k f (here e) = rw e (record { values = k .values; writes = k .writes })
 sized-successor n nodes q R sync ok k f (here e) = rw e k
 sized-successor n nodes q R (read x) ok k f (here e) = rw e k
+sized-successor n nodes q R (fold x y) ok k f (here e) = rw e k
 sized-successor n nodes q R (write x v) ok k f (here e) = rw e (sized-written n q x v (ok .0) k)
 
 few-acted : (n nodes : ℕ) (q : Frame) (a : Action) (R : List Frame) → Allowed n nodes q R a → length (q ∷ R) ≤ maxFrames → length (successors q a ++ R) ≤ maxFrames
@@ -43,6 +44,7 @@ few-acted n nodes q spawn R ok h = ok
 few-acted n nodes q return R ok h = h
 few-acted n nodes q sync R ok h = h
 few-acted n nodes q (read x) R ok h = h
+few-acted n nodes q (fold x y) R ok h = h
 few-acted n nodes q (write x v) R ok h = h
 
 bounded-acted : (n nodes : ℕ) (q : Frame) (a : Action) (R : List Frame) → Allowed n nodes q R a → Bounded n (q ∷ R) → Bounded n (successors q a ++ R)

@@ -8,7 +8,7 @@ use Rattle.words.specs.Basics.{same}
 use Rattle.words.specs.Tests.{decided}
 use Rattle.words.specs.Distinct.{same-eq, same-differ}
 use Rattle.model.specs.Machine.{Name}
-use Rattle.model.specs.Steps.{Action, spawn, return, sync, read, write}
+use Rattle.model.specs.Steps.{Action, spawn, return, sync, read, write, fold}
 use Rattle.model.specs.Run.{Entry, entriesOf, follow}
 use Rattle.model.specs.Theory.Names.{owns, owns-weaker, owns-child}
 
@@ -55,6 +55,7 @@ of-follow r spawn e x y z s hx hy hz = of-skip r e (x ++ y) s ∙ of-append r x 
 of-follow r return e x y z s hx hy hz = of-skip r e z s ∙ hz
 of-follow r sync e x y z s hx hy hz = of-skip r e z s ∙ hz
 of-follow r (read i) e x y z s hx hy hz = of-skip r e z s ∙ hz
+of-follow r (fold i v) e x y z s hx hy hz = of-skip r e z s ∙ hz
 of-follow r (write i v) e x y z s hx hy hz = of-skip r e z s ∙ hz
 
 -- the child-first list has only steps of the trace

@@ -3,7 +3,7 @@ use mathlib.Core.Path.{_≡_, refl, sym, ap, _∙_, subst}
 use mathlib.Core.Logic.{_↔_, inl, inr}
 use mathlib.Core.List.{List·Memᴰ·head as here, List·Memᴰ·not-nil as not-in-nil, List·Memᴰ·eq-of-singleton as In-one}
 use mathlib.Core.List.{List, [], _∷_, map}
-use Prim.Native.Nat.{ℕ, suc, _≤_}
+use Prim.Native.Nat.{ℕ, suc, _+_, _≤_}
 use native.Mathlib.Nat.{le-refl}
 use native.Mathlib.Omega.{arith}
 use lib.ListN.{length}
@@ -16,7 +16,7 @@ use Rattle.model.specs.Theory.ChildFirst.{childFirst, of-foreign}
 use Rattle.model.specs.Theory.Histories.{inUse-none}
 use Rattle.model.specs.Theory.LiveRun.{LiveRun, Disjoint}
 use Rattle.model.specs.Theory.StepsKept.{unowned, steps-kept}
-use Rattle.model.specs.Theory.LiteralList.{list-is}
+use Rattle.model.specs.Theory.LiteralList.{list-eq, list-is}
 use Rattle.model.specs.Theory.Effects.{live-start}
 use Rattle.model.specs.Theory.RunSteps.{sizes-run}
 use Rattle.model.specs.Theory.RunLive.{live-run}
@@ -46,8 +46,11 @@ module _ (w : ℕ) (vs : List ℕ) (nodes : ℕ) (ss : List Step) (returned : Re
   abbrev list : List Entry
   list = childFirstList (suc (length (traceOf w vs nodes ss))) (traceOf w vs nodes ss) []
 
-  main-list : list ≡ childFirst (traceOf w vs nodes ss) [] 1
-  main-list = list-is (length vs) nodes run-of disjoint (main vs) (here refl) refl (length (traceOf w vs nodes ss)) (le-refl (length (traceOf w vs nodes ss)))
+  pub main-at : (fuel : ℕ) → length (traceOf w vs nodes ss) ≤ fuel → childFirstList (suc fuel) (traceOf w vs nodes ss) [] ≡ childFirst (traceOf w vs nodes ss) [] 1
+  main-at fuel h = list-is (length vs) nodes run-of disjoint (main vs) (here refl) refl fuel h
+
+  pub main-list : list ≡ childFirst (traceOf w vs nodes ss) [] 1
+  main-list = main-at (length (traceOf w vs nodes ss)) (le-refl (length (traceOf w vs nodes ss)))
 
   performs : Performs list (start 1 vs nodes) (solo (length vs) nodes [])
   performs = subst (λ z. Performs z (start 1 vs nodes) (solo (length vs) nodes [])) (sym main-list) (child-first-runs (length vs) nodes run-of disjoint (main vs) [] (here refl) refl (refl, tt))
@@ -80,3 +83,19 @@ module _ (w : ℕ) (vs : List ℕ) (nodes : ℕ) (ss : List Step) (returned : Re
     all-free = free-when-over (run (start w vs nodes) ss) over ∙ (sizes-run (start w vs nodes) ss) .nodes;
     all-free-alone = free-when-over (run (start 1 vs nodes) (oneWorkerOf w vs nodes ss)) over-alone ∙ (sizes-run (start 1 vs nodes) (oneWorkerOf w vs nodes ss)) .nodes;
   }
+
+-- the one-worker run has the same child-first list
+pub same-list : (w : ℕ) (vs : List ℕ) (nodes : ℕ) (ss : List Step) → Returned (start w vs nodes) ss → childFirst (traceOf 1 vs nodes (oneWorkerOf w vs nodes ss)) [] 1 ≡ childFirst (traceOf w vs nodes ss) [] 1
+same-list w vs nodes ss returned =
+    sym (main-at 1 vs nodes (oneWorkerOf w vs nodes ss) ((demand3 w vs nodes ss returned) .returns) fuel (omega arith))
+    ∙ list-eq (suc fuel) alone given [] (λ r o. ap (entriesOf r) (same-trace w vs nodes ss returned) ∙ same-of-name w vs nodes ss returned r)
+    ∙ main-at w vs nodes ss returned fuel (omega arith)
+  where
+    alone : List Entry
+    alone = traceOf 1 vs nodes (oneWorkerOf w vs nodes ss)
+
+    given : List Entry
+    given = traceOf w vs nodes ss
+
+    fuel : ℕ
+    fuel = length alone + length given

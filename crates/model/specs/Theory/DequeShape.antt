@@ -11,7 +11,7 @@ use lib.Seq.{getD-set-same, getD-set-other}
 use Rattle.words.specs.Basics.{joined}
 use Rattle.words.specs.Tests.{decided}
 use Rattle.model.specs.Machine.{Name, Frame, Machine, live, deque, top, belowTop, hasChild, those, others}
-use Rattle.model.specs.Steps.{Action, spawn, return, sync, read, write, afterSpawn}
+use Rattle.model.specs.Steps.{Action, spawn, return, sync, read, write, fold, afterSpawn}
 use Rattle.model.specs.Theory.LiveRun.{successors, Disjoint}
 use Rattle.model.specs.Theory.Effects.{in-those}
 
@@ -168,6 +168,7 @@ successors-names q spawn c (there (here e)) = inl (ap (λ z. z .name) e)
 successors-names q return c (here e) = inl (ap (λ z. z .name) e)
 successors-names q sync c (here e) = inl (ap (λ z. z .name) e)
 successors-names q (read x) c (here e) = inl (ap (λ z. z .name) e)
+successors-names q (fold x y) c (here e) = inl (ap (λ z. z .name) e)
 successors-names q (write x v) c (here e) = inl (ap (λ z. z .name) e)
 
 pub only-spawn : (L L′ : List Frame) (q : Frame) (d : List Frame) → ((c : Frame) → In c L′ → ((b : Frame) × In b L × (b .name ≡ c .name)) ⊎ (c .name ≡ suc (q .spawned) ∷ q .name))

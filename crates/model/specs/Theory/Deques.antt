@@ -14,7 +14,7 @@ use Rattle.words.specs.Tests.{true≢false, decided, both, not-true}
 use Rattle.words.specs.Distinct.{same-eq, same-of}
 use Rattle.words.specs.Lists.{In-perm}
 use Rattle.model.specs.Machine.{Name, Frame, Machine, live, deque, withDeque, isEmpty, top, belowTop, hasChild, those, start}
-use Rattle.model.specs.Steps.{Action, spawn, return, sync, read, write, Turn, acting, stealing, child, afterSpawn, asReturning, written, waitsInReturn, waitsAtSync, leave, resume, upward, afterEnd, suspend, afterAction, afterSteal, afterTurn}
+use Rattle.model.specs.Steps.{Action, spawn, return, sync, read, write, fold, Turn, acting, stealing, child, afterSpawn, asReturning, written, waitsInReturn, waitsAtSync, leave, resume, upward, afterEnd, suspend, afterAction, afterSteal, afterTurn}
 use Rattle.model.specs.Theory.LiveRun.{successors, successor, Disjoint, disjoint-perm}
 use Rattle.model.specs.Theory.Children.{In-hasChild, hasChild-In}
 use Rattle.model.specs.Theory.Effects.{Passes, rest, live-with, live-at, perm-those, in-those, other-action, action-live, returned, resume-live, belowTop-top, isEmpty-nil, there-is-worker, acts, Steals, steals}
@@ -295,6 +295,7 @@ module _ (M : Machine) (w : ℕ) (q : Frame) (d : List Frame) (lt : w < length (
   deques-action return = deques-return
   deques-action sync = deques-sync
   deques-action (read x) = t
+  deques-action (fold x y) = t
   deques-action (write x v) = deques-write x v
 
 -- ---- a steal

@@ -14,7 +14,7 @@ use Rattle.words.specs.Tests.{true≢false, decided, both, neither, lt-of, not-
 use Rattle.words.specs.Distinct.{same-eq}
 use Rattle.words.specs.Lists.{perm-swap, perm-length, joined-set, joined-empty}
 use Rattle.model.specs.Machine.{Name, Frame, Machine, maxFrames, live, deque, withDeque, isEmpty, top, belowTop, isChild, hasChild, those, others, inUse, main, start}
-use Rattle.model.specs.Steps.{Action, spawn, return, sync, read, write, Turn, acting, stealing, firstTrue, noWorker, notBelow, actionTests, turnTests, child, afterSpawn, asReturning, written, afterWrite, suspend, waitsInReturn, waitsAtSync, leave, resume, upward, afterEnd, afterAction, afterSteal}
+use Rattle.model.specs.Steps.{Action, spawn, return, sync, read, write, fold, reducers, Turn, acting, stealing, firstTrue, noWorker, notBelow, actionTests, turnTests, child, afterSpawn, asReturning, written, afterWrite, suspend, waitsInReturn, waitsAtSync, leave, resume, upward, afterEnd, afterAction, afterSteal}
 use Rattle.model.specs.Theory.Histories.{inUse-perm}
 use Rattle.model.specs.Theory.LiveRun.{successors, Allowed, Settles, settled, drops, settles-perm}
 use Rattle.model.specs.Theory.Children.{hasChild-perm}
@@ -54,6 +54,7 @@ tests-allow M w q d spawn lt p h = subst (λ z. z < maxFrames) (perm-length p) (
 tests-allow M w q d return lt p h = tt
 tests-allow M w q d sync lt p h = tt
 tests-allow M w q d (read x) lt p h = lt-of (not-false _ (none-true (notBelow x (M .splitters)) 14 [] h .0))
+tests-allow M w q d (fold r x) lt p h = lt-of (not-false _ (none-true (notBelow r reducers) 19 [] h .0))
 tests-allow M w q d (write x v) lt p h =
     let many = ltb (M .nodes) (inUse (M .splitters) (live (afterWrite M w q d x v))) in
     let h₁ = none-true (notBelow x (M .splitters)) 14 ((many, 16) ∷ []) h in
@@ -86,6 +87,7 @@ isReturn spawn = false
 isReturn return = true
 isReturn sync = false
 isReturn (read x) = false
+isReturn (fold x y) = false
 isReturn (write x v) = false
 
 pub other-action : {a : Action} → a ≡ return → isReturn a ≡ false → ⊥
@@ -98,6 +100,7 @@ action-live M w q d return ne h e = absurd (ne refl)
 action-live M w q d sync ne h e =
     elim (decided (hasChild (q .name) (live M))) [ inl s ↦ rw s (suspend-live M w q d h) | inr s ↦ rw s (live-at M w (q ∷ d) h e) ]
 action-live M w q d (read x) ne h e = live-at M w (q ∷ d) h e
+action-live M w q d (fold x y) ne h e = live-at M w (q ∷ d) h e
 action-live M w q d (write x v) ne h e = live-with M w (written q x v ∷ d) h
 
 -- ---- a return's effect
@@ -149,6 +152,7 @@ turn-live M w q d return h e = return-live M w q d h e
 turn-live M w q d spawn h e = settled (Permᴰ·symm (action-live M w q d spawn (λ z. other-action z refl) h e))
 turn-live M w q d sync h e = settled (Permᴰ·symm (action-live M w q d sync (λ z. other-action z refl) h e))
 turn-live M w q d (read x) h e = settled (Permᴰ·symm (action-live M w q d (read x) (λ z. other-action z refl) h e))
+turn-live M w q d (fold x y) h e = settled (Permᴰ·symm (action-live M w q d (fold x y) (λ z. other-action z refl) h e))
 turn-live M w q d (write x v) h e = settled (Permᴰ·symm (action-live M w q d (write x v) (λ z. other-action z refl) h e))
 
 -- ---- a steal moves a frame

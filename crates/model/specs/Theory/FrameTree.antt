@@ -9,7 +9,7 @@ use Rattle.words.specs.Tests.{true≢false}
 use Rattle.words.specs.Lists.{In-perm}
 use Rattle.model.specs.declared.Step.{Step}
 use Rattle.model.specs.Machine.{Name, Frame, Machine, live, start, hasChild}
-use Rattle.model.specs.Steps.{Action, spawn, return, sync, read, write, Turn, afterSpawn, afterTurn, step}
+use Rattle.model.specs.Steps.{Action, spawn, return, sync, read, write, fold, Turn, afterSpawn, afterTurn, step}
 use Rattle.model.specs.Theory.LiveRun.{successors, successor, Ends, Disjoint, disjoint-perm, disjoint-acted}
 use Rattle.model.specs.Theory.Children.{In-hasChild}
 use Rattle.model.specs.Theory.Effects.{Passes, live-start}
@@ -42,6 +42,7 @@ new-parent q spawn R f (there (here d)) k p e = inr (ap (λ z. z .name) (sym d) 
 new-parent q return R f (here d) k p e = inr (ap (λ z. z .name) (sym d) ∙ e)
 new-parent q sync R f (here d) k p e = inr (ap (λ z. z .name) (sym d) ∙ e)
 new-parent q (read x) R f (here d) k p e = inr (ap (λ z. z .name) (sym d) ∙ e)
+new-parent q (fold x y) R f (here d) k p e = inr (ap (λ z. z .name) (sym d) ∙ e)
 new-parent q (write x v) R f (here d) k p e = inr (ap (λ z. z .name) (sym d) ∙ e)
 
 rooted-acted : (q : Frame) (a : Action) (R : List Frame) → Rooted (q ∷ R) → Rooted (successors q a ++ R)

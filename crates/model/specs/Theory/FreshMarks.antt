@@ -11,7 +11,7 @@ use Rattle.words.specs.Tests.{decided}
 use Rattle.words.specs.Lists.{In-perm}
 use Rattle.model.specs.History.{Event, History, lastWrite}
 use Rattle.model.specs.Machine.{Name, Frame, Machine, live, start}
-use Rattle.model.specs.Steps.{Action, spawn, return, sync, read, write, Turn, writeEvent, written, afterTurn}
+use Rattle.model.specs.Steps.{Action, spawn, return, sync, read, write, fold, Turn, writeEvent, written, afterTurn}
 use Rattle.model.specs.Theory.Names.{below, below-longer, below-weaker, child-below}
 use Rattle.model.specs.Theory.LiveRun.{successors, Disjoint, disjoint-perm, disjoint-acted}
 use Rattle.model.specs.Theory.Effects.{Passes, live-start}
@@ -42,6 +42,7 @@ past-successor q spawn v k g (there (here e)) = rw e (record { own = k .own; oth
 past-successor q return v k g (here e) = rw e (record { own = k .own; others = k .others })
 past-successor q sync v k g (here e) = rw e k
 past-successor q (read x) v k g (here e) = rw e k
+past-successor q (fold x y) v k g (here e) = rw e k
 past-successor q (write x y) v k g (here e) = rw e (record { own = λ i d. omega (arith, k .own i d); others = k .others })
 
 -- ---- a new write
@@ -65,6 +66,7 @@ old-or-new q spawn v f (there (here e)) m = inl (subst (λ z. In v (z .history))
 old-or-new q return v f (here e) m = inl (subst (λ z. In v (z .history)) e m)
 old-or-new q sync v f (here e) m = inl (subst (λ z. In v (z .history)) e m)
 old-or-new q (read x) v f (here e) m = inl (subst (λ z. In v (z .history)) e m)
+old-or-new q (fold x y) v f (here e) m = inl (subst (λ z. In v (z .history)) e m)
 old-or-new q (write x y) v f (here e) m = elim (In-cons (subst (λ z. In v (z .history)) e m)) [ inl d ↦ inr (x, y, refl, d) | inr i ↦ inl i ]
 
 marks-acted : (q : Frame) (a : Action) (R : List Frame) → Disjoint (q ∷ R) → MarkInvariant (q ∷ R) → MarkInvariant (successors q a ++ R)

@@ -12,7 +12,7 @@ use Rattle.words.specs.Basics.{same}
 use Rattle.words.specs.Lists.{In-perm}
 use Rattle.words.specs.Distinct.{same-refl, same-differ}
 use Rattle.model.specs.Machine.{Name, Frame}
-use Rattle.model.specs.Steps.{Action, spawn, return, sync, read, write, child, afterSpawn, written}
+use Rattle.model.specs.Steps.{Action, spawn, return, sync, read, write, fold, child, afterSpawn, written}
 use Rattle.model.specs.Run.{Entry, entry, entriesOf, follow, withChildren, childFirstList}
 use Rattle.model.specs.Theory.Names.{below, owns, below-longer, child-below}
 use Rattle.model.specs.Theory.ChildFirst.{childFirst, of-mine, of-skip, childFirst-skip, childFirst-mine, childFirst-none}
@@ -32,7 +32,7 @@ below-down p s k (j ∷ r) l (inl h) = inl (h .0, omega (arith, h .1))
 below-down p s k (j ∷ r) l (inr h) = inr (h .0, below-down p s k r l (h .1))
 
 -- a frame's list depends only on the steps of the names that it owns
-list-eq : (fuel : ℕ) (es fs : List Entry) (p : Name) → ((r : Name) → owns p 0 r → entriesOf r es ≡ entriesOf r fs) → childFirstList fuel es p ≡ childFirstList fuel fs p
+pub list-eq : (fuel : ℕ) (es fs : List Entry) (p : Name) → ((r : Name) → owns p 0 r → entriesOf r es ≡ entriesOf r fs) → childFirstList fuel es p ≡ childFirstList fuel fs p
 list-eq zero es fs p h = refl
 list-eq (suc fuel) es fs p h =
     ap (withChildren (λ k. childFirstList fuel es (k ∷ p)) 1) (h p (inl refl))
@@ -65,6 +65,8 @@ list-is-mine q sync es fuel on ih out l =
     ap (λ z. entry q sync ∷ z) (withChildren-skip (suc fuel) (entry q sync) es (q .name) (q .spawned) (entriesOf (q .name) es) (not-below (q .name) (q .spawned)) ∙ ih q (here refl) on (suc fuel) (omega arith))
 list-is-mine q (read x) es fuel on ih out l =
     ap (λ z. entry q (read x) ∷ z) (withChildren-skip (suc fuel) (entry q (read x)) es (q .name) (q .spawned) (entriesOf (q .name) es) (not-below (q .name) (q .spawned)) ∙ ih q (here refl) on (suc fuel) (omega arith))
+list-is-mine q (fold x y) es fuel on ih out l =
+    ap (λ z. entry q (fold x y) ∷ z) (withChildren-skip (suc fuel) (entry q (fold x y)) es (q .name) (q .spawned) (entriesOf (q .name) es) (not-below (q .name) (q .spawned)) ∙ ih q (here refl) on (suc fuel) (omega arith))
 list-is-mine q (write x v) es fuel on ih out l =
     ap (λ z. entry q (write x v) ∷ z) (withChildren-skip (suc fuel) (entry q (write x v)) es (q .name) (q .spawned) (entriesOf (q .name) es) (not-below (q .name) (q .spawned)) ∙ ih (written q x v) (here refl) on (suc fuel) (omega arith))
 

@@ -9,7 +9,7 @@ use lib.ListN.{length}
 use Rattle.words.specs.Tests.{true≢false}
 use Rattle.words.specs.Lists.{In-perm}
 use Rattle.model.specs.Machine.{Name, Frame, depth, maxFrames, hasChild, inUse}
-use Rattle.model.specs.Steps.{Action, spawn, return, sync, read, write, child, afterSpawn, asReturning, written}
+use Rattle.model.specs.Steps.{Action, spawn, return, sync, read, write, fold, reducers, child, afterSpawn, asReturning, written}
 use Rattle.model.specs.Run.{Entry, entry}
 use Rattle.model.specs.Theory.Names.{owns, owns-weaker, owns-child, owns-apart}
 use Rattle.model.specs.Theory.Extends.{Extends, extends-same, extends-written}
@@ -20,6 +20,7 @@ successors q spawn = child q ∷ afterSpawn q ∷ []
 successors q return = asReturning q ∷ []
 successors q sync = q ∷ []
 successors q (read x) = q ∷ []
+successors q (fold x y) = q ∷ []
 successors q (write x v) = written q x v ∷ []
 
 -- one of them stands for q itself
@@ -34,14 +35,16 @@ successor q spawn = record { frame = afterSpawn q; new = there (here refl); name
 successor q return = record { frame = asReturning q; new = here refl; named = refl; extends = extends-same (depth q) (q .history) }
 successor q sync = record { frame = q; new = here refl; named = refl; extends = extends-same (depth q) (q .history) }
 successor q (read x) = record { frame = q; new = here refl; named = refl; extends = extends-same (depth q) (q .history) }
+successor q (fold x y) = record { frame = q; new = here refl; named = refl; extends = extends-same (depth q) (q .history) }
 successor q (write x v) = record { frame = written q x v; new = here refl; named = refl; extends = extends-written q x v }
 
--- what the tests 13 to 16 leave to be known of an accepted step of q, a live frame beside R
+-- what the tests 13 to 16 and 20 leave to be known of an accepted step of q, a live frame beside R
 abbrev pub Allowed : ℕ → ℕ → Frame → List Frame → Action → Type 0
 Allowed n nodes q R spawn = length (q ∷ R) < maxFrames
 Allowed n nodes q R return = Unit {0}
 Allowed n nodes q R sync = Unit {0}
 Allowed n nodes q R (read x) = x < n
+Allowed n nodes q R (fold r x) = r < reducers
 Allowed n nodes q R (write x v) = (x < n) × (inUse n (written q x v ∷ R) ≤ nodes)
 
 -- q, one of the frames q and R, ends: it has returned, and has no live child
@@ -105,6 +108,7 @@ successors-owned q spawn g r (there (here e)) o = owns-weaker (q .name) (q .spaw
 successors-owned q return g r (here e) o = rw e at o
 successors-owned q sync g r (here e) o = rw e at o
 successors-owned q (read x) g r (here e) o = rw e at o
+successors-owned q (fold x y) g r (here e) o = rw e at o
 successors-owned q (write x v) g r (here e) o = rw e at o
 
 pub disjoint-acted : (q : Frame) (a : Action) (R : List Frame) → Disjoint (q ∷ R) → Disjoint (successors q a ++ R)
@@ -115,6 +119,7 @@ disjoint-acted q spawn R c = (
 disjoint-acted q return R c = c
 disjoint-acted q sync R c = c
 disjoint-acted q (read x) R c = c
+disjoint-acted q (fold x y) R c = c
 disjoint-acted q (write x v) R c = c
 
 -- ---- backward along a LiveRun whose frames own disjoint names

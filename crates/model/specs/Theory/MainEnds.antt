@@ -13,7 +13,7 @@ use Rattle.words.specs.Distinct.{same-of, same-eq}
 use Rattle.words.specs.Lists.{In-perm}
 use Rattle.model.specs.declared.Step.{Step}
 use Rattle.model.specs.Machine.{Name, Frame, Machine, live, deque, isEmpty, hasChild, hasFrame}
-use Rattle.model.specs.Steps.{Action, spawn, return, sync, read, write, Turn, acting, stealing, turnOf, firstTrue, asReturning, suspend, afterEnd, afterAction, afterTurn, step, endOutcome, actionAnswer, turnAnswer, answer}
+use Rattle.model.specs.Steps.{Action, spawn, return, sync, read, write, fold, Turn, acting, stealing, turnOf, firstTrue, asReturning, suspend, afterEnd, afterAction, afterTurn, step, endOutcome, actionAnswer, turnAnswer, answer}
 use Rattle.model.specs.Run.{run, Returned}
 use Rattle.model.specs.Theory.LiveRun.{successor}
 use Rattle.model.specs.Theory.Effects.{Passes, rest, isEmpty-nil, other-action, action-live, acts, steals}
@@ -66,6 +66,7 @@ action-three M w return q d h =
     four e = omega arith
 action-three M w sync q d h = absurd (omega (arith, ap (λ z. z .0) h))
 action-three M w (read x) q d h = absurd (omega (arith, ap (λ z. z .0) h))
+action-three M w (fold x y) q d h = absurd (omega (arith, ap (λ z. z .0) h))
 action-three M w (write x v) q d h = absurd (omega (arith, ap (λ z. z .0) h))
 
 turn-three : (M : Machine) (t : Turn) → Passes M t → FrameTree M → turnAnswer M t ≡ (102, 3) → live (afterTurn M t) ≡ []
@@ -120,6 +121,7 @@ ends-action M w return q d lt at e =
     over c = rw c
 ends-action M w sync q d lt at e = absurd (none-new M w sync q d (λ z. other-action z refl) lt at e)
 ends-action M w (read i) q d lt at e = absurd (none-new M w (read i) q d (λ z. other-action z refl) lt at e)
+ends-action M w (fold i y) q d lt at e = absurd (none-new M w (fold i y) q d (λ z. other-action z refl) lt at e)
 ends-action M w (write i v) q d lt at e = absurd (none-new M w (write i v) q d (λ z. other-action z refl) lt at e)
 
 ends-turn : (M : Machine) (t : Turn) → Passes M t → FrameTree M → live (afterTurn M t) ≡ [] → turnAnswer M t ≡ (102, 3)

@@ -12,7 +12,7 @@ use Rattle.words.specs.Tests.{true≢false, ltb-of, nltb-of}
 use Rattle.words.specs.Lists.{In-perm, perm-length}
 use Rattle.words.specs.Distinct.{same-refl, same-differ}
 use Rattle.model.specs.Machine.{Name, Frame, depth, Machine, hasChild, inUse}
-use Rattle.model.specs.Steps.{Action, spawn, return, sync, read, write, acting, turnOf, stepOf, refusal, child, afterSpawn, written, upward, afterEnd, afterTurn, step}
+use Rattle.model.specs.Steps.{Action, spawn, return, sync, read, write, fold, acting, turnOf, stepOf, refusal, child, afterSpawn, written, upward, afterEnd, afterTurn, step}
 use Rattle.model.specs.Run.{run, AllAccepted, no-step, accepted-then, Entry, entry, turnEntry, trace, entriesOf, follow, forWorker0}
 use Rattle.model.specs.Theory.ChildFirst.{childFirst, childFirst-skip, childFirst-mine, childFirst-none}
 use Rattle.model.specs.Theory.Extends.{WritesAt, Extends, writes-append, extends-same, extends-trans, extends-written}
@@ -118,6 +118,7 @@ onward q return = []
 onward q spawn = successors q spawn
 onward q sync = successors q sync
 onward q (read x) = successors q (read x)
+onward q (fold x y) = successors q (fold x y)
 onward q (write x v) = successors q (write x v)
 
 pub turn-of-step : (w : ℕ) (a : Action) → turnOf (stepOf w a) ≡ acting w a
@@ -125,6 +126,7 @@ turn-of-step w spawn = refl
 turn-of-step w return = refl
 turn-of-step w sync = refl
 turn-of-step w (read x) = refl
+turn-of-step w (fold x y) = refl
 turn-of-step w (write x v) = refl
 
 passes-solo : (n nodes : ℕ) (f : Frame) (C : List Frame) (a : Action) → Allowed n nodes f C a → Passes (solo n nodes (f ∷ C)) (acting 0 a)
@@ -132,6 +134,7 @@ passes-solo n nodes f C spawn ok = rw (append-nil C, ltb-of ok)
 passes-solo n nodes f C return ok = refl
 passes-solo n nodes f C sync ok = refl
 passes-solo n nodes f C (read x) ok = rw (ltb-of ok)
+passes-solo n nodes f C (fold x y) ok = rw (ltb-of ok)
 passes-solo n nodes f C (write x v) ok = rw (ltb-of (ok .0), append-nil C, nltb-of {a = nodes} {b = inUse n (written f x v ∷ C)} (ok .1))
 
 after-solo : (n nodes : ℕ) (f : Frame) (C : List Frame) (a : Action) → hasChild (f .name) (f ∷ C) ≡ false → afterTurn (solo n nodes (f ∷ C)) (acting 0 a) ≡ solo n nodes (onward f a ++ C)
@@ -139,6 +142,7 @@ after-solo n nodes f C spawn h = refl
 after-solo n nodes f C return h = rw (append-nil C, h) (end-solo n nodes f C)
 after-solo n nodes f C sync h = rw (append-nil C, h)
 after-solo n nodes f C (read x) h = refl
+after-solo n nodes f C (fold x y) h = refl
 after-solo n nodes f C (write x v) h = refl
 
 -- ---- the child-first list
@@ -182,6 +186,8 @@ runs-mine n nodes L′ q C sync es live ok h new out ab ih =
     performs-step n nodes q C sync (childFirst es (q .name) (suc (q .spawned))) (solo n nodes C) ok h (ih q C (new q (here refl)) live ab)
 runs-mine n nodes L′ q C (read x) es live ok h new out ab ih =
     performs-step n nodes q C (read x) (childFirst es (q .name) (suc (q .spawned))) (solo n nodes C) ok h (ih q C (new q (here refl)) live ab)
+runs-mine n nodes L′ q C (fold x y) es live ok h new out ab ih =
+    performs-step n nodes q C (fold x y) (childFirst es (q .name) (suc (q .spawned))) (solo n nodes C) ok h (ih q C (new q (here refl)) live ab)
 runs-mine n nodes L′ q C (write x v) es live ok h new out ab ih =
     performs-step n nodes q C (write x v) (childFirst es (q .name) (suc (q .spawned))) (solo n nodes C) ok h
     (ih (written q x v) C (new (written q x v) (here refl)) live (ancestors-head L′ q (written q x v) C ab refl (extends-written q x v)))
@@ -192,6 +198,7 @@ allowed-chain n nodes L q R C spawn p ab ok = let h = no-more-frames L q C (In-p
 allowed-chain n nodes L q R C return p ab ok = tt
 allowed-chain n nodes L q R C sync p ab ok = tt
 allowed-chain n nodes L q R C (read x) p ab ok = ok
+allowed-chain n nodes L q R C (fold x y) p ab ok = ok
 allowed-chain n nodes L q R C (write x v) p ab ok = (ok .0, le-trans (no-more-nodes-after n L q R C x v p ab) (ok .1))
 
 runs-acted : (n nodes : ℕ) {L L′ : List Frame} {es : List Entry} (q : Frame) (a : Action) (R : List Frame) → List·Permᴰ L (q ∷ R) → q .returning ≡ false → Allowed n nodes q R a → List·Permᴰ (successors q a ++ R) L′

@@ -16,7 +16,7 @@ use Rattle.words.specs.Distinct.{distinct-cons-le, distinct-cons-upper}
 use Rattle.sizes.specs.Sizes.{height, width, treeNodes}
 use Rattle.model.specs.History.{nodesInUse}
 use Rattle.model.specs.Machine.{Frame, Machine, live, inUse, freeNodes, main, start}
-use Rattle.model.specs.Steps.{Action, spawn, return, sync, read, write, Turn, child, afterSpawn, asReturning, written, afterTurn}
+use Rattle.model.specs.Steps.{Action, spawn, return, sync, read, write, fold, Turn, child, afterSpawn, asReturning, written, afterTurn}
 use Rattle.model.specs.Theory.Histories.{lastOf, lastMarks, Within, inUse-within, inUse-perm}
 use Rattle.model.specs.Theory.LiveRun.{successors, Allowed}
 use Rattle.model.specs.Theory.Effects.{Passes, live-start}
@@ -75,6 +75,7 @@ pool-acted n nodes q spawn R ok h = le-trans (inUse-within n (child q ∷ afterS
 pool-acted n nodes q return R ok h = le-trans (inUse-within n (asReturning q ∷ R) (q ∷ R) (return-within q R)) h
 pool-acted n nodes q sync R ok h = h
 pool-acted n nodes q (read x) R ok h = h
+pool-acted n nodes q (fold x y) R ok h = h
 pool-acted n nodes q (write x v) R ok h = ok .1
 
 pub pool-turn : (M : Machine) (t : Turn) → Passes M t → WithinPool M → WithinPool (afterTurn M t)

@@ -8,7 +8,7 @@ use lib.ListN.{length, set, length-set, length-replicate}
 use Rattle.words.specs.Tests.{decided}
 use Rattle.model.specs.declared.Step.{Step}
 use Rattle.model.specs.Machine.{Name, Frame, Machine, live, deque, withFrames, withDeque, isEmpty, top, belowTop, hasChild, those, start}
-use Rattle.model.specs.Steps.{Action, spawn, return, sync, read, write, Turn, acting, stealing, turnOf, refusal, child, afterSpawn, written, waitsInReturn, waitsAtSync, leave, upward, afterEnd, afterAction, afterSteal, afterTurn, step, turnAnswer, answer}
+use Rattle.model.specs.Steps.{Action, spawn, return, sync, read, write, fold, Turn, acting, stealing, turnOf, refusal, child, afterSpawn, written, waitsInReturn, waitsAtSync, leave, upward, afterEnd, afterAction, afterSteal, afterTurn, step, turnAnswer, answer}
 use Rattle.model.specs.Run.{run, turnEntry, trace}
 use Rattle.model.specs.Theory.LiveRun.{successors, Allowed, Ends, settles-kept}
 use Rattle.model.specs.Theory.Effects.{Passes, rest, acts, steals}
@@ -102,6 +102,7 @@ sizes-action M w (q ∷ d) spawn = sizes-with M w (child q ∷ afterSpawn q ∷ 
 sizes-action M w (q ∷ d) return = elim (decided (hasChild (q .name) (live M))) [ inl c ↦ rw c (sizes-with M w d) | inr c ↦ rw c (sizes-end M w q d) ]
 sizes-action M w (q ∷ d) sync = elim (decided (hasChild (q .name) (live M))) [ inl c ↦ rw c (sizes-with M w d) | inr c ↦ rw c (sizes-same M) ]
 sizes-action M w (q ∷ d) (read x) = sizes-same M
+sizes-action M w (q ∷ d) (fold x y) = sizes-same M
 sizes-action M w (q ∷ d) (write x v) = sizes-with M w (written q x v ∷ d)
 
 pub sizes-turn : (M : Machine) (t : Turn) → SameSizes M (afterTurn M t)

@@ -9,7 +9,7 @@ use Rattle.words.specs.Tests.{true≢false}
 use Rattle.words.specs.Lists.{In-perm}
 use Rattle.words.specs.Distinct.{same-refl, same-differ}
 use Rattle.model.specs.Machine.{Name, Frame}
-use Rattle.model.specs.Steps.{Action, spawn, return, sync, read, write, child, afterSpawn, written}
+use Rattle.model.specs.Steps.{Action, spawn, return, sync, read, write, fold, child, afterSpawn, written}
 use Rattle.model.specs.Run.{Entry, entry, entriesOf, follow}
 use Rattle.model.specs.Theory.Names.{owns-apart, owns-split}
 use Rattle.model.specs.Theory.ChildFirst.{childFirst, of-skip, of-cons, of-append, childFirst-skip, childFirst-mine, of-within, of-foreign}
@@ -52,6 +52,7 @@ steps-kept-mine q spawn es r on ih out o =
 steps-kept-mine q return es r on ih out o = of-cons r (entry q return) (childFirst es (q .name) (suc (q .spawned))) es (of-within r es (q .name) (suc (q .spawned)) (out refl) ∙ sym (out refl))
 steps-kept-mine q sync es r on ih out o = of-cons r (entry q sync) (childFirst es (q .name) (suc (q .spawned))) es (ih q (here refl) on r o)
 steps-kept-mine q (read x) es r on ih out o = of-cons r (entry q (read x)) (childFirst es (q .name) (suc (q .spawned))) es (ih q (here refl) on r o)
+steps-kept-mine q (fold x y) es r on ih out o = of-cons r (entry q (fold x y)) (childFirst es (q .name) (suc (q .spawned))) es (ih q (here refl) on r o)
 steps-kept-mine q (write x v) es r on ih out o = of-cons r (entry q (write x v)) (childFirst es (q .name) (suc (q .spawned))) es (ih (written q x v) (here refl) on r o)
 
 steps-kept-acted : {n nodes : ℕ} {L L′ : List Frame} {es : List Entry} (q : Frame) (a : Action) (R : List Frame) → List·Permᴰ L (q ∷ R) → q .returning ≡ false → List·Permᴰ (successors q a ++ R) L′

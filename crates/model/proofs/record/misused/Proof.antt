@@ -13,17 +13,21 @@ returns-2 c = rw (ne-eqb (c .before .before .args .kind) 5 (c .before .if1 .left
 
 returns-3 : tie.Need-returns-3
 unfolding unusedSet
-returns-3 c = rw (ne-eqb (c .before .before .before .args .kind) 5 (c .before .before .if1 .left), ne-eqb (c .before .before .before .args .kind) 6 (c .before .if2 .left), ne-eqb (c .before .before .before .args .value) 0 (c .if3 .taken))
+returns-3 c =
+    let a = c .before .before .before .args in
+    rw (ne-eqb (a .kind) 5 (c .before .before .if1 .left), ne-eqb (a .kind) 6 (c .before .if2 .left), ne-eqb (a .value) 0 (c .if3 .taken))
 
 returns-4 : tie.Need-returns-4
 unfolding unusedSet
 returns-4 c =
-    rw (ne-eqb (c .before .before .before .before .args .kind) 5 (c .before .before .before .if1 .left), ne-eqb (c .before .before .before .before .args .kind) 6 (c .before .before .if2 .left), eq-eqb (c .before .before .before .before .args .value) 0 (c .before .if3 .left), eq-eqb (c .before .before .before .before .args .kind) 3 (c .if4 .taken))
+    let a = c .before .before .before .before .args in
+    rw (ne-eqb (a .kind) 5 (c .before .before .before .if1 .left), ne-eqb (a .kind) 6 (c .before .before .if2 .left), eq-eqb (a .value) 0 (c .before .if3 .left), eq-eqb (a .field) 0 (c .if4 .taken))
 
 returns-5 : tie.Need-returns-5
 unfolding unusedSet
 returns-5 c =
-    rw (ne-eqb (c .before .before .before .before .args .kind) 5 (c .before .before .before .if1 .left), ne-eqb (c .before .before .before .before .args .kind) 6 (c .before .before .if2 .left), eq-eqb (c .before .before .before .before .args .value) 0 (c .before .if3 .left), ne-eqb (c .before .before .before .before .args .kind) 3 (c .if4 .left))
+    let a = c .before .before .before .before .args in
+    rw (ne-eqb (a .kind) 5 (c .before .before .before .if1 .left), ne-eqb (a .kind) 6 (c .before .before .if2 .left), eq-eqb (a .value) 0 (c .before .if3 .left), ne-eqb (a .field) 0 (c .if4 .left))
 
 pub misused-spec : {M : Type 1} → statement M
 misused-spec = tie.close (tie.spec returns returns-2 returns-3 returns-4 returns-5)
