@@ -1,25 +1,38 @@
 -- A law for each way out of a function, over plain variables.
-use mathlib.Core.Path.{_≡_, refl, sym, ap, _∙_, subst}
-use mathlib.Core.Bool.{Bool, true, false}
+use mathlib.Core.Path.{_≡_, refl, sym, ap, ap₂, _∙_, subst}
+use mathlib.Core.Bool.{Bool, true, false, cond, _&&_}
 use mathlib.Core.Logic.{_≢_, inl, inr}
 use mathlib.Core.List.{List, _++_}
 use Prim.Native.Nat.{ℕ, zero, suc, _+_, _-_, _*_, _<_}
 use native.Mathlib.Omega.{arith}
 use lib.ListN.{length, replicate, getD, set, take, drop}
 use lib.Seq.{getD-drop, drop-set-add, take-set-le}
-use borrow.Author.Tests.{eq-eqb, ne-eqb}
+use lib.Dec.{eqb}
+use borrow.Author.Tests.{eq-eqb, ne-eqb, eqb-true}
 use Rattle.words.specs.Basics.{none, plus}
+use Rattle.words.specs.Below.{Words}
+use Rattle.words.specs.Tests.{both}
+use Rattle.reducers.specs.declared.View.{View}
+use Rattle.reducers.specs.Reducers.{identityView, joinView}
+use Rattle.reducers.specs.Law.{ViewWord}
+use Rattle.reducers.specs.Theory.Laws.{view-law, view-eq}
 use Rattle.frames.specs.declared.Frame.{Frame}
 use Rattle.frames.specs.declared.Returned.the-variants.{Idle, Resumed}
 use Rattle.frames.specs.declared.Synced.the-variants.{Passed, Suspended}
 use Rattle.frames.specs.Widths.{places, frameWords, dequeStride}
-use Rattle.frames.specs.Frames.{frameAt, setFrame, withOutstanding, withSuspended, withReturning, asReturning, childOf, freePlace, mainFrame, initPlaces, initFrames}
+use Rattle.frames.specs.Frames.{frameAt, setFrame, withOutstanding, withoutChild, withSuspended, withReturning, withView, withChild, asReturning, afterSpawn, childOf, freePlace, mainFrame, initPlaces, initFrames}
+use Rattle.frames.specs.Siblings.{relink, firstFrom, onlyChild, nextAfter, joinAt, isIdentity, joinsNothing}
 use Rattle.frames.specs.Deques.{size, setSize, place, setPlace, bottom, push, pop, shiftUp, dropTop}
-use Rattle.frames.specs.Steps.{endFrame, waitsNoMore, goOn, wentOn, sync, synced, spawn}
+use Rattle.frames.specs.Steps.{linkChild, addChild, spawn, removeFrame, unlink, endFrame, waitsNoMore, goOn, wentOn, sync, synced}
 use Rattle.frames.specs.Ranges.{ParentOf, EndsIn}
 use Rattle.frames.specs.Promises.{table, Waits, GoesOn, IsSync}
 use Rattle.frames.specs.Theory.Sizes.{rest-is, rest-ends, sets-past}
 use Rattle.frames.specs.Theory.Records.{frame-set-same, frame-set-other, frame-set-again}
+use Rattle.frames.specs.Theory.RecordWords.{words-frameAt}
+use Rattle.frames.specs.Theory.Alike.{Alike}
+use Rattle.frames.specs.Theory.Links.{link-alike, link-view}
+use Rattle.frames.specs.Theory.Ends.{end-last, end-joins, only-unlink, only-next, sibling-unlink, sibling-next}
+use Rattle.frames.specs.Theory.EndRecords.{removed-is, removed-parent}
 
 -- ---- one worker's places move up
 
@@ -79,20 +92,70 @@ parent-in {fs} {p} {q} r n = go (r .parent)
     go (inl a) = (subst (λ z. z < places) (sym (r .up)) (a .1), (λ z. a .2 (sym (r .up) ∙ z)), subst (λ z. 0 < frameAt fs z .outstanding) (sym (r .up)) (r .counts (a .1)))
     go (inr b) = absurd (n (r .up ∙ b .1))
 
--- ---- an end: fs₁ is the table with the frame's own place p free
-module _ (fs fs₁ : List ℕ) (free p q : ℕ) (g : Frame) (eg : g ≡ freePlace free) (e₁ : fs₁ ≡ setFrame fs p g) (eq : q ≡ frameAt fs p .parent) where
-  pub ended-main : q ≡ none → fs₁ ≡ endFrame fs free p
-  unfolding endFrame
-  ended-main n = rw (e₁, eg, ← eq, eq-eqb q none n)
+-- the four words of the identity
+identity-is : (w : View) → isIdentity w ≡ true → w ≡ identityView
+identity-is w t =
+    let r = both (eqb (w .sum .value) 0 && eqb (w .min .value) none) (eqb (w .affine .multiplier) 1 && eqb (w .affine .addend) 0) t in
+    let a = both (eqb (w .sum .value) 0) (eqb (w .min .value) none) (r .0) in
+    let b = both (eqb (w .affine .multiplier) 1) (eqb (w .affine .addend) 0) (r .1) in
+    view-words w (eqb-true (w .sum .value) 0 (a .0)) (eqb-true (w .min .value) none (a .1)) (eqb-true (w .affine .multiplier) 1 (b .0)) (eqb-true (w .affine .addend) 0 (b .1))
+  where
+    view-words : (w : View) → w .sum .value ≡ 0 → w .min .value ≡ none → w .affine .multiplier ≡ 1 → w .affine .addend ≡ 0 → w ≡ identityView
+    view-words w a b c d = view-eq (ap (λ (x : ℕ). record { value = x }) a) (ap (λ (x : ℕ). record { value = x }) b) (ap₂ (λ (x y : ℕ). record { multiplier = x; addend = y }) c d)
 
-  -- the parent's record is as it was
-  pub parent-same : q ≢ p → frameAt fs₁ q ≡ frameAt fs q
-  parent-same d = rw e₁ (frame-set-other fs p q g d)
+pub only-one : (fs : List ℕ) (p q : ℕ) → joinsNothing (frameAt fs p) (frameAt fs q) ≡ true → 1 ≡ frameAt fs q .outstanding
+only-one fs p q t = sym (eqb-true (frameAt fs q .outstanding) 1 (both (eqb (frameAt fs q .outstanding) 1) (isIdentity (frameAt fs p .view)) t .0))
 
-  pub ended-child : (fs₂ : List ℕ) (n c : ℕ) → q ≢ none → q ≢ p → c ≡ frameAt fs₁ q .outstanding → n ≡ c - 1 → fs₂ ≡ setFrame fs₁ q (withOutstanding (frameAt fs₁ q) n)
-      → fs₂ ≡ endFrame fs free p
-  unfolding endFrame
-  ended-child fs₂ n c m d ec en e₂ = rw (e₂, en, ec, parent-same d, e₁, eg, ← eq, ne-eqb q none m)
+-- ---- an end: q is the parent of the frame at place p
+module _ (fs : List ℕ) (free p q : ℕ) (eq : q ≡ frameAt fs p .parent) where
+  -- fs₁ is the table with the frame's own place free
+  module _ (fs₁ : List ℕ) (g : Frame) (eg : g ≡ freePlace free) (e₁ : fs₁ ≡ setFrame fs p g) where
+    removed-main : q ≡ none → fs₁ ≡ removeFrame fs free p
+    unfolding removeFrame
+    removed-main n = rw (e₁, eg, ← eq, eq-eqb q none n)
+
+    pub ended-main : q ≡ none → fs₁ ≡ endFrame fs free p
+    ended-main n = removed-main n ∙ sym (end-last fs free p (sym eq ∙ n))
+
+    -- the parent's record is as it was
+    parent-same : q ≢ p → frameAt fs₁ q ≡ frameAt fs q
+    parent-same d = rw e₁ (frame-set-other fs p q g d)
+
+    pub removed : (fs₂ : List ℕ) (n c : ℕ) → q ≢ none → q ≢ p → c ≡ frameAt fs q .outstanding → n ≡ c - 1 → fs₂ ≡ setFrame fs₁ q (withOutstanding (frameAt fs₁ q) n)
+        → fs₂ ≡ removeFrame fs free p
+    unfolding removeFrame
+    removed fs₂ n c m d ec en e₂ = rw (e₂, en, ec, parent-same d, e₁, eg, ← eq, ne-eqb q none m)
+
+  -- fs₁ is the table without the frame, whose record was f; its parent has c live children
+  module _ (fs₁ : List ℕ) (f : Frame) (c : ℕ) (l : length fs ≡ frameWords) (m : q ≢ none) (ec : c ≡ frameAt fs q .outstanding) (ef : f ≡ frameAt fs p) (e₁ : fs₁ ≡ removeFrame fs free p) where
+    parent-outstanding : c ≡ frameAt fs (frameAt fs p .parent) .outstanding
+    parent-outstanding = ec ∙ ap (λ (i : ℕ). frameAt fs i .outstanding) eq
+
+    end-is : endFrame fs free p ≡ joinAt (unlink fs p fs₁) (nextAfter fs p) (f .view)
+    end-is = rw (e₁, ef) (end-joins fs free p l (λ e. m (eq ∙ e)))
+
+    pub ended-only : (fs₂ : List ℕ) → c ≡ 1 → fs₂ ≡ joinAt fs₁ q (f .view) → fs₂ ≡ endFrame fs free p
+    ended-only fs₂ z e₂ =
+        let o : onlyChild fs p ≡ true = eq-eqb _ 1 (sym parent-outstanding ∙ z) in
+        e₂ ∙ rw (end-is, only-unlink fs p o fs₁, only-next fs p o, eq)
+
+    -- the frame's view is the identity: the parent's joined with it is the same
+    pub ended-unjoined : Words fs → p < places → q < places → q ≢ p → joinsNothing f (frameAt fs q) ≡ true → fs₁ ≡ endFrame fs free p
+    ended-unjoined h b bq d t =
+        let g = withoutChild (frameAt fs q) in
+        let r = both (eqb (frameAt fs q .outstanding) 1) (isIdentity (f .view)) t in
+        let parent : frameAt fs₁ q ≡ g = ap (λ (k : List ℕ). frameAt k q) e₁ ∙ removed-parent fs free p l b q (sym eq) m bq d in
+        let stored : fs₁ ≡ setFrame (setFrame fs p (freePlace free)) q g = e₁ ∙ removed-is fs free p l b q (sym eq) m bq d in
+        let again : setFrame fs₁ q g ≡ fs₁ = ap (λ (k : List ℕ). setFrame k q g) stored ∙ frame-set-again (setFrame fs p (freePlace free)) q g g ∙ sym stored in
+        let joined : joinView (f .view) (g .view) ≡ g .view = ap (λ (v : View). joinView v (g .view)) (identity-is (f .view) (r .1)) ∙ view-law .left (g .view) (words-frameAt fs q h .view) in
+        let same : joinAt fs₁ q (f .view) ≡ fs₁ = rw parent (ap (λ (v : View). setFrame fs₁ q (withView g v)) joined ∙ again) in
+        ended-only fs₁ (ec ∙ eqb-true (frameAt fs q .outstanding) 1 (r .0)) (sym same)
+
+    pub ended-sibling : (fs₂ fs₃ : List ℕ) (n : ℕ) → c ≢ 1 → n ≡ cond (eqb (f .younger) none) q (firstFrom places fs (f .younger)) → fs₂ ≡ relink fs₁ q p (f .younger)
+        → fs₃ ≡ joinAt fs₂ n (f .view) → fs₃ ≡ endFrame fs free p
+    ended-sibling fs₂ fs₃ n z en e₂ e₃ =
+        let o : onlyChild fs p ≡ false = ne-eqb _ 1 (λ k. z (parent-outstanding ∙ k)) in
+        e₃ ∙ rw (end-is, sibling-unlink fs p o fs₁, sibling-next fs p o, e₂, en, ef, eq)
 
 module _ (ds fs : List ℕ) (w : ℕ) where
   -- ---- after the last end: b says whether the frame at place q waits no more, u whether it is returning
@@ -132,11 +195,41 @@ module _ (ds fs : List ℕ) (w : ℕ) where
         let t = ne-eqb (f .outstanding) 0 z in
         record { after = λ free. rw (e₂, e₁, ← ep, ← ef, t); outcome = λ free. rw (← ep, ← ef, t) }
 
-pub spawned : (ds fs ds′ fs₁ fs₂ : List ℕ) (free p w n : ℕ) (f h k : Frame) → p ≡ bottom ds w → f ≡ frameAt fs p → h ≡ frameAt fs free
-    → n ≡ plus (f .outstanding) 1 → fs₁ ≡ setFrame fs p (withOutstanding (frameAt fs p) n) → k ≡ childOf f p → fs₂ ≡ setFrame fs₁ free k → ds′ ≡ push ds w free
+-- ---- a spawn
+
+table-eq : {ds ds′ fs fs′ : List ℕ} {free free′ : ℕ} → ds ≡ ds′ → fs ≡ fs′ → free ≡ free′ → table ds fs free ≡ table ds′ fs′ free′
+table-eq a b c = rw (a, b, c)
+
+pub linked : (fs gs : List ℕ) (p g c : ℕ) → c ≡ frameAt fs p .outstanding → c ≢ 0 → gs ≡ relink fs p none g → gs ≡ linkChild fs p g
+linked fs gs p g c ec n e = rw (e, ← ec, ne-eqb c 0 n)
+
+pub no-link : (fs : List ℕ) (p g c : ℕ) → c ≡ frameAt fs p .outstanding → c ≡ 0 → fs ≡ linkChild fs p g
+no-link fs p g c ec z = rw (← ec, eq-eqb c 0 z)
+
+-- the frame at place p after its spawn of a child at place g: fs₀ is the table with the link to the child
+pub spawns : (fs fs₀ fs₁ fs₂ : List ℕ) (p g n c : ℕ) → length fs ≡ frameWords → p < places → c ≡ frameAt fs p .outstanding → fs₀ ≡ linkChild fs p g → n ≡ plus c 1
+    → fs₁ ≡ setFrame fs₀ p (withOutstanding (frameAt fs₀ p) n) → fs₂ ≡ setFrame fs₁ p (withView (frameAt fs₁ p) identityView)
+    → fs₂ ≡ setFrame (linkChild fs p g) p (afterSpawn (frameAt (linkChild fs p g) p))
+spawns fs fs₀ fs₁ fs₂ p g n c l b ec e₀ en e₁ e₂ =
+    let a : Alike fs fs₀ = rw e₀ (link-alike fs p g l) in
+    let f = frameAt fs₀ p in
+    let k : n ≡ plus (f .outstanding) 1 = en ∙ ap (λ (i : ℕ). plus i 1) (ec ∙ sym (a .same p .outstanding)) in
+    rw (← e₀) (e₂ ∙ rw (e₁, frame-set-same fs₀ p (withOutstanding f n) (a .same-length ∙ l) b, k) (frame-set-again fs₀ p (withChild f) (afterSpawn f)))
+
+-- the child of the frame at place p is the same, whatever links changed
+child-same : (fs : List ℕ) (p g : ℕ) → length fs ≡ frameWords → childOf (frameAt fs p) p ≡ childOf (frameAt (linkChild fs p g) p) p
+child-same fs p g l =
+    let same = link-alike fs p g l .same p in
+    rw (same .depth, same .root, link-view fs p g l p)
+
+pub spawned : (ds ds′ fs fs₁ fs₂ : List ℕ) (free p w : ℕ) (f h k : Frame) → length fs ≡ frameWords → p ≡ bottom ds w → f ≡ frameAt fs p → h ≡ frameAt fs free
+    → fs₁ ≡ setFrame (linkChild fs p free) p (afterSpawn (frameAt (linkChild fs p free) p)) → k ≡ childOf f p → fs₂ ≡ setFrame fs₁ free k → ds′ ≡ push ds w free
     → table ds′ fs₂ (h .parent) ≡ spawn (table ds fs free) w
-unfolding spawn
-spawned ds fs ds′ fs₁ fs₂ free p w n f h k ep ef eh en e₁ ek e₂ e₃ = rw (e₃, e₂, e₁, ek, en, eh, ef, ep)
+unfolding spawn addChild
+spawned ds ds′ fs fs₁ fs₂ free p w f h k l ep ef eh e₁ ek e₂ e₃ =
+    let child : k ≡ childOf (frameAt (linkChild fs p free) p) p = ek ∙ rw ef (child-same fs p free l) in
+    let next : h .parent ≡ frameAt (linkChild fs p free) free .parent = ap (λ (g : Frame). g .parent) eh ∙ sym (link-alike fs p free l .same free .parent) in
+    rw (← ep) (table-eq e₃ (rw (e₂, e₁, child)) next)
 
 pub begun : (fs fs₁ fs₂ fs₃ : List ℕ) (f : Frame) → length fs ≡ frameWords → fs₁ ≡ replicate (length fs) 0 → f ≡ mainFrame 0 → fs₂ ≡ setFrame fs₁ 0 f
     → fs₃ ≡ initPlaces (places - 1) fs₂ 1 → fs₃ ≡ initFrames (replicate frameWords 0)

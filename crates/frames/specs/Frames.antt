@@ -1,15 +1,19 @@
--- The frame table in a list of words: a record of seven words at each place, and the list of free places. Definitions only.
+-- The frame table in a list of words: a record of twelve words at each place, and the list of free places. Definitions only.
 use mathlib.Core.Bool.{cond}
-use mathlib.Core.List.{List}
+use mathlib.Core.List.{List, [], _∷_, _++_}
 use Prim.Native.Nat.{ℕ, zero, suc, _+_, _-_, _*_}
-use lib.ListN.{getD, set}
+use lib.ListN.{getD}
 use lib.Dec.{eqb}
+use lib.Seq.{sets}
 use Rattle.words.specs.Basics.{none, plus}
+use Rattle.reducers.specs.declared.View.{View}
+use Rattle.reducers.specs.Reducers.{identityView, viewWords, zeroView}
 use Rattle.frames.specs.declared.Frame.{Frame}
 use Rattle.frames.specs.Widths.{places, recordWords}
 
 -- document 02: "64 frame records of live, parent (next free place if not live), depth, outstanding, suspended and root"; R-3: "Frame records gain a
--- word for it, last: 1 on a frame waiting so", that is, returning
+-- word for it, last: 1 on a frame waiting so", that is, returning; R-5: "frame records gain, last, the four view words and the next younger live sibling
+-- or none"
 unfoldable pub frameAt : List ℕ → ℕ → Frame
 frameAt fs p =
     record {
@@ -20,30 +24,48 @@ frameAt fs p =
       suspended = getD fs (recordWords * p + 4) 0;
       root = getD fs (recordWords * p + 5) 0;
       returning = getD fs (recordWords * p + 6) 0;
+      view = record {
+        sum = record { value = getD fs (recordWords * p + 7) 0 };
+        min = record { value = getD fs (recordWords * p + 8) 0 };
+        affine = record { multiplier = getD fs (recordWords * p + 9) 0; addend = getD fs (recordWords * p + 10) 0 };
+      };
+      younger = getD fs (recordWords * p + 11) 0;
     }
 
+-- a record's words
+abbrev pub wordsOf : Frame → List ℕ
+wordsOf f = f .live ∷ f .parent ∷ f .depth ∷ f .outstanding ∷ f .suspended ∷ f .root ∷ f .returning ∷ (viewWords (f .view) ++ f .younger ∷ [])
+
+-- one after the other from the record's first word on
 unfoldable pub setFrame : List ℕ → ℕ → Frame → List ℕ
-setFrame fs p f =
-    set (set (set (set (set (set (set fs (recordWords * p) (f .live)) (recordWords * p + 1) (f .parent)) (recordWords * p + 2) (f .depth)) (recordWords * p + 3) (f .outstanding)) (recordWords * p + 4) (f .suspended)) (recordWords * p + 5) (f .root)) (recordWords * p + 6) (f .returning)
+setFrame fs p f = sets fs (recordWords * p) (wordsOf f)
 
 -- ---- single records
 
--- a record with one word changed: its number of live children, suspended or not, its tree, returning or not
+-- a record with one part changed: its number of live children, suspended or not, its tree, returning or not, its view, its next younger live sibling
 abbrev pub withOutstanding : Frame → ℕ → Frame
 withOutstanding f n =
-    record { live = f .live; parent = f .parent; depth = f .depth; outstanding = n; suspended = f .suspended; root = f .root; returning = f .returning }
+    record { live = f .live; parent = f .parent; depth = f .depth; outstanding = n; suspended = f .suspended; root = f .root; returning = f .returning; view = f .view; younger = f .younger }
 
 abbrev pub withSuspended : Frame → ℕ → Frame
 withSuspended f s =
-    record { live = f .live; parent = f .parent; depth = f .depth; outstanding = f .outstanding; suspended = s; root = f .root; returning = f .returning }
+    record { live = f .live; parent = f .parent; depth = f .depth; outstanding = f .outstanding; suspended = s; root = f .root; returning = f .returning; view = f .view; younger = f .younger }
 
 abbrev pub withRoot : Frame → ℕ → Frame
 withRoot f r =
-    record { live = f .live; parent = f .parent; depth = f .depth; outstanding = f .outstanding; suspended = f .suspended; root = r; returning = f .returning }
+    record { live = f .live; parent = f .parent; depth = f .depth; outstanding = f .outstanding; suspended = f .suspended; root = r; returning = f .returning; view = f .view; younger = f .younger }
 
 abbrev pub withReturning : Frame → ℕ → Frame
 withReturning f b =
-    record { live = f .live; parent = f .parent; depth = f .depth; outstanding = f .outstanding; suspended = f .suspended; root = f .root; returning = b }
+    record { live = f .live; parent = f .parent; depth = f .depth; outstanding = f .outstanding; suspended = f .suspended; root = f .root; returning = b; view = f .view; younger = f .younger }
+
+abbrev pub withView : Frame → View → Frame
+withView f w =
+    record { live = f .live; parent = f .parent; depth = f .depth; outstanding = f .outstanding; suspended = f .suspended; root = f .root; returning = f .returning; view = w; younger = f .younger }
+
+abbrev pub withYounger : Frame → ℕ → Frame
+withYounger f y =
+    record { live = f .live; parent = f .parent; depth = f .depth; outstanding = f .outstanding; suspended = f .suspended; root = f .root; returning = f .returning; view = f .view; younger = y }
 
 -- R-3: "suspends the frame as returning"
 abbrev pub asReturning : Frame → Frame
@@ -57,17 +79,21 @@ withChild f = withOutstanding f (plus (f .outstanding) 1)
 abbrev pub withoutChild : Frame → Frame
 withoutChild f = withOutstanding f (f .outstanding - 1)
 
--- a spawned child of the frame f at place p: "child of the worker's bottom frame and one deeper"
+-- R-5: "the continuation begins with the identity": a frame after its spawn
+abbrev pub afterSpawn : Frame → Frame
+afterSpawn f = withView (withChild f) identityView
+
+-- a spawned child of the frame f at place p: "child of the worker's bottom frame and one deeper"; R-5: "the child inherits", and it is the youngest
 abbrev pub childOf : Frame → ℕ → Frame
-childOf f p = record { live = 1; parent = p; depth = plus (f .depth) 1; outstanding = 0; suspended = 0; root = f .root; returning = 0 }
+childOf f p = record { live = 1; parent = p; depth = plus (f .depth) 1; outstanding = 0; suspended = 0; root = f .root; returning = 0; view = f .view; younger = none }
 
 -- a free place: "all but the link to the next being zero"
 abbrev pub freePlace : ℕ → Frame
-freePlace next = record { live = 0; parent = next; depth = 0; outstanding = 0; suspended = 0; root = 0; returning = 0 }
+freePlace next = record { live = 0; parent = next; depth = 0; outstanding = 0; suspended = 0; root = 0; returning = 0; view = zeroView; younger = 0 }
 
--- Main, with the tree of this root
+-- Main, with the tree of this root; R-5: "Main begins with the identities."
 abbrev pub mainFrame : ℕ → Frame
-mainFrame r = record { live = 1; parent = none; depth = 0; outstanding = 0; suspended = 0; root = r; returning = 0 }
+mainFrame r = record { live = 1; parent = none; depth = 0; outstanding = 0; suspended = 0; root = r; returning = 0; view = identityView; younger = none }
 
 -- ---- the start
 

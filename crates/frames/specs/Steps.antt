@@ -1,4 +1,4 @@
--- What a spawn, a return, a steal and a sync do to the deques and the frame table. Definitions only. That the step is not
+-- What a spawn, a return, a steal, a sync and a fold do to the deques and the frame table. Definitions only. That the step is not
 -- refused is the caller's; what happens to the trees is the pool's.
 use mathlib.Core.Bool.{Bool, cond, not, _&&_}
 use mathlib.Core.List.{List}
@@ -10,7 +10,9 @@ use Rattle.frames.specs.declared.Returned.{Returned}
 use Rattle.frames.specs.declared.Returned.the-variants.{Continued, Idle, Resumed, Finished, Waiting}
 use Rattle.frames.specs.declared.Synced.{Synced}
 use Rattle.frames.specs.declared.Synced.the-variants.{Passed, Suspended}
-use Rattle.frames.specs.Frames.{frameAt, setFrame, childOf, withChild, withoutChild, withSuspended, freePlace}
+use Rattle.reducers.specs.Reducers.{foldView}
+use Rattle.frames.specs.Frames.{frameAt, setFrame, afterSpawn, childOf, withoutChild, withSuspended, withView, freePlace}
+use Rattle.frames.specs.Siblings.{relink, onlyChild, nextAfter, joinAt}
 use Rattle.frames.specs.Deques.{bottom, top, push, pop, dropTop}
 
 -- the deques, the frame table and the first free place
@@ -25,15 +27,26 @@ acting t w = frameAt (t .frames) (bottom (t .deques) w)
 
 -- ---- spawn: "a new frame, child of the worker's bottom frame and one deeper, goes to the bottom of the same deque"
 
-unfoldable pub spawn : Table → ℕ → Table
-spawn t w =
+-- its other live children, if it has any: the youngest of them names the new one, at place g, as its next younger sibling
+abbrev pub linkChild : List ℕ → ℕ → ℕ → List ℕ
+linkChild fs p g = cond (eqb (frameAt fs p .outstanding) 0) fs (relink fs p none g)
+
+-- the child in the first free place
+unfoldable pub addChild : Table → ℕ → Table
+addChild t w =
     let p : ℕ = bottom (t .deques) w in
     let f : Frame = frameAt (t .frames) p in
     record {
       deques = push (t .deques) w (t .«free_place»);
-      frames = setFrame (setFrame (t .frames) p (withChild f)) (t .«free_place») (childOf f p);
+      frames = setFrame (setFrame (t .frames) p (afterSpawn f)) (t .«free_place») (childOf f p);
       «free_place» = frameAt (t .frames) (t .«free_place») .parent;
     }
+
+abbrev pub withFrames : Table → List ℕ → Table
+withFrames t fs = record { deques = t .deques; frames = fs; «free_place» = t .«free_place» }
+
+unfoldable pub spawn : Table → ℕ → Table
+spawn t w = addChild (withFrames t (linkChild (t .frames) (bottom (t .deques) w) (t .«free_place»))) w
 
 -- ---- return: "the bottom frame ends"
 
@@ -44,10 +57,20 @@ suspend t w f =
 
 -- the frame at place p ends: its place is free again, "the last freed is the first taken", and its parent, if it has one, has a live
 -- child less
-unfoldable pub endFrame : List ℕ → ℕ → ℕ → List ℕ
-endFrame fs free p =
+unfoldable pub removeFrame : List ℕ → ℕ → ℕ → List ℕ
+removeFrame fs free p =
     let q : ℕ = frameAt fs p .parent in
     cond (eqb q none) (setFrame fs p (freePlace free)) (setFrame (setFrame fs p (freePlace free)) q (withoutChild (frameAt fs q)))
+
+-- the frame at p has ended, and gs is the table without it: an elder sibling names the next younger one instead
+abbrev pub unlink : List ℕ → ℕ → List ℕ → List ℕ
+unlink fs p gs = cond (onlyChild fs p) gs (relink gs (frameAt fs p .parent) p (frameAt fs p .younger))
+
+-- all of it; R-5: "the view of a frame that ends joins on the left of the next one's" (Main's becomes the totals: semantics)
+unfoldable pub endFrame : List ℕ → ℕ → ℕ → List ℕ
+endFrame fs free p =
+    let gs : List ℕ = removeFrame fs free p in
+    cond (eqb (frameAt fs p .parent) none) gs (joinAt (unlink fs p gs) (nextAfter fs p) (frameAt fs p .view))
 
 -- of the parent's record, already without the child that has ended: it "is suspended and has no live child left"
 abbrev pub waitsNoMore : Frame → Bool
@@ -89,6 +112,12 @@ sync t w = cond (eqb (acting t w .outstanding) 0) t (suspend t w (withSuspended 
 
 unfoldable pub synced : Table → ℕ → Synced
 synced t w = cond (eqb (acting t w .outstanding) 0) Passed Suspended
+
+-- ---- fold: R-5, "Record kind 7 folds its value into the reducer named in its splitter field", in the bottom frame's view
+
+unfoldable pub fold : Table → ℕ → ℕ → ℕ → Table
+fold t w r v =
+    withFrames t (setFrame (t .frames) (bottom (t .deques) w) (withView (acting t w) (foldView (acting t w .view) r v)))
 
 -- ---- document 01's numbers, and R-3's outcome 4
 

@@ -9,9 +9,10 @@ maxWorkers = 8
 abbrev pub places : ℕ
 places = 64
 
--- document 02: frame records "of live, parent .., depth, outstanding, suspended and root", and by R-3 "a word for it, last"
+-- document 02: frame records "of live, parent .., depth, outstanding, suspended and root", by R-3 "a word for it, last", and by R-5, "last, the
+-- four view words and the next younger live sibling or none"
 abbrev pub recordWords : ℕ
-recordWords = 7
+recordWords = 12
 
 abbrev pub frameWords : ℕ
 frameWords = places * recordWords

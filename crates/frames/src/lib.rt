@@ -1,7 +1,8 @@
 // The frame table and the workers' deques, in lent words; what the steps do to them. The lent words have their exact lengths,
-// so no function tests an index, but for frame_or_zero.
+// so no function tests an index, but for frame_or_zero and join_if_place.
 mod deques;
 mod records;
+mod siblings;
 mod steps;
 
 pub use deques::acting_place;
@@ -15,8 +16,11 @@ pub use records::frame_or_zero;
 pub use records::init_frames;
 pub use records::root_at;
 pub use records::set_root;
+use reducers::View;
+pub use steps::end_below;
 pub use steps::end_frame;
 pub use steps::ends_too;
+pub use steps::fold_at;
 pub use steps::go_on;
 pub use steps::spawn_frame;
 pub use steps::steal_frame;
@@ -31,7 +35,7 @@ pub const MAX_WORKERS: u32 = 8;
 
 pub const PLACES: u32 = 64;
 
-pub const RECORD_WORDS: usize = 7;
+pub const RECORD_WORDS: usize = 12;
 
 // A record's words but one.
 pub const OTHER_WORDS: u32 = RECORD_WORDS as u32 - 1;
@@ -54,6 +58,10 @@ pub struct Frame {
     pub suspended: u32,
     pub root: u32,
     pub returning: u32,
+    // what the frame has folded and has been handed on to it, of each reducer (R-5)
+    pub view: View,
+    // the place of the next younger live sibling, or none
+    pub younger: u32,
 }
 
 // How a return went on (document 01's outcomes 0 to 3, and R-3's 4).

@@ -5,12 +5,17 @@ ghost use Prim.Native.Nat.{_+_, _*_, _≤_, _<_};
 ghost use lib.Dec.{eqb};
 ghost use lib.ListN.{length, replicate};
 ghost use Rattle.words.specs.Basics.{none};
+ghost use Rattle.reducers.specs.Reducers.{withSum, withMin, withAffine, zeroView};
 ghost use Rattle.frames.specs.Widths.{places, recordWords, frameWords};
-ghost use Rattle.frames.specs.Frames.{frameAt, setFrame, withOutstanding, withSuspended, withRoot, withReturning, childOf, freePlace, mainFrame, initPlaces, initFrames};
+ghost use Rattle.frames.specs.Frames.{frameAt, setFrame, withOutstanding, withSuspended, withRoot, withReturning, withView, withYounger, childOf, freePlace, mainFrame, initPlaces, initFrames};
 use super::Frame;
 use super::NONE;
 use super::OTHER_WORDS;
 use super::PLACES;
+use reducers::Affine;
+use reducers::Min;
+use reducers::Sum;
+use reducers::View;
 
 // ---- single records
 
@@ -18,6 +23,7 @@ use super::PLACES;
 pub fn child_of(f: Frame, p: u32) -> Frame
     ensures { λ r. ⌜ r ≡ childOf f p ⌝ }
 {
+    let view = f.view;
     Frame {
         live: 1,
         parent: p,
@@ -26,6 +32,22 @@ pub fn child_of(f: Frame, p: u32) -> Frame
         suspended: 0,
         root: f.root,
         returning: 0,
+        view,
+        younger: NONE,
+    }
+}
+
+// A view of zeros.
+fn zero_view() -> View
+    ensures { λ r. ⌜ r ≡ zeroView ⌝ }
+{
+    View {
+        sum: Sum { value: 0 },
+        min: Min { value: 0 },
+        affine: Affine {
+            multiplier: 0,
+            addend: 0,
+        },
     }
 }
 
@@ -41,6 +63,8 @@ pub fn free_place(next: u32) -> Frame
         suspended: 0,
         root: 0,
         returning: 0,
+        view: zero_view(),
+        younger: 0,
     }
 }
 
@@ -56,6 +80,8 @@ fn main_frame(root: u32) -> Frame
         suspended: 0,
         root,
         returning: 0,
+        view: View::IDENTITY,
+        younger: NONE,
     }
 }
 
@@ -83,6 +109,19 @@ pub fn frame_at(frames: &[u32], p: u32) -> Frame
         suspended: frames[at + 4],
         root: frames[at + 5],
         returning: frames[at + 6],
+        view: View {
+            sum: Sum {
+                value: frames[at + 7],
+            },
+            min: Min {
+                value: frames[at + 8],
+            },
+            affine: Affine {
+                multiplier: frames[at + 9],
+                addend: frames[at + 10],
+            },
+        },
+        younger: frames[at + 11],
     }
 }
 
@@ -111,6 +150,11 @@ pub fn put_frame(frames: &mut [u32], p: u32, f: Frame)
     frames[at + 4] = f.suspended;
     frames[at + 5] = f.root;
     frames[at + 6] = f.returning;
+    frames[at + 7] = f.view.sum.value;
+    frames[at + 8] = f.view.min.value;
+    frames[at + 9] = f.view.affine.multiplier;
+    frames[at + 10] = f.view.affine.addend;
+    frames[at + 11] = f.younger;
 }
 
 // The root of the frame at place p.
@@ -175,6 +219,50 @@ pub fn set_returning(frames: &mut [u32], p: u32, b: u32)
     ensures { λ _. ⌜ now (frames .exit) ≡ setFrame (now (frames .entry)) p (withReturning (frameAt (now (frames .entry)) p) b) ⌝ }
 {
     frames[start_of(p) + 6] = b;
+}
+
+// Gives the frame at place p another view.
+pub fn set_view(frames: &mut [u32], p: u32, view: View)
+    requires { ⌜ (length (now frames) ≡ frameWords) × (p < places) ⌝ }
+    ensures { λ _. ⌜ now (frames .exit) ≡ setFrame (now (frames .entry)) p (withView (frameAt (now (frames .entry)) p) view) ⌝ }
+{
+    let at = start_of(p);
+    frames[at + 7] = view.sum.value;
+    frames[at + 8] = view.min.value;
+    frames[at + 9] = view.affine.multiplier;
+    frames[at + 10] = view.affine.addend;
+}
+
+// One part of the view of the frame at place p.
+pub fn set_sum(frames: &mut [u32], p: u32, sum: Sum)
+    requires { ⌜ (length (now frames) ≡ frameWords) × (p < places) ⌝ }
+    ensures { λ _. ⌜ now (frames .exit) ≡ setFrame (now (frames .entry)) p (withView (frameAt (now (frames .entry)) p) (withSum (frameAt (now (frames .entry)) p .view) sum)) ⌝ }
+{
+    frames[start_of(p) + 7] = sum.value;
+}
+
+pub fn set_min(frames: &mut [u32], p: u32, min: Min)
+    requires { ⌜ (length (now frames) ≡ frameWords) × (p < places) ⌝ }
+    ensures { λ _. ⌜ now (frames .exit) ≡ setFrame (now (frames .entry)) p (withView (frameAt (now (frames .entry)) p) (withMin (frameAt (now (frames .entry)) p .view) min)) ⌝ }
+{
+    frames[start_of(p) + 8] = min.value;
+}
+
+pub fn set_affine(frames: &mut [u32], p: u32, affine: Affine)
+    requires { ⌜ (length (now frames) ≡ frameWords) × (p < places) ⌝ }
+    ensures { λ _. ⌜ now (frames .exit) ≡ setFrame (now (frames .entry)) p (withView (frameAt (now (frames .entry)) p) (withAffine (frameAt (now (frames .entry)) p .view) affine)) ⌝ }
+{
+    let at = start_of(p);
+    frames[at + 9] = affine.multiplier;
+    frames[at + 10] = affine.addend;
+}
+
+// Gives the frame at place p another next younger sibling.
+pub fn set_younger(frames: &mut [u32], p: u32, y: u32)
+    requires { ⌜ (length (now frames) ≡ frameWords) × (p < places) ⌝ }
+    ensures { λ _. ⌜ now (frames .exit) ≡ setFrame (now (frames .entry)) p (withYounger (frameAt (now (frames .entry)) p) y) ⌝ }
+{
+    frames[start_of(p) + 11] = y;
 }
 
 // ---- the start

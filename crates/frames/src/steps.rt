@@ -1,13 +1,18 @@
-// What a spawn, a return, a steal and a sync do to the deques and the frame table. That the step is not refused is the
-// caller's to see to.
+// What a spawn, a return, a steal, a sync and a fold do to the deques and the frame table. That the step is not refused is
+// the caller's to see to.
 ghost use mathlib.Core.Path.{_≡_};
+ghost use mathlib.Core.Logic.{_≢_};
+ghost use mathlib.Core.Bool.{true};
 ghost use mathlib.Core.List.{List};
 ghost use Prim.Native.Nat.{ℕ, _≤_, _<_};
 ghost use lib.ListN.{length};
+ghost use Rattle.words.specs.Basics.{none};
+ghost use Rattle.reducers.specs.Reducers.{foldView};
 ghost use Rattle.frames.specs.Widths.{maxWorkers, places, frameWords, dequePlaces, dequeWords};
-ghost use Rattle.frames.specs.Frames.{frameAt};
+ghost use Rattle.frames.specs.Frames.{frameAt, setFrame, withView, afterSpawn};
+ghost use Rattle.frames.specs.Siblings.{isIdentity, joinsNothing};
 ghost use Rattle.frames.specs.Deques.{size};
-ghost use Rattle.frames.specs.Steps.{spawn, endFrame, waitsNoMore, endsToo, steal};
+ghost use Rattle.frames.specs.Steps.{linkChild, spawn, removeFrame, endFrame, waitsNoMore, endsToo, steal};
 ghost use Rattle.frames.specs.Promises.{table, Waits, GoesOn, IsSync};
 ghost use Rattle.frames.specs.Ranges.{Acts, EndsIn};
 use super::Frame;
@@ -24,10 +29,42 @@ use super::records::free_place;
 use super::records::outstanding_at;
 use super::records::put_frame;
 use super::records::returning_at;
+use super::records::set_affine;
+use super::records::set_min;
 use super::records::set_outstanding;
 use super::records::set_returning;
+use super::records::set_sum;
 use super::records::set_suspended;
+use super::records::set_view;
 use super::records::suspended_at;
+use super::siblings::join_at;
+use super::siblings::join_if_place;
+use super::siblings::next_after;
+use super::siblings::relink;
+use reducers::Affine;
+use reducers::Min;
+use reducers::Sum;
+use reducers::View;
+
+// The frame at place p has so many live children: the youngest of them, if there is one, names the new one, at place g, as its next younger sibling.
+fn link_child(frames: &mut [u32], p: u32, g: u32, children: u32)
+    requires { ⌜ (length (now frames) ≡ frameWords) × (children ≡ frameAt (now frames) p .outstanding) ⌝ }
+    ensures { λ _. ⌜ now (frames .exit) ≡ linkChild (now (frames .entry)) p g ⌝ }
+{
+    if children != 0 {
+        relink(frames, p, NONE, g);
+    }
+}
+
+// The frame at place p, which has so many live children, after its spawn of a child at place g.
+fn after_spawn(frames: &mut [u32], p: u32, g: u32, children: u32)
+    requires { ⌜ (length (now frames) ≡ frameWords) × (p < places) × (children ≡ frameAt (now frames) p .outstanding) ⌝ }
+    ensures { λ _. ⌜ now (frames .exit) ≡ setFrame (linkChild (now (frames .entry)) p g) p (afterSpawn (frameAt (linkChild (now (frames .entry)) p g) p)) ⌝ }
+{
+    link_child(frames, p, g, children);
+    set_outstanding(frames, p, words::add(children, 1));
+    set_view(frames, p, View::IDENTITY);
+}
 
 // A child of worker w's bottom frame, the n-th, which is f at place p, in the first free place, goes to the bottom of the same deque. Gives the first
 // free place.
@@ -44,23 +81,123 @@ pub fn spawn_frame(
     ensures { λ r. ⌜ table (now (deques .exit)) (now (frames .exit)) r ≡ spawn (table (now (deques .entry)) (now (frames .entry)) free) w ⌝ }
 {
     let next = frame_at(frames, free);
-    set_outstanding(frames, p, words::add(f.outstanding, 1));
+    after_spawn(frames, p, free, f.outstanding);
     put_frame(frames, free, child_of(f, p));
     push_on(deques, w, n, free);
     next.parent
 }
 
-// The frame at place p, whose parent is at place q or is none, ends: its place is the first free one, and its parent has a live child less.
+// The frame at place p, whose parent at place q has so many live children, is removed: its place is the first free one, and its parent has a live child
+// less.
+fn remove_frame(frames: &mut [u32], free: u32, p: u32, q: u32, children: u32)
+    requires { ⌜ EndsIn (now frames) p q × (q ≢ none) × (children ≡ frameAt (now frames) q .outstanding) ⌝ }
+    ensures { λ _. ⌜ now (frames .exit) ≡ removeFrame (now (frames .entry)) free p ⌝ }
+{
+    put_frame(frames, p, free_place(free));
+    set_outstanding(frames, q, children - 1);
+}
+
+// The frame at place p, whose parent at place q has so many live children, and so another one, ends.
+fn end_sibling(frames: &mut [u32], free: u32, p: u32, q: u32, children: u32)
+    requires { ⌜ EndsIn (now frames) p q × (q ≢ none) × (children ≡ frameAt (now frames) q .outstanding) × (children ≢ 1) ⌝ }
+    ensures { λ _. ⌜ now (frames .exit) ≡ endFrame (now (frames .entry)) free p ⌝ }
+{
+    let f = frame_at(frames, p);
+    let next = next_after(frames, q, f.younger);
+    remove_frame(frames, free, p, q, children);
+    relink(frames, q, p, f.younger);
+    join_if_place(frames, next, f.view);
+}
+
+// The same, with siblings or without.
+fn end_joined(frames: &mut [u32], free: u32, p: u32, q: u32)
+    requires { ⌜ EndsIn (now frames) p q × (q ≢ none) ⌝ }
+    ensures { λ _. ⌜ now (frames .exit) ≡ endFrame (now (frames .entry)) free p ⌝ }
+{
+    let children = outstanding_at(frames, q);
+    if children != 1 {
+        end_sibling(frames, free, p, q, children);
+        return;
+    }
+    let f = frame_at(frames, p);
+    remove_frame(frames, free, p, q, children);
+    join_at(frames, q, f.view);
+}
+
+// Is nothing folded into the view? All four words are compared, so that the compiler can make one vector compare of it.
+fn is_identity(view: View) -> bool
+    ensures { λ r. ⌜ r ≡ isIdentity view ⌝ }
+{
+    ((view.sum.value == 0) & (view.min.value == NONE))
+        & ((view.affine.multiplier == 1) & (view.affine.addend == 0))
+}
+
+// Is the frame at place p the only live child of the one at place q, with the identity as its view?
+fn joins_nothing(frames: &[u32], p: u32, q: u32) -> bool
+    requires { ⌜ (length (now frames) ≡ frameWords) × (p < places) × (q < places) ⌝ }
+    ensures { λ r. ⌜ r ≡ joinsNothing (frameAt (now (frames .entry)) p) (frameAt (now (frames .entry)) q) ⌝ }
+{
+    if outstanding_at(frames, q) != 1 {
+        return false;
+    }
+    is_identity(frame_at(frames, p).view)
+}
+
+// It ends: nothing joins its parent's view.
+fn end_unjoined(frames: &mut [u32], free: u32, p: u32, q: u32)
+    requires { ⌜ EndsIn (now frames) p q × (q ≢ none) × (joinsNothing (frameAt (now frames) p) (frameAt (now frames) q) ≡ true) ⌝ }
+    ensures { λ _. ⌜ now (frames .exit) ≡ endFrame (now (frames .entry)) free p ⌝ }
+{
+    remove_frame(frames, free, p, q, 1);
+}
+
+// The frame at place p, whose parent is at place q, ends: its place is the first free one, its parent has a live child less, and its view joins the next
+// one's. The two lines stand in end_frame too: end_joined then has two callers and stays a function of its own, out of this one's way.
+pub fn end_below(frames: &mut [u32], free: u32, p: u32, q: u32)
+    requires { ⌜ EndsIn (now frames) p q × (q ≢ none) ⌝ }
+    ensures { λ _. ⌜ now (frames .exit) ≡ endFrame (now (frames .entry)) free p ⌝ }
+{
+    if joins_nothing(frames, p, q) {
+        end_unjoined(frames, free, p, q);
+        return;
+    }
+    end_joined(frames, free, p, q);
+}
+
+// The same, where the frame may be Main, and q none.
 pub fn end_frame(frames: &mut [u32], free: u32, p: u32, q: u32)
     requires { ⌜ EndsIn (now frames) p q ⌝ }
     ensures { λ _. ⌜ now (frames .exit) ≡ endFrame (now (frames .entry)) free p ⌝ }
 {
-    put_frame(frames, p, free_place(free));
     if q == NONE {
+        put_frame(frames, p, free_place(free));
         return;
     }
-    let left = outstanding_at(frames, q) - 1;
-    set_outstanding(frames, q, left);
+    if joins_nothing(frames, p, q) {
+        end_unjoined(frames, free, p, q);
+        return;
+    }
+    end_joined(frames, free, p, q);
+}
+
+// The value v is folded into reducer r of the view of the frame at place p; a number that names no reducer folds nothing.
+pub fn fold_at(frames: &mut [u32], p: u32, r: u32, v: u32)
+    requires { ⌜ (length (now frames) ≡ frameWords) × (p < places) ⌝ }
+    ensures { λ _. ⌜ now (frames .exit) ≡ setFrame (now (frames .entry)) p (withView (frameAt (now (frames .entry)) p) (foldView (frameAt (now (frames .entry)) p .view) r v)) ⌝ }
+{
+    let f = frame_at(frames, p);
+    let w = f.view;
+    if r == 0 {
+        set_sum(frames, p, Sum::join(w.sum, Sum { value: v }));
+        return;
+    }
+    if r == 1 {
+        set_min(frames, p, Min::join(w.min, Min { value: v }));
+        return;
+    }
+    if r == 2 {
+        set_affine(frames, p, Affine::join(w.affine, Affine::of_value(v)));
+    }
 }
 
 // Is the frame at place q suspended, with no live child left?

@@ -1,4 +1,4 @@
--- What a spawn, an end, a resumption, a wait, a sync, a write and a steal do, over the workers' lists and the single records. In each, p is worker w's
+-- What a new child, an end, a resumption, a wait, a sync, a write and a steal do, over the workers' lists and the single records. In each, p is worker w's
 -- bottom frame, ps are the frames above it, gs the free places.
 use mathlib.Core.Path.{_≡_, refl, sym, ap, _∙_}
 use mathlib.Core.Logic.{_≢_}
@@ -12,9 +12,9 @@ use Rattle.words.specs.Counting.{δ, δ-same, count, count-cons}
 use Rattle.frames.specs.declared.Frame.{Frame}
 use Rattle.frames.specs.declared.Synced.the-variants.{Passed, Suspended}
 use Rattle.frames.specs.Widths.{maxWorkers, places, dequePlaces}
-use Rattle.frames.specs.Frames.{frameAt, setFrame, childOf, withChild, withoutChild, withSuspended, withRoot, freePlace}
+use Rattle.frames.specs.Frames.{frameAt, setFrame, childOf, afterSpawn, withoutChild, withSuspended, withRoot, freePlace}
 use Rattle.frames.specs.Deques.{top, dequeList, push, dropTop}
-use Rattle.frames.specs.Steps.{Table, acting, suspend, endFrame, resume, spawn, steal, sync, synced}
+use Rattle.frames.specs.Steps.{Table, acting, suspend, removeFrame, resume, addChild, steal, sync, synced}
 use Rattle.frames.specs.Promises.{table}
 use Rattle.frames.specs.Theory.Records.{length-setFrame, frame-set-same, frame-set-other}
 use Rattle.frames.specs.Theory.Lists.{front, last, list-length, list-head, list-top, list-elsewhere, dropTop-elsewhere, dropTop-shaped, dropTop-list}
@@ -32,36 +32,36 @@ out-tail p g gs o = omega (arith, count-cons p g gs)
 pub acting-is : (t : Table) (w p : ℕ) (ps : List ℕ) → dequeList (t .deques) w ≡ p ∷ ps → acting t w ≡ frameAt (t .frames) p
 acting-is t w p ps d = ap (frameAt (t .frames)) (list-head (t .deques) w p ps d)
 
--- ---- spawn: the child's place is the first free one
+-- ---- a child in the first free place
 
 pub record Spawned (t t′ : Table) (w p g : ℕ) (ps gs : List ℕ) : Type 0 where
   pub after : After t t′ w (g ∷ p ∷ ps) gs (g ∷ p ∷ [])
-  pub parent : frameAt (t′ .frames) p ≡ withChild (frameAt (t .frames) p)
+  pub parent : frameAt (t′ .frames) p ≡ afterSpawn (frameAt (t .frames) p)
   pub child : frameAt (t′ .frames) g ≡ childOf (frameAt (t .frames) p) p
 
 module _ (t : Table) (w p g : ℕ) (ps gs : List ℕ) (F : Formed t (g ∷ gs)) (h : w < maxWorkers) (d : dequeList (t .deques) w ≡ p ∷ ps) where
-  spawn-is : spawn t w ≡ table (push (t .deques) w g) (setFrame (setFrame (t .frames) p (withChild (frameAt (t .frames) p))) g (childOf (frameAt (t .frames) p) p)) (nextFree (t .frames) g)
-  unfolding spawn
+  spawn-is : addChild t w ≡ table (push (t .deques) w g) (setFrame (setFrame (t .frames) p (afterSpawn (frameAt (t .frames) p))) g (childOf (frameAt (t .frames) p) p)) (nextFree (t .frames) g)
+  unfolding addChild
   spawn-is = rw (list-head (t .deques) w p ps d, F .places .0)
 
-  pub spawn-does : suc (length ps) < dequePlaces → p < places → count p (g ∷ gs) ≡ 0 → count g gs ≡ 0 → Spawned t (spawn t w) w p g ps gs
+  pub spawn-does : suc (length ps) < dequePlaces → p < places → count p (g ∷ gs) ≡ 0 → count g gs ≡ 0 → Spawned t (addChild t w) w p g ps gs
   spawn-does r b o og =
       let f = frameAt (t .frames) p in
       rw spawn-is
       (record {
         after =
             after-push
-            (after-store (after-store (after-take g gs (unchanged t w (p ∷ ps) (g ∷ gs) F d)) p (withChild f) (out-tail p g gs o)) g (childOf f p) og)
+            (after-store (after-store (after-take g gs (unchanged t w (p ∷ ps) (g ∷ gs) F d)) p (afterSpawn f) (out-tail p g gs o)) g (childOf f p) og)
             g h r;
-        parent = frame-set-other _ g p _ (out-head p g gs o) ∙ frame-set-same (t .frames) p (withChild f) (F .long) b;
+        parent = frame-set-other _ g p _ (out-head p g gs o) ∙ frame-set-same (t .frames) p (afterSpawn f) (F .long) b;
         child = frame-set-same _ g (childOf f p) (length-setFrame (t .frames) p _ ∙ F .long) (F .places .1);
       })
 
 -- ---- the end of the frame at place p: its place is the first free one
 
--- the table afterwards
+-- the table afterwards, but for what becomes of its view and its siblings' links
 abbrev pub endTable : Table → ℕ → Table
-endTable t p = table (t .deques) (endFrame (t .frames) (t .«free_place») p) p
+endTable t p = table (t .deques) (removeFrame (t .frames) (t .«free_place») p) p
 
 -- ps are the places of the records that are stored
 pub record Ends (t : Table) (w p : ℕ) (d gs ps : List ℕ) : Type 0 where
@@ -78,8 +78,8 @@ module _ (t : Table) (w p : ℕ) (d gs : List ℕ) (F : Formed t gs) (e : dequeL
   freed-place : frameAt (freed .frames) p ≡ freePlace (t .«free_place»)
   freed-place = frame-set-same (t .frames) p (freePlace (t .«free_place»)) (F .long) b
 
-  main-is : frameAt (t .frames) p .parent ≡ none → endFrame (t .frames) (t .«free_place») p ≡ freed .frames
-  unfolding endFrame
+  main-is : frameAt (t .frames) p .parent ≡ none → removeFrame (t .frames) (t .«free_place») p ≡ freed .frames
+  unfolding removeFrame
   main-is n = rw (eq-eqb (frameAt (t .frames) p .parent) none n)
 
   pub end-main : frameAt (t .frames) p .parent ≡ none → Ends t w p d gs (p ∷ [])
@@ -90,8 +90,8 @@ module _ (t : Table) (w p : ℕ) (d gs : List ℕ) (F : Formed t gs) (e : dequeL
     abbrev g : Frame
     g = withoutChild (frameAt (t .frames) q)
 
-    child-is : endFrame (t .frames) (t .«free_place») p ≡ setFrame (freed .frames) q g
-    unfolding endFrame
+    child-is : removeFrame (t .frames) (t .«free_place») p ≡ setFrame (freed .frames) q g
+    unfolding removeFrame
     child-is = rw (n, ne-eqb q none (λ m. omega (arith, c, m)))
 
     freed-still : frameAt (setFrame (freed .frames) q g) p ≡ freePlace (t .«free_place»)

@@ -5,74 +5,43 @@ use mathlib.Core.Logic.{inl, inr}
 use mathlib.Core.List.{List}
 use Prim.Native.Nat.{ℕ, zero, suc, _+_, _-_, _*_, _<_}
 use native.Mathlib.Omega.{arith}
-use lib.ListN.{set, replicate}
+use lib.ListN.{replicate}
 use lib.Dec.{eqb}
 use Rattle.words.specs.Basics.{none, plus}
 use Rattle.words.specs.Tests.{decided}
 use Rattle.words.specs.Below.{Words, words-set, words-zeros, plus-word, minus-word, cond-word}
+use Rattle.reducers.specs.declared.View.{View}
+use Rattle.reducers.specs.Reducers.{joinView, foldView}
+use Rattle.reducers.specs.Law.{ViewWord}
+use Rattle.reducers.specs.Theory.Laws.{view-law}
+use Rattle.reducers.specs.Theory.Folds.{fold-word}
 use Rattle.frames.specs.declared.Frame.{Frame}
-use Rattle.frames.specs.Widths.{places, recordWords, dequeStride}
-use Rattle.frames.specs.Frames.{frameAt, setFrame, withOutstanding, withSuspended, withRoot, withReturning, withChild, withoutChild, asReturning, childOf, freePlace, mainFrame, initPlaces, initFrames}
+use Rattle.frames.specs.Widths.{places, dequeStride}
+use Rattle.frames.specs.Frames.{frameAt, setFrame, withSuspended, withView, withYounger, withoutChild, asReturning, afterSpawn, childOf, freePlace, mainFrame, initPlaces, initFrames}
+use Rattle.frames.specs.Siblings.{names, relinkFrom, relink, onlyChild, nextAfter, joinAt}
 use Rattle.frames.specs.Deques.{size, setSize, place, setPlace, bottom, top, push, pop, shiftUp, dropTop, initDeques}
-use Rattle.frames.specs.Steps.{Table, acting, spawn, suspend, endFrame, resumes, goOn, steal, sync}
+use Rattle.frames.specs.Steps.{Table, acting, linkChild, addChild, withFrames, spawn, suspend, removeFrame, unlink, endFrame, resumes, goOn, steal, sync, fold}
+use Rattle.frames.specs.Theory.RecordWords.{words-outstanding, words-suspended, words-returning, words-withView, words-younger, words-childOf, words-afterSpawn, words-freePlace, words-mainFrame}
+pub use Rattle.frames.specs.Theory.RecordWords.{FrameWords, words-view, words-frameAt, words-setFrame, words-root}
 
--- ---- a record
+-- ---- siblings, and views joined
 
-pub record FrameWords (f : Frame) : Type 0 where
-  pub live : f .live < 4294967296
-  pub parent : f .parent < 4294967296
-  pub depth : f .depth < 4294967296
-  pub outstanding : f .outstanding < 4294967296
-  pub suspended : f .suspended < 4294967296
-  pub root : f .root < 4294967296
-  pub returning : f .returning < 4294967296
+words-relinkFrom : (n : ℕ) (fs : List ℕ) (q x y c : ℕ) → y < 4294967296 → Words fs → Words (relinkFrom n fs q x y c)
+unfolding relinkFrom
+words-relinkFrom zero fs q x y c h F = F
+words-relinkFrom (suc n) fs q x y c h F = elim (decided (names fs q x c)) [
+  | inl e ↦ rw e (words-setFrame fs c (withYounger (frameAt fs c) y) F (words-younger (frameAt fs c) (words-frameAt fs c F) y h))
+  | inr e ↦ rw e (words-relinkFrom n fs q x y (suc c) h F)
+]
 
-pub words-frameAt : (fs : List ℕ) (p : ℕ) → Words fs → FrameWords (frameAt fs p)
-unfolding frameAt
-words-frameAt fs p h =
-    record {
-      live = h (recordWords * p);
-      parent = h (recordWords * p + 1);
-      depth = h (recordWords * p + 2);
-      outstanding = h (recordWords * p + 3);
-      suspended = h (recordWords * p + 4);
-      root = h (recordWords * p + 5);
-      returning = h (recordWords * p + 6);
-    }
+pub words-relink : (fs : List ℕ) (q x y : ℕ) → y < 4294967296 → Words fs → Words (relink fs q x y)
+words-relink fs q x y h F = words-relinkFrom places fs q x y 0 h F
 
-pub words-setFrame : (fs : List ℕ) (p : ℕ) (f : Frame) → Words fs → FrameWords f → Words (setFrame fs p f)
-unfolding setFrame
-words-setFrame fs p f h F =
-    let a : List ℕ = set fs (recordWords * p) (f .live) in
-    let b : List ℕ = set a (recordWords * p + 1) (f .parent) in
-    let c : List ℕ = set b (recordWords * p + 2) (f .depth) in
-    let d : List ℕ = set c (recordWords * p + 3) (f .outstanding) in
-    let e : List ℕ = set d (recordWords * p + 4) (f .suspended) in
-    let A : Words a = words-set fs (recordWords * p) (f .live) h (F .live) in
-    let B : Words b = words-set a (recordWords * p + 1) (f .parent) A (F .parent) in
-    let C : Words c = words-set b (recordWords * p + 2) (f .depth) B (F .depth) in
-    let D : Words d = words-set c (recordWords * p + 3) (f .outstanding) C (F .outstanding) in
-    let E : Words e = words-set d (recordWords * p + 4) (f .suspended) D (F .suspended) in
-    words-set (set e (recordWords * p + 5) (f .root)) (recordWords * p + 6) (f .returning) (words-set e (recordWords * p + 5) (f .root) E (F .root)) (F .returning)
-
-module _ (f : Frame) (F : FrameWords f) where
-  words-outstanding : (n : ℕ) → n < 4294967296 → FrameWords (withOutstanding f n)
-  words-outstanding n h = record { live = F .live; parent = F .parent; depth = F .depth; outstanding = h; suspended = F .suspended; root = F .root; returning = F .returning }
-
-  words-suspended : (s : ℕ) → s < 4294967296 → FrameWords (withSuspended f s)
-  words-suspended s h = record { live = F .live; parent = F .parent; depth = F .depth; outstanding = F .outstanding; suspended = h; root = F .root; returning = F .returning }
-
-  pub words-root : (r : ℕ) → r < 4294967296 → FrameWords (withRoot f r)
-  words-root r h = record { live = F .live; parent = F .parent; depth = F .depth; outstanding = F .outstanding; suspended = F .suspended; root = h; returning = F .returning }
-
-  words-returning : (b : ℕ) → b < 4294967296 → FrameWords (withReturning f b)
-  words-returning b h = record { live = F .live; parent = F .parent; depth = F .depth; outstanding = F .outstanding; suspended = F .suspended; root = F .root; returning = h }
-
-  words-childOf : (p : ℕ) → p < 4294967296 → FrameWords (childOf f p)
-  words-childOf p h = record { live = omega arith; parent = h; depth = plus-word (f .depth) 1; outstanding = omega arith; suspended = omega arith; root = F .root; returning = omega arith }
-
-words-freePlace : (next : ℕ) → next < 4294967296 → FrameWords (freePlace next)
-words-freePlace next h = record { live = omega arith; parent = h; depth = omega arith; outstanding = omega arith; suspended = omega arith; root = omega arith; returning = omega arith }
+pub words-joinAt : (fs : List ℕ) (n : ℕ) (w : View) → ViewWord w → Words fs → Words (joinAt fs n w)
+words-joinAt fs n w h F =
+    let f : Frame = frameAt fs n in
+    let G : FrameWords f = words-frameAt fs n F in
+    words-setFrame fs n (withView f (joinView w (f .view))) F (words-withView f G (joinView w (f .view)) (view-law .join-word w (f .view) h (G .view)))
 
 -- ---- a deque
 
@@ -134,16 +103,26 @@ module _ (t : Table) (w : ℕ) (T : TableWords t) where
   pub words-acting : FrameWords (acting t w)
   words-acting = words-frameAt (t .frames) (bottom (t .deques) w) (T .frames)
 
-  pub words-spawn : TableWords (spawn t w)
-  unfolding spawn
-  words-spawn =
+  words-addChild : TableWords (addChild t w)
+  unfolding addChild
+  words-addChild =
       let p : ℕ = bottom (t .deques) w in
       let f : Frame = frameAt (t .frames) p in
-      let F : FrameWords f = words-acting in
       record {
         deques = words-push (t .deques) w (T .deques) (t .«free_place») (T .place);
-        frames = words-setFrame (setFrame (t .frames) p (withChild f)) (t .«free_place») (childOf f p) (words-setFrame (t .frames) p (withChild f) (T .frames) (words-outstanding f F (plus (f .outstanding) 1) (plus-word (f .outstanding) 1))) (words-childOf f F p (bottom-word (t .deques) w (T .deques)));
+        frames = words-setFrame (setFrame (t .frames) p (afterSpawn f)) (t .«free_place») (childOf f p) (words-setFrame (t .frames) p (afterSpawn f) (T .frames) (words-afterSpawn f words-acting)) (words-childOf f words-acting p (bottom-word (t .deques) w (T .deques)));
         place = words-frameAt (t .frames) (t .«free_place») (T .frames) .parent;
+      }
+
+  pub words-fold : (r v : ℕ) → TableWords (fold t w r v)
+  unfolding fold
+  words-fold r v =
+      let f : Frame = acting t w in
+      let u : View = foldView (f .view) r v in
+      record {
+        deques = T .deques;
+        frames = words-setFrame (t .frames) (bottom (t .deques) w) (withView f u) (T .frames) (words-withView f words-acting u (fold-word (f .view) r v (words-acting .view)));
+        place = T .place;
       }
 
   -- the bottom frame leaves its deque
@@ -176,9 +155,26 @@ module _ (t : Table) (w : ℕ) (T : TableWords t) where
         | inr e ↦ rw e (words-suspend (withSuspended (acting t w) 1) (words-suspended (acting t w) words-acting 1 (omega arith)))
       ]
 
-pub words-endFrame : (fs : List ℕ) (free p : ℕ) → free < 4294967296 → Words fs → Words (endFrame fs free p)
-unfolding endFrame
-words-endFrame fs free p h F =
+-- the youngest child names the new one
+words-linkChild : (fs : List ℕ) (p g : ℕ) → g < 4294967296 → Words fs → Words (linkChild fs p g)
+words-linkChild fs p g h F = elim (decided (eqb (frameAt fs p .outstanding) 0)) [
+  | inl e ↦ rw e F
+  | inr e ↦ rw e (words-relink fs p none g h F)
+]
+
+pub words-spawn : (t : Table) (w : ℕ) → TableWords t → TableWords (spawn t w)
+unfolding spawn
+words-spawn t w T =
+    let fs : List ℕ = linkChild (t .frames) (bottom (t .deques) w) (t .«free_place») in
+    words-addChild (withFrames t fs) w (record {
+      deques = T .deques;
+      frames = words-linkChild (t .frames) (bottom (t .deques) w) (t .«free_place») (T .place) (T .frames);
+      place = T .place;
+    })
+
+words-removeFrame : (fs : List ℕ) (free p : ℕ) → free < 4294967296 → Words fs → Words (removeFrame fs free p)
+unfolding removeFrame
+words-removeFrame fs free p h F =
     let q : ℕ = frameAt fs p .parent in
     let g : Frame = frameAt fs q in
     let G : FrameWords g = words-frameAt fs q F in
@@ -186,6 +182,22 @@ words-endFrame fs free p h F =
     elim (decided (eqb q none)) [
       | inl e ↦ rw e freed
       | inr e ↦ rw e (words-setFrame (setFrame fs p (freePlace free)) q (withoutChild g) freed (words-outstanding g G (g .outstanding - 1) (minus-word (g .outstanding) 1 (G .outstanding))))
+    ]
+
+words-unlink : (fs : List ℕ) (p : ℕ) (gs : List ℕ) → Words fs → Words gs → Words (unlink fs p gs)
+words-unlink fs p gs F G = elim (decided (onlyChild fs p)) [
+  | inl e ↦ rw e G
+  | inr e ↦ rw e (words-relink gs (frameAt fs p .parent) p (frameAt fs p .younger) (words-frameAt fs p F .younger) G)
+]
+
+pub words-endFrame : (fs : List ℕ) (free p : ℕ) → free < 4294967296 → Words fs → Words (endFrame fs free p)
+unfolding endFrame
+words-endFrame fs free p h F =
+    let gs : List ℕ = removeFrame fs free p in
+    let G : Words gs = words-removeFrame fs free p h F in
+    elim (decided (eqb (frameAt fs p .parent) none)) [
+      | inl e ↦ rw e G
+      | inr e ↦ rw e (words-joinAt (unlink fs p gs) (nextAfter fs p) (frameAt fs p .view) (words-frameAt fs p F .view) (words-unlink fs p gs F G))
     ]
 
 pub words-steal : (t : Table) (w v : ℕ) → TableWords t → TableWords (steal t w v)
@@ -204,10 +216,7 @@ words-initPlaces (suc c) fs p h =
 
 pub words-initFrames : (n : ℕ) → Words (initFrames (replicate n 0))
 unfolding initFrames
-words-initFrames n = words-initPlaces (places - 1) (setFrame (replicate n 0) 0 (mainFrame 0)) 1 (words-setFrame (replicate n 0) 0 (mainFrame 0) (words-zeros n) main)
-  where
-    main : FrameWords (mainFrame 0)
-    main = record { live = omega arith; parent = omega arith; depth = omega arith; outstanding = omega arith; suspended = omega arith; root = omega arith; returning = omega arith }
+words-initFrames n = words-initPlaces (places - 1) (setFrame (replicate n 0) 0 (mainFrame 0)) 1 (words-setFrame (replicate n 0) 0 (mainFrame 0) (words-zeros n) words-mainFrame)
 
 pub words-initDeques : (n : ℕ) → Words (initDeques (replicate n 0))
 unfolding initDeques

@@ -1,5 +1,4 @@
 -- Two stores, as they are promised.
-use mathlib.Core.Path.{ap}
 use native.Mathlib.Omega.{arith}
 use lib.ListN.{length-set}
 use borrow.Author.Needs.{needs}

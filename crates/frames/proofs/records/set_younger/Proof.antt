@@ -1,0 +1,13 @@
+-- One store; that it is the record's store is in `specs.Theory.Records`.
+use borrow.Author.Needs.{needs}
+use Rattle.frames.specs.Theory.Records.{younger-set}
+use Rattle.frames.proofs.records.set_younger.Statement.{statement}
+use Rattle.frames.proofs.records.set_younger.Tie as tie
+
+returns : tie.Need-returns
+returns c =
+    let s = c .before .before in
+    rw (c .start-of .ensures) (younger-set (s .args .frames .now) (s .args .p) (s .args .y))
+
+pub set-younger-spec : {M : Type 1} → statement M
+set-younger-spec = tie.close (tie.spec (λ c. search needs) (λ c. search needs) (λ c. search needs) (λ c. search needs) (λ c. search needs) returns)
