@@ -1,6 +1,6 @@
 -- A turn and the end of the loops.
 use mathlib.Core.Path.{_≡_, refl, sym, ap, _∙_}
-use mathlib.Core.Logic.{_≢_, inl, inr}
+use mathlib.Core.Logic.{_≢_}
 use mathlib.Core.Bool.{Bool, true, false, cond, _&&_, _||_, and-false}
 use mathlib.Core.List.{List}
 use Prim.Native.Nat.{ℕ, zero, suc, _+_, _-_, _≤_, _<_}
@@ -13,14 +13,15 @@ use borrow.Author.Tests.{leb-true, le-leb, lt-leb, ltb-true, lt-ltb, le-ltb, eqb
 use Rattle.words.specs.Basics.{none, all, howMany}
 use Rattle.words.specs.Counting.{all-at, all-of}
 use Rattle.words.specs.Tallies.{same-tests}
-use Rattle.words.specs.Tests.{decided, both}
+use Rattle.words.specs.Tests.{both}
 use Rattle.frames.specs.Widths.{maxWorkers, places, dequePlaces}
 use Rattle.frames.specs.declared.Frame.{Frame}
 use Rattle.frames.specs.Frames.{frameAt}
+use Rattle.frames.specs.Siblings.{liveChild, younger, chained}
 use Rattle.frames.specs.Deques.{size, place}
 use Rattle.soundness.specs.Soundness.{framesSound}
-use Rattle.frame_check.specs.Algorithm.{childStep, childCount, dequeCount, bump, tally, childIn, tallyChildren, tallyDeque, tallyDeques, zeroPast, dequeFits, dequeSound, isFlat, mainAt, mains, liveAt, lives}
-use Rattle.frame_check.specs.Algorithm.{liveSound, freeSound, placeTallied, placeChecked, next, chainFrom, zeros, checkFrames}
+use Rattle.frame_check.specs.Algorithm.{childCount, dequeCount, linkSum, bump, tally, childIn, stepOf, stepIn, tallyChildren, tallyDeque, tallyDeques, zeroPast, dequeFits, dequeSound, isFlat, mainAt, mains, liveAt, lives}
+use Rattle.frame_check.specs.Algorithm.{liveSound, siblingsSound, freeSound, placeTallied, placeChecked, next, chainFrom, zeros, checkFrames}
 use Rattle.frame_check.specs.declared.FramesChecked.{FramesChecked}
 use Rattle.frame_check.specs.declared.FramesChecked.the-variants.{Bad, Good}
 use Rattle.frame_check.specs.Theory.Theorem.{check-frames}
@@ -50,9 +51,9 @@ fits-within workers ds w e h d = rw (← e, le-leb _ dequePlaces h, d)
 pub howMany-turn : (k : ℕ) (f : ℕ → Bool) {n t : ℕ} → n ≡ howMany k f → t ≡ cond (f k) 1 0 → n + t ≡ howMany (k + 1) f
 howMany-turn k f e h = rw (add-one, e, h)
 
-pub tally-turn : (step k : ℕ) (f : ℕ → ℕ) (ts : List ℕ) {us : List ℕ} {p : ℕ} → us ≡ tally step k f ts → p ≡ f k → bump step us p ≡ tally step (k + 1) f ts
+pub tally-turn : (s : ℕ → ℕ) (k : ℕ) (f : ℕ → ℕ) (ts : List ℕ) {us : List ℕ} {p step : ℕ} → us ≡ tally s k f ts → p ≡ f k → step ≡ s k → bump step us p ≡ tally s (k + 1) f ts
 unfolding tally
-tally-turn step k f ts e h = rw (add-one, e, h)
+tally-turn s k f ts e h d = rw (add-one, e, h, d)
 
 pub tallyDeques-turn : (w : ℕ) (ds ts : List ℕ) {us : List ℕ} → us ≡ tallyDeques w ds ts → tallyDeque ds w us ≡ tallyDeques (w + 1) ds ts
 unfolding tallyDeques
@@ -60,7 +61,7 @@ tallyDeques-turn w ds ts e = rw (add-one, e)
 
 -- ---- the pass over the places: what it has counted below p
 pub record Passed (fs ts : List ℕ) (p : ℕ) (us : List ℕ) (main live : ℕ) : Type 0 where
-  pub tallied : us ≡ tally childStep p (childIn fs) ts
+  pub tallied : us ≡ tally (stepIn fs) p (childIn fs) ts
   pub main-is : main ≡ howMany p (mainAt fs)
   pub live-is : live ≡ howMany p (liveAt fs)
 
@@ -71,16 +72,16 @@ module _ (fs ts : List ℕ) (p : ℕ) (us : List ℕ) (main live : ℕ) (f : Fra
       let e : eqb (frameAt fs p .live) 1 ≡ false = rw (← d) (ne-eqb (f .live) 1 h) in
       let o : length us ≤ none = omega arith in
       record {
-        tallied = sym (set-out us none _ o) ∙ tally-turn childStep p (childIn fs) ts (P .tallied) (rw e);
+        tallied = sym (set-out us none _ o) ∙ tally-turn (stepIn fs) p (childIn fs) ts (P .tallied) (rw e) refl;
         main-is = omega (arith, howMany-turn p (mainAt fs) {t = 0} (P .main-is) (rw e));
         live-is = omega (arith, howMany-turn p (liveAt fs) {t = 0} (P .live-is) (rw e));
       }
 
-  pub pass-live : f .live ≡ 1 → {n : ℕ} → n ≡ cond (isFlat f) 1 0 → Passed fs ts (p + 1) (bump childStep us (f .parent)) (main + n) (live + 1)
-  pass-live h {n} k =
+  pub pass-live : f .live ≡ 1 → {n step : ℕ} → n ≡ cond (isFlat f) 1 0 → step ≡ stepOf p (f .younger) → Passed fs ts (p + 1) (bump step us (f .parent)) (main + n) (live + 1)
+  pass-live h k w =
       let e : eqb (frameAt fs p .live) 1 ≡ true = rw (← d) (eq-eqb (f .live) 1 h) in
       record {
-        tallied = tally-turn childStep p (childIn fs) ts (P .tallied) (rw (e, d));
+        tallied = tally-turn (stepIn fs) p (childIn fs) ts (P .tallied) (rw (e, d)) (w ∙ ap (λ (g : Frame). stepOf p (g .younger)) d);
         main-is = howMany-turn p (mainAt fs) (P .main-is) (rw (e, ← d) k);
         live-is = howMany-turn p (liveAt fs) (P .live-is) (rw e);
       }
@@ -88,7 +89,7 @@ module _ (fs ts : List ℕ) (p : ℕ) (us : List ℕ) (main live : ℕ) (f : Fra
 pub pass-end : (fs ts : List ℕ) {p : ℕ} {us : List ℕ} {main live : ℕ} → Passed fs ts p us main live → p ≤ places → places ≤ p
     → (us ≡ tallyChildren fs ts) × (main ≡ mains fs) × (live ≡ lives fs)
 pass-end fs ts P a b = (
-  at-end (λ k. tally childStep k (childIn fs) ts) a b (P .tallied),
+  at-end (λ k. tally (stepIn fs) k (childIn fs) ts) a b (P .tallied),
   at-end (λ k. howMany k (mainAt fs)) a b (P .main-is),
   at-end (λ k. howMany k (liveAt fs)) a b (P .live-is),
 )
@@ -128,6 +129,28 @@ module _ (fs : List ℕ) where
   chain-end zero p b = refl
   chain-end (suc c) p b = absurd (omega arith)
 
+-- ---- along the links
+module _ (fs : List ℕ) (q : ℕ) where
+  pub links-off : (k c : ℕ) → 0 < k → places ≤ c → chained k fs q c ≡ false
+  unfolding chained
+  links-off zero c b h = absurd (omega arith)
+  links-off (suc k) c b h = rw (le-ltb c places h)
+
+  pub links-other : (k c : ℕ) → 0 < k → liveChild fs q c ≡ false → chained k fs q c ≡ false
+  unfolding chained
+  links-other zero c b h = absurd (omega arith)
+  links-other (suc k) c b h = rw h (and-false (ltb c places))
+
+  pub links-next : (k c : ℕ) → 0 < k → c < places → liveChild fs q c ≡ true → chained (k - 1) fs q (younger fs c) ≡ chained k fs q c
+  unfolding chained
+  links-next zero c b i h = absurd (omega arith)
+  links-next (suc k) c b i h = rw (sub-one, lt-ltb c places i, h)
+
+  pub links-end : (k c : ℕ) → k ≤ 0 → eqb c none ≡ chained k fs q c
+  unfolding chained
+  links-end zero c b = refl
+  links-end (suc k) c b = absurd (omega arith)
+
 -- ---- tests, as the code and as the definitions write them
 
 pub more-test : (k n : ℕ) → ltb 1 (n - k) ≡ ltb (suc k) n
@@ -139,8 +162,12 @@ shallow-test a c d = same-tests _ _ (λ e. eq-eqb a (suc c) (omega (arith, eqb-t
 -- ---- a place, by the record that stands there
 
 pub place-live : (fs ts : List ℕ) (p : ℕ) (f : Frame) → f ≡ frameAt fs p → f .live ≡ 1 → {t : ℕ} → t ≡ getD ts p 0
-    → liveSound f (frameAt fs (f .parent)) (childCount t) (dequeCount t) ≡ placeTallied fs ts p
-place-live fs ts p f d h e = rw (← d, eq-eqb (f .live) 1 h, e)
+    → {b : Bool} → b ≡ siblingsSound fs p (childCount t) (linkSum t) → b ≡ true → liveSound f (frameAt fs (f .parent)) (childCount t) (dequeCount t) ≡ placeTallied fs ts p
+place-live fs ts p f d h e k o = rw (← d, eq-eqb (f .live) 1 h, ← e, ← k, o)
+
+pub place-unlinked : (fs ts : List ℕ) (p : ℕ) (f : Frame) → f ≡ frameAt fs p → f .live ≡ 1 → {t : ℕ} → t ≡ getD ts p 0
+    → {b : Bool} → b ≡ siblingsSound fs p (childCount t) (linkSum t) → b ≡ false → false ≡ placeTallied fs ts p
+place-unlinked fs ts p f d h e k o = rw (← d, eq-eqb (f .live) 1 h, ← e, ← k, o)
 
 pub place-free : (fs ts : List ℕ) (p : ℕ) (f : Frame) → f ≡ frameAt fs p → f .live ≢ 1 → true ≡ placeTallied fs ts p
 place-free fs ts p f d h = rw (← d, ne-eqb (f .live) 1 h)

@@ -4,6 +4,8 @@ pub mod Tallied
 pub mod FreeChain
 -- the check, taken apart
 pub mod Passes
+-- the tests on links are the links' sentence
+pub mod Links
 -- what it finds makes the sentences true
 pub mod Finds
 -- and they are what it looks for

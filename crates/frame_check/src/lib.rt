@@ -1,5 +1,6 @@
 // The frames and deques of document 01's soundness, decided on any words in time linear in the places.
 mod deques;
+mod links;
 mod places;
 mod tallies;
 

@@ -1,17 +1,22 @@
 // The frame places: what each has to be, given its tallies, and the free chain.
 ghost use mathlib.Core.Path.{_≡_};
 ghost use Prim.Native.Nat.{_<_};
-ghost use lib.ListN.{length, getD};
+ghost use lib.ListN.{length};
 ghost use Rattle.frames.specs.Widths.{places, frameWords};
 ghost use mathlib.Core.Bool.{cond};
 ghost use Rattle.words.specs.Basics.{all};
+ghost use Rattle.soundness.specs.Soundness.{viewZero};
 ghost use Rattle.frame_check.specs.Algorithm.{parentSound, placedSound, returningSound, liveSound, freeSound, placeTallied, liveAt, lives, chainFrom};
+use super::links::siblings_sound;
+use super::links::younger_sound;
 use super::tallies::DEQUE_STEP;
+use super::tallies::LINK_STEP;
 use frames::Frame;
 use frames::NONE;
 use frames::PLACES;
 use frames::frame_at;
 use frames::frame_or_zero;
+use reducers::View;
 
 // Main has no parent, any other live frame f a live one, one shallower, whose record is g.
 fn parent_sound(f: Frame, g: Frame) -> bool
@@ -30,7 +35,7 @@ fn placed_sound(f: Frame, children: u32, seen: u32) -> bool
     ((seen == 1) & (f.suspended == 0)) | ((seen == 0) & ((f.suspended == 1) & (0 < children)))
 }
 
-// R-3, the last word of a live frame: 1 if it waits in its return, and then it is suspended, else 0.
+// R-3, its word of a live frame: 1 if it waits in its return, and then it is suspended, else 0.
 fn returning_sound(f: Frame) -> bool
     ensures { λ r. ⌜ r ≡ returningSound f ⌝ }
 {
@@ -41,10 +46,11 @@ fn live_sound(f: Frame, g: Frame, children: u32, seen: u32) -> bool
     ensures { λ r. ⌜ r ≡ liveSound f g children seen ⌝ }
 {
     (f.outstanding == children)
-        & (parent_sound(f, g) & (placed_sound(f, children, seen) & returning_sound(f)))
+        & (parent_sound(f, g)
+            & (placed_sound(f, children, seen) & (returning_sound(f) & younger_sound(f, g))))
 }
 
-// A live frame at place p, with its tallies of children and of places of deques.
+// A live frame at place p, with its word of the tallies.
 fn place_sound(frames: &[u32], tallies: &[u32], p: u32) -> bool
     requires { ⌜ (length (now frames) ≡ frameWords) × (length (now tallies) ≡ places) × (p < places) ⌝ }
     ensures { λ r. ⌜ r ≡ placeTallied (now (frames .entry)) (now (tallies .entry)) p ⌝ }
@@ -54,11 +60,15 @@ fn place_sound(frames: &[u32], tallies: &[u32], p: u32) -> bool
         return true;
     }
     let t = words::word(tallies, p as usize);
+    let children = t % DEQUE_STEP;
+    if !siblings_sound(frames, p, children, t / LINK_STEP) {
+        return false;
+    }
     live_sound(
         f,
         frame_or_zero(frames, f.parent),
-        t % DEQUE_STEP,
-        t / DEQUE_STEP,
+        children,
+        t / DEQUE_STEP % DEQUE_STEP,
     )
 }
 
@@ -87,13 +97,23 @@ pub fn places_sound(frames: &[u32], tallies: &[u32], live: u32) -> bool
     true
 }
 
+fn view_zero(v: View) -> bool
+    ensures { λ r. ⌜ r ≡ viewZero v ⌝ }
+{
+    (v.sum.value == 0)
+        & ((v.min.value == 0) & ((v.affine.multiplier == 0) & (v.affine.addend == 0)))
+}
+
 // A free place: zero but for the link.
 fn free_sound(f: Frame) -> bool
     ensures { λ r. ⌜ r ≡ freeSound f ⌝ }
 {
+    let v = f.view;
     (f.live == 0)
         & ((f.depth == 0)
-            & ((f.outstanding == 0) & ((f.suspended == 0) & ((f.root == 0) & (f.returning == 0)))))
+            & ((f.outstanding == 0)
+                & ((f.suspended == 0)
+                    & ((f.root == 0) & ((f.returning == 0) & (view_zero(v) & (f.younger == 0)))))))
 }
 
 // Has the chain from place first on just so many places, all of them free? No place is on such a chain twice: it would not end.

@@ -1,9 +1,9 @@
--- Document 01's "Soundness" with R-3's sentence on small states, computed: a few sound ones, and for each sentence changes of a
+-- Document 01's "Soundness" with R-3's and R-5's sentences on small states, computed: a few sound ones, and for each sentence changes of a
 -- sound one after which this sentence alone is false.
 use mathlib.Core.Path.{_≡_, refl, sym, ap, _∙_}
 use mathlib.Core.Bool.{Bool, true, cond, _||_, _&&_}
 use mathlib.Core.Logic.{inl, inr}
-use mathlib.Core.List.{List, [], _∷_, map}
+use mathlib.Core.List.{List, [], _∷_, _++_, map}
 use Prim.Native.Nat.{ℕ, zero, suc, _+_, _*_}
 use Prim.Native.String.{String}
 use native.Mathlib.Omega.{arith}
@@ -19,16 +19,18 @@ use Rattle.frames.specs.Widths.{maxWorkers, places, recordWords, dequePlaces, d
 use Rattle.frames.specs.declared.Frame.{Frame}
 use Rattle.frames.specs.Frames.{frameAt, setFrame, asReturning, initPlaces, initFrames}
 use Rattle.frames.specs.Deques.{size, setSize, place, setPlace, bottom, top, push, pop, shiftUp, dropTop, initDeques}
-use Rattle.frames.specs.Steps.{Table, acting, spawn, suspend, steal, sync}
-use Rattle.soundness.specs.Numbers.{numbersIn}
-use Rattle.soundness.specs.Soundness.{oneMain, parentsLive, countsRight, placedOnce, returningRight, holdLive, absentEmpty, restZero, linked, onlyBelow, placesFree, treeAt, nodesAt, rootsBelow}
-use Rattle.soundness.specs.Soundness.{Sentence, says, words, holds, numberSentences, freePlaces, sentences}
+use Rattle.frames.specs.Siblings.{chained, relinkFrom}
+use Rattle.frames.specs.Steps.{Table, acting, addChild, spawn, suspend, steal, sync}
+use Rattle.soundness.specs.Numbers.{totalCount, numbersIn}
+use Rattle.soundness.specs.Soundness.{oneMain, parentsLive, countsRight, placedOnce, returningRight, linksRight, totalsRight, holdLive, absentEmpty, restZero, linked, onlyBelow, placesFree, treeAt, nodesAt, rootsBelow}
+use Rattle.soundness.specs.Soundness.{Sentence, says, words, holds, numberSentences, freePlaces, viewZero, sentences}
 
 -- ---- sound states
 
--- the five numbers (workers, splitters, nodes, first free node, first free place), the two tables and the lent pool
+-- the five numbers (workers, splitters, nodes, first free node, first free place), the four totals, the two tables and the lent pool
 record State : Type 0 where
   numbers : List ℕ
+  totals : List ℕ
   deques : List ℕ
   frames : List ℕ
   pool : List ℕ
@@ -38,6 +40,7 @@ with : ℕ → ℕ → Table → State
 with holders freeNode t =
     record {
       numbers = 2 ∷ 2 ∷ 5 ∷ freeNode ∷ t .«free_place» ∷ [];
+      totals = replicate totalCount 0;
       deques = t .deques;
       frames = t .frames;
       pool = set (initPool (replicate 24 7) 2 5 (10 ∷ 20 ∷ []) .0) 0 holders;
@@ -46,14 +49,18 @@ with holders freeNode t =
 -- c free places in rising order, the second being p
 rising : ℕ → ℕ → List ℕ
 rising zero p = []
-rising (suc c) p = 0 ∷ cond (eqb c 0) none p ∷ 0 ∷ 0 ∷ 0 ∷ 0 ∷ 0 ∷ rising c (suc p)
+rising (suc c) p = 0 ∷ cond (eqb c 0) none p ∷ (replicate 10 0 ++ rising c (suc p))
+
+-- Main's record: no view has anything folded into it yet
+first : List ℕ
+first = 1 ∷ none ∷ 0 ∷ 0 ∷ 0 ∷ 0 ∷ 0 ∷ 0 ∷ none ∷ 1 ∷ 0 ∷ none ∷ []
 
 table : Table
-table = record { deques = 1 ∷ replicate 519 0; frames = 1 ∷ none ∷ 0 ∷ 0 ∷ 0 ∷ 0 ∷ 0 ∷ rising 63 2; «free_place» = 1 }
+table = record { deques = 1 ∷ replicate 519 0; frames = first ++ rising 63 2; «free_place» = 1 }
 
 -- the tables at a start
-table-first : (initDeques (replicate 520 0) ≡ table .deques) × (initFrames (replicate 448 0) ≡ table .frames)
-unfolding table rising initDeques push setSize setPlace size initFrames initPlaces setFrame
+table-first : (initDeques (replicate 520 0) ≡ table .deques) × (initFrames (replicate 768 0) ≡ table .frames)
+unfolding table first rising initDeques push setSize setPlace size initFrames initPlaces setFrame
 table-first = (refl, refl)
 
 -- Main alone, on worker 0's deque: the start. Node 0 is the root, 1 and 2 are its leaves, 3 and 4 are free
@@ -80,20 +87,21 @@ stacked = with 3 3 (spawn (spawn table 0) 0)
 grown : State
 grown = with 3 3 (steal (spawn (spawn table 0) 0) 1 0)
 
--- Main has returned: no frame, and n nodes free in a lent pool of n
+-- Main and its child 2 on worker 1's deque, its child 1 on worker 0's: 1 names 2 as its next younger sibling
+twins : State
+twins = with 3 3 (spawn (steal (spawn table 0) 1 0) 1)
+
+-- Main has returned: no frame, any totals, and n nodes free in a lent pool of n
 ended : ℕ → State
-ended n = record { numbers = 2 ∷ 2 ∷ n ∷ 0 ∷ 0 ∷ []; deques = replicate 520 0; frames = rising 64 1; pool = initFree n (replicate (4 * n) 0) 0 }
+ended n = record { numbers = 2 ∷ 2 ∷ n ∷ 0 ∷ 0 ∷ []; totals = 70 ∷ 7 ∷ 6 ∷ 5 ∷ []; deques = replicate 520 0; frames = rising 64 1; pool = initFree n (replicate (4 * n) 0) 0 }
 
 -- three splitters: node 0, under it 1 and 2, the leaves 3, 4 under 1 and 5 under 2, which has no right half; 6 is free
 three : State
-three = record { numbers = 2 ∷ 3 ∷ 7 ∷ 6 ∷ 1 ∷ []; deques = table .deques; frames = table .frames; pool = initPool (replicate 28 7) 3 7 (10 ∷ 20 ∷ 30 ∷ []) .0 }
-
-sounds : List State
-sounds = start ∷ stolen ∷ waiting ∷ leaving ∷ stacked ∷ grown ∷ ended 5 ∷ three ∷ []
+three = record { numbers = 2 ∷ 3 ∷ 7 ∷ 6 ∷ 1 ∷ []; totals = replicate totalCount 0; deques = table .deques; frames = table .frames; pool = initPool (replicate 28 7) 3 7 (10 ∷ 20 ∷ 30 ∷ []) .0 }
 
 -- ---- changes
 
--- another word in one place: one of the numbers; worker w's deque's length, or its place k; a word of the frame record at place p;
+-- another word in one place: one of the numbers; a total; worker w's deque's length, or its place k; a word of the frame record at place p;
 -- a word of node i
 data Change : Type 0 where
   workers : ℕ → Change
@@ -101,6 +109,7 @@ data Change : Type 0 where
   nodes : ℕ → Change
   freeNode : ℕ → Change
   freePlace : ℕ → Change
+  total : ℕ → ℕ → Change
   inDeque : ℕ → ℕ → Change
   atPlace : ℕ → ℕ → ℕ → Change
   live : ℕ → ℕ → Change
@@ -110,6 +119,8 @@ data Change : Type 0 where
   suspended : ℕ → ℕ → Change
   root : ℕ → ℕ → Change
   returning : ℕ → ℕ → Change
+  viewWord : ℕ → ℕ → ℕ → Change
+  next : ℕ → ℕ → Change
   node : ℕ → List ℕ → Change
   nodeHolders : ℕ → ℕ → Change
   nodeLeft : ℕ → ℕ → Change
@@ -117,16 +128,19 @@ data Change : Type 0 where
   nodeValue : ℕ → ℕ → Change
 
 setNumber : State → ℕ → ℕ → State
-setNumber s i v = record { numbers = set (s .numbers) i v; deques = s .deques; frames = s .frames; pool = s .pool }
+setNumber s i v = record { numbers = set (s .numbers) i v; totals = s .totals; deques = s .deques; frames = s .frames; pool = s .pool }
+
+setTotal : State → ℕ → ℕ → State
+setTotal s i v = record { numbers = s .numbers; totals = set (s .totals) i v; deques = s .deques; frames = s .frames; pool = s .pool }
 
 setDeques : State → List ℕ → State
-setDeques s ds = record { numbers = s .numbers; deques = ds; frames = s .frames; pool = s .pool }
+setDeques s ds = record { numbers = s .numbers; totals = s .totals; deques = ds; frames = s .frames; pool = s .pool }
 
 setField : State → ℕ → ℕ → ℕ → State
-setField s p f v = record { numbers = s .numbers; deques = s .deques; frames = set (s .frames) (recordWords * p + f) v; pool = s .pool }
+setField s p f v = record { numbers = s .numbers; totals = s .totals; deques = s .deques; frames = set (s .frames) (recordWords * p + f) v; pool = s .pool }
 
 setPool : State → List ℕ → State
-setPool s ws = record { numbers = s .numbers; deques = s .deques; frames = s .frames; pool = ws }
+setPool s ws = record { numbers = s .numbers; totals = s .totals; deques = s .deques; frames = s .frames; pool = ws }
 
 changed : State → Change → State
 changed s (workers v) = setNumber s 0 v
@@ -134,6 +148,7 @@ changed s (splitters v) = setNumber s 1 v
 changed s (nodes v) = setNumber s 2 v
 changed s (freeNode v) = setNumber s 3 v
 changed s (freePlace v) = setNumber s 4 v
+changed s (total i v) = setTotal s i v
 changed s (inDeque w v) = setDeques s (setSize (s .deques) w v)
 changed s (atPlace w k v) = setDeques s (setPlace (s .deques) w k v)
 changed s (live p v) = setField s p 0 v
@@ -143,6 +158,8 @@ changed s (outstanding p v) = setField s p 3 v
 changed s (suspended p v) = setField s p 4 v
 changed s (root p v) = setField s p 5 v
 changed s (returning p v) = setField s p 6 v
+changed s (viewWord k p v) = setField s p (7 + k) v
+changed s (next p v) = setField s p 11 v
 changed s (node i vs) = setPool s (setNode (s .pool) i (getD vs 0 0) (getD vs 1 0) (getD vs 2 0) (getD vs 3 0))
 changed s (nodeHolders i v) = setPool s (set (s .pool) (4 * i) v)
 changed s (nodeLeft i v) = setPool s (set (s .pool) (4 * i + 1) v)
@@ -153,6 +170,19 @@ infixl 90 _but_
 _but_ : State → List Change → State
 s but [] = s
 s but (c ∷ cs) = changed s c but cs
+
+-- three children of Main, whose workers are three: 1 on worker 0's deque, 2 on worker 1's, Main and 3 on worker 2's
+triplets : State
+triplets = with 4 3 (spawn (steal (spawn (steal (spawn table 0) 1 0) 1) 2 1) 2) but (workers 3 ∷ [])
+
+sounds : List State
+sounds =
+    start ∷ stolen ∷ waiting ∷ leaving ∷ stacked ∷ grown ∷ twins ∷ triplets ∷ ended 5 ∷ three ∷
+    -- a live frame's view is any four words
+    start but (viewWord 0 0 5 ∷ viewWord 1 0 6 ∷ viewWord 2 0 7 ∷ viewWord 3 0 8 ∷ []) ∷
+    -- so are the totals when no frame lives
+    ended 5 but (total 0 0 ∷ total 1 none ∷ []) ∷
+    []
 
 -- ---- one sentence alone is false
 
@@ -175,11 +205,16 @@ numberRows =
     ("and at most what the lent pool holds." alone (ended 5 but (nodes 6 ∷ freeNode 5 ∷ []) ∷ [])) ∷
     []
 
+totalRows : List Row
+totalRows =
+    ("zero while Main lives" alone (start but (total 0 1 ∷ []) ∷ start but (total 1 none ∷ []) ∷ leaving but (total 2 1 ∷ []) ∷ start but (total 3 1 ∷ []) ∷ [])) ∷
+    []
+
 frameRows : List Row
 frameRows =
     ("Either no frame lives and all deques are empty, or just one live frame has depth 0, with parent none." alone (
     -- two Mains
-    start but (live 1 1 ∷ parent 1 none ∷ freePlace 2 ∷ inDeque 1 1 ∷ atPlace 1 0 1 ∷ nodeHolders 0 2 ∷ []) ∷
+    start but (live 1 1 ∷ parent 1 none ∷ next 1 none ∷ freePlace 2 ∷ inDeque 1 1 ∷ atPlace 1 0 1 ∷ nodeHolders 0 2 ∷ []) ∷
     -- Main has a parent
     start but (parent 0 5 ∷ []) ∷
     [])) ∷
@@ -215,6 +250,24 @@ frameRows =
     waiting but (returning 0 2 ∷ []) ∷
     start but (returning 0 2 ∷ []) ∷
     [])) ∷
+    ("these links chain the live children of each frame, each once, Main's being none" alone (
+    -- no end: an only child, two siblings
+    stolen but (next 1 1 ∷ []) ∷
+    twins but (next 2 1 ∷ []) ∷
+    -- two heads
+    twins but (next 1 none ∷ []) ∷
+    -- to a frame that is no sibling, to a free place, past the table, which reads as a dead frame
+    twins but (next 2 0 ∷ []) ∷
+    twins but (next 2 5 ∷ []) ∷
+    stolen but (next 1 64 ∷ []) ∷
+    -- a chain of one and beside it a cycle of two
+    triplets but (next 1 none ∷ next 3 2 ∷ []) ∷
+    -- two name the same
+    triplets but (next 1 3 ∷ []) ∷
+    -- Main's is not none
+    start but (next 0 0 ∷ []) ∷
+    stolen but (next 0 1 ∷ []) ∷
+    [])) ∷
     ("Deques hold live frames only;" alone (
     start but (inDeque 1 1 ∷ atPlace 1 0 5 ∷ []) ∷
     -- past the table, which reads as a dead frame: the range alone cannot be wrong
@@ -225,11 +278,11 @@ frameRows =
     -- not alone: a length over 64, since 65 places of live frames hold one frame twice (placedOnce)
     ("Each frame in a deque is a child of the one above it." alone (
     -- 1 and 2 on one deque, both children of Main
-    grown but (parent 2 0 ∷ depth 2 1 ∷ outstanding 1 0 ∷ outstanding 0 2 ∷ []) ∷
+    grown but (parent 2 0 ∷ depth 2 1 ∷ next 1 2 ∷ outstanding 1 0 ∷ outstanding 0 2 ∷ []) ∷
     [])) ∷
     ("A frame that is not a top has only the child below it, if any." alone (
     -- a middle frame has a second child, on another deque
-    stacked but (live 3 1 ∷ parent 3 1 ∷ depth 3 2 ∷ outstanding 1 2 ∷ freePlace 4 ∷ inDeque 1 1 ∷ atPlace 1 0 3 ∷ nodeHolders 0 4 ∷ []) ∷
+    stacked but (live 3 1 ∷ parent 3 1 ∷ depth 3 2 ∷ next 2 3 ∷ next 3 none ∷ outstanding 1 2 ∷ freePlace 4 ∷ inDeque 1 1 ∷ atPlace 1 0 3 ∷ nodeHolders 0 4 ∷ []) ∷
     -- a bottom frame has one; it is in place 0, the word past the deque's frames
     grown but (parent 1 none ∷ depth 1 0 ∷ depth 2 1 ∷ outstanding 2 1 ∷ parent 0 2 ∷ depth 0 2 ∷ outstanding 0 0 ∷ []) ∷
     [])) ∷
@@ -241,6 +294,11 @@ frameRows =
     start but (suspended 5 1 ∷ []) ∷
     start but (root 5 1 ∷ []) ∷
     start but (returning 5 1 ∷ []) ∷
+    start but (viewWord 0 5 1 ∷ []) ∷
+    start but (viewWord 1 5 none ∷ []) ∷
+    start but (viewWord 2 5 1 ∷ []) ∷
+    start but (viewWord 3 5 1 ∷ []) ∷
+    start but (next 5 none ∷ []) ∷
     -- not on the chain
     start but (freePlace 2 ∷ []) ∷
     -- twice
@@ -293,7 +351,7 @@ failing [] = []
 failing (s ∷ ss) = cond (holds s) (failing ss) (words s ∷ failing ss)
 
 failingIn : State → List String
-failingIn s = failing (sentences (numbersIn (s .numbers)) (s .deques) (s .frames) (s .pool))
+failingIn s = failing (sentences (numbersIn (s .numbers)) (s .totals) (s .deques) (s .frames) (s .pool))
 
 -- ---- the same in fewer steps
 
@@ -351,7 +409,7 @@ freeQuick fs first =
     below places c && all places (λ p.
     let f : Frame = frameAt fs p in
     (eqb (f .live) 1 && eqb (count p c) 0) ||
-    ((eqb (f .live) 0 && (eqb (f .depth) 0 && (eqb (f .outstanding) 0 && (eqb (f .suspended) 0 && (eqb (f .root) 0 && eqb (f .returning) 0))))) && eqb (count p c) 1))
+    ((eqb (f .live) 0 && (eqb (f .depth) 0 && (eqb (f .outstanding) 0 && (eqb (f .suspended) 0 && (eqb (f .root) 0 && (eqb (f .returning) 0 && (viewZero (f .view) && eqb (f .younger) 0))))))) && eqb (count p c) 1))
 
 free-quick : (fs : List ℕ) (first : ℕ) → placesFree fs first ≡ freeQuick fs first
 unfolding placesFree
@@ -364,7 +422,7 @@ tested zero b (s ∷ ss) = says (words s) b ∷ ss
 tested (suc k) b (s ∷ ss) = s ∷ tested k b ss
 
 abbrev testedBy : Bool → Bool → State → List Sentence
-testedBy rest free s = tested 14 rest (tested 17 free (sentences (numbersIn (s .numbers)) (s .deques) (s .frames) (s .pool)))
+testedBy rest free s = tested 16 rest (tested 19 free (sentences (numbersIn (s .numbers)) (s .totals) (s .deques) (s .frames) (s .pool)))
 
 quickIn : State → List String
 quickIn s = failing (testedBy (restQuick (s .deques)) (freeQuick (s .frames) (numbersIn (s .numbers) .«free_place»)) s)
@@ -385,10 +443,10 @@ foundQuick : Row → List (List String)
 foundQuick r = map quickIn (r .states)
 
 -- all of them at once, for what the states have in common is computed once then
-at-once : _≡_ {A = List (List String) × List (List (List String)) × List (List (List String)) × List (List (List String))}
-    (map quickIn sounds, map foundQuick numberRows, map foundQuick frameRows, map foundQuick poolRows)
-    (map (λ s. []) sounds, map said numberRows, map said frameRows, map said poolRows)
-unfolding foundQuick quickIn rising table start stolen waiting leaving stacked grown ended three with setNumber setDeques setField setPool changed _but_ _alone_ sounds numberRows frameRows poolRows failing said bottom top pop shiftUp dropTop spawn steal sync initPool initFree initLeaves initInner initLevel setNode height width treeNodes push setSize setPlace size place setFrame frameAt rootsBelow oneMain parentsLive countsRight placedOnce returningRight holdLive absentEmpty linked onlyBelow treeAt nodesAt refcount left right value δ count
+at-once : _≡_ {A = List (List String) × List (List (List String)) × List (List (List String)) × List (List (List String)) × List (List (List String))}
+    (map quickIn sounds, map foundQuick numberRows, map foundQuick totalRows, map foundQuick frameRows, map foundQuick poolRows)
+    (map (λ s. []) sounds, map said numberRows, map said totalRows, map said frameRows, map said poolRows)
+unfolding foundQuick quickIn first rising table start stolen waiting leaving stacked grown twins triplets ended three with setNumber setTotal setDeques setField setPool changed _but_ _alone_ sounds numberRows totalRows frameRows poolRows failing said bottom top pop shiftUp dropTop addChild relinkFrom spawn steal sync initPool initFree initLeaves initInner initLevel setNode height width treeNodes push setSize setPlace size place setFrame frameAt rootsBelow oneMain parentsLive countsRight placedOnce returningRight linksRight chained totalsRight holdLive absentEmpty linked onlyBelow treeAt nodesAt refcount left right value δ count
 at-once = refl
 
 quickly : (ts : List Row) → map foundQuick ts ≡ map said ts → map found ts ≡ map said ts
@@ -401,11 +459,14 @@ computed = (λ i. map (λ s. quick s i) sounds) ∙ ap (λ t. t .0) at-once
 numbers-computed : map found numberRows ≡ map said numberRows
 numbers-computed = quickly numberRows (ap (λ t. t .1) at-once)
 
+totals-computed : map found totalRows ≡ map said totalRows
+totals-computed = quickly totalRows (ap (λ t. t .2) at-once)
+
 frames-computed : map found frameRows ≡ map said frameRows
-frames-computed = quickly frameRows (ap (λ t. t .2) at-once)
+frames-computed = quickly frameRows (ap (λ t. t .3) at-once)
 
 pools-computed : map found poolRows ≡ map said poolRows
-pools-computed = quickly poolRows (ap (λ t. t .3) at-once)
+pools-computed = quickly poolRows (ap (λ t. t .4) at-once)
 
 -- the two that need many nodes, 521 (which is T(257)) and 16,385: of the numbers' sentences this one alone is false; the sentences
 -- on trees are not computed

@@ -1,19 +1,22 @@
--- Document 01's paragraph "Soundness", sentence by sentence, and R-3's sentence on the word of frames that wait in their return,
--- as tests. Definitions only.
--- A state is its numbers (`Numbers`), the words ds of the 8 deques and the words fs of the frame table (64 places); ws are the
+-- Document 01's paragraph "Soundness", sentence by sentence, R-3's sentence on the word of frames that wait in their return, and R-5's on the totals and
+-- the links between siblings, as tests. Definitions only.
+-- A state is its numbers (`Numbers`), the words ts of the four totals, the words ds of the 8 deques and the words fs of the frame table (64 places); ws are the
 -- lent pool's words.
 use mathlib.Core.Bool.{Bool, true, false, cond, not, _||_, _&&_}
 use mathlib.Core.List.{List, [], _∷_, _++_}
 use Prim.Native.Nat.{ℕ, zero, suc, _+_, _-_, _*_, _^_}
 use Prim.Native.String.{String}
-use lib.ListN.{length, replicate, drop}
+use lib.ListN.{length, getD, replicate, drop}
 use lib.Dec.{eqb, leb, ltb}
-use Rattle.words.specs.Basics.{none, sum, all, howMany, implies, δ, count, follow, below}
+use Rattle.words.specs.Basics.{none, sum, all, some, howMany, implies, δ, count, follow, below}
 use Rattle.sizes.specs.Sizes.{height, treeNodes}
 use Rattle.pool.specs.Pool.{refcount, left, right, value, nextFree}
 use Rattle.frames.specs.Widths.{maxWorkers, places, dequePlaces}
+use Rattle.reducers.specs.declared.View.{View}
 use Rattle.frames.specs.Frames.{frameAt}
+use Rattle.frames.specs.Siblings.{younger, chained}
 use Rattle.frames.specs.Deques.{size, place}
+use Rattle.soundness.specs.Numbers.{totalCount}
 use Rattle.soundness.specs.declared.Numbers.{Numbers}
 use Rattle.soundness.specs.declared.Checked.{Checked}
 use Rattle.soundness.specs.declared.Checked.the-variants.{NoRoom, Unsound, Sound}
@@ -99,6 +102,20 @@ unfoldable pub returningRight : List ℕ → Bool
 returningRight fs =
     all places (λ p. implies (lives fs p) (eqb (frameAt fs p .returning) 0 || (eqb (frameAt fs p .returning) 1 && eqb (frameAt fs p .suspended) 1)))
 
+-- R-5: "that these links chain the live children of each frame, each once, Main's being none": from one of them on the links go through as many live children
+-- as there are, and end there, so through each once
+abbrev pub siblingsLinked : List ℕ → ℕ → Bool
+siblingsLinked fs q = eqb (children fs q) 0 || some places (chained (children fs q) fs q)
+
+unfoldable pub linksRight : List ℕ → Bool
+linksRight fs =
+    all places (λ q. implies (lives fs q) (siblingsLinked fs q)) &&
+    all places (λ p. implies (lives fs p && eqb (frameAt fs p .depth) 0) (eqb (younger fs p) none))
+
+-- R-5: the totals, "zero while Main lives"; "Soundness asks for those zeros"
+unfoldable pub totalsRight : List ℕ → List ℕ → Bool
+totalsRight ts fs = implies (some places (lives fs)) (all totalCount (λ i. eqb (getD ts i 0) 0))
+
 -- "Deques hold live frames only"
 unfoldable pub holdLive : List ℕ → List ℕ → Bool
 holdLive ds fs = all maxWorkers (λ w. all (size ds w) (λ k. ltb (place ds w k) places && lives fs (place ds w k)))
@@ -120,16 +137,20 @@ unfoldable pub onlyBelow : List ℕ → List ℕ → Bool
 onlyBelow ds fs =
     all maxWorkers (λ w. all (size ds w - 1) (λ k. all places (λ c. implies (isChild fs (place ds w (suc k)) c) (ltb (suc (suc k)) (size ds w) && eqb c (place ds w (suc (suc k)))))))
 
--- "Free frame places lie once on theirs, all but the link to the next being zero.", R-3's word too. One step more than places passes
+-- "Free frame places lie once on theirs, all but the link to the next being zero.", R-3's word and R-5's too. One step more than places passes
 -- its end
 abbrev pub freePlaces : List ℕ → ℕ → List ℕ
 freePlaces fs first = follow (suc places) (λ p. frameAt fs p .parent) first
+
+abbrev pub viewZero : View → Bool
+viewZero v = eqb (v .sum .value) 0 && (eqb (v .min .value) 0 && (eqb (v .affine .multiplier) 0 && eqb (v .affine .addend) 0))
 
 abbrev pub placeFree : List ℕ → ℕ → Bool
 placeFree fs p =
     eqb (frameAt fs p .live) 0 &&
     (eqb (frameAt fs p .depth) 0 &&
-    (eqb (frameAt fs p .outstanding) 0 && (eqb (frameAt fs p .suspended) 0 && (eqb (frameAt fs p .root) 0 && eqb (frameAt fs p .returning) 0))))
+    (eqb (frameAt fs p .outstanding) 0 &&
+    (eqb (frameAt fs p .suspended) 0 && (eqb (frameAt fs p .root) 0 && (eqb (frameAt fs p .returning) 0 && (viewZero (frameAt fs p .view) && eqb (younger fs p) 0))))))
 
 unfoldable pub placesFree : List ℕ → ℕ → Bool
 placesFree fs first =
@@ -144,6 +165,7 @@ frameSentences workers first ds fs =
     says "Outstanding counts are right." (countsRight fs) ∷
     says "Each live frame is either in just one place of one deque and not suspended, or in none and suspended with a live child." (placedOnce ds fs) ∷
     says "1 on a frame waiting so, which is suspended, else 0; anything else there is unsound." (returningRight fs) ∷
+    says "these links chain the live children of each frame, each once, Main's being none" (linksRight fs) ∷
     says "Deques hold live frames only;" (holdLive ds fs) ∷
     says "a worker that does not exist has an empty one;" (absentEmpty workers ds) ∷
     says "deque places past a deque's frames are zero." (restZero ds) ∷
@@ -226,22 +248,28 @@ rootsBelow fs (suc c) = rootsBelow fs c ++ cond (lives fs c) (frameAt fs c .root
 abbrev pub liveRoots : List ℕ → List ℕ
 liveRoots fs = rootsBelow fs places
 
-abbrev pub sentences : Numbers → List ℕ → List ℕ → List ℕ → List Sentence
-sentences s ds fs ws =
-    numberSentences s ws ++
-    (frameSentences (s .workers) (s .«free_place») ds fs ++
-    poolSentences (s .splitters) (s .nodes) ws (s .«free_node») (liveRoots fs))
+-- R-5's sentence on the totals
+abbrev pub totalSentences : List ℕ → List ℕ → List Sentence
+totalSentences ts fs = says "zero while Main lives" (totalsRight ts fs) ∷ []
 
-abbrev pub soundParts : Numbers → List ℕ → List ℕ → List ℕ → List Sentence
-soundParts s ds fs ws =
+abbrev pub sentences : Numbers → List ℕ → List ℕ → List ℕ → List ℕ → List Sentence
+sentences s ts ds fs ws =
+    numberSentences s ws ++
+    (totalSentences ts fs ++
+    (frameSentences (s .workers) (s .«free_place») ds fs ++
+    poolSentences (s .splitters) (s .nodes) ws (s .«free_node») (liveRoots fs)))
+
+abbrev pub soundParts : Numbers → List ℕ → List ℕ → List ℕ → List ℕ → List Sentence
+soundParts s ts ds fs ws =
     says "numbers" (numbersSound s ws) ∷
+    says "totals" (totalsRight ts fs) ∷
     says "frames and deques" (framesSound (s .workers) (s .«free_place») ds fs) ∷
     says "trees" (poolSound (s .splitters) (s .nodes) ws (s .«free_node») (liveRoots fs)) ∷
     []
 
--- "State and pool are sound if all of this is true.": the three parts, which are all the sentences (Theory.Sentences.sound-is-all)
-unfoldable pub sound : Numbers → List ℕ → List ℕ → List ℕ → Bool
-sound s ds fs ws = allOf (soundParts s ds fs ws)
+-- "State and pool are sound if all of this is true.": the four parts, which are all the sentences (Theory.Sentences.sound-is-all)
+unfoldable pub sound : Numbers → List ℕ → List ℕ → List ℕ → List ℕ → Bool
+sound s ts ds fs ws = allOf (soundParts s ts ds fs ws)
 
 -- the free nodes, counted on the chain
 abbrev pub freeCount : Numbers → List ℕ → ℕ
@@ -250,9 +278,9 @@ freeCount s ws = length (freeNodes (s .nodes) ws (s .«free_node»))
 -- ---- the check's answer, and what it leaves in the work slice
 
 -- refusal 5: "The work slice has fewer words than the recorded node count."
-unfoldable pub checked : Numbers → List ℕ → List ℕ → List ℕ → List ℕ → Checked
-checked s ds fs ws work =
-    cond (leb (s .nodes) (length work)) (cond (sound s ds fs ws) (Sound (freeCount s ws)) Unsound) NoRoom
+unfoldable pub checked : Numbers → List ℕ → List ℕ → List ℕ → List ℕ → List ℕ → Checked
+checked s ts ds fs ws work =
+    cond (leb (s .nodes) (length work)) (cond (sound s ts ds fs ws) (Sound (freeCount s ws)) Unsound) NoRoom
 
 -- "its first words, one per recorded node, are zero and the others are unchanged"
 unfoldable pub cleared : ℕ → List ℕ → List ℕ

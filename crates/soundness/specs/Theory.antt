@@ -4,9 +4,11 @@ pub mod Is
 pub mod Each
 -- the chains that the check follows
 pub mod FreeLists
--- the sentences on numbers, frames and deques as facts
+-- the sentences on numbers, totals, frames and deques as facts
 pub mod Facts
 -- each test is its fact
 pub mod Sentences
 -- and the sentences on trees
 pub mod PoolSentences
+-- the links between siblings: each live child once
+pub mod Links

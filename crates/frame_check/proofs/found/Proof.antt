@@ -1,6 +1,5 @@
 -- Both ways, by the test.
 use mathlib.Core.Path.{refl}
-use borrow.Author.Needs.{needs}
 use Rattle.frame_check.proofs.found.Statement.{statement}
 use Rattle.frame_check.proofs.found.Tie as tie
 

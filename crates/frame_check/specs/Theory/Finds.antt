@@ -7,7 +7,7 @@ use Prim.Native.Nat.{ℕ, zero, suc, _-_, _≤_, _<_}
 use native.Mathlib.Omega.{arith}
 use native.Mathlib.Decide.{ℕ-discrete}
 use lib.Dec.{ltb}
-use Rattle.words.specs.Basics.{howMany, count}
+use Rattle.words.specs.Basics.{howMany}
 use Rattle.words.specs.Tests.{decided, true≢false, lt-of}
 use Rattle.words.specs.Counting.{howMany-zero}
 use Rattle.words.specs.Tallies.{howMany-pos, howMany-unique}
@@ -17,7 +17,8 @@ use Rattle.frames.specs.Deques.{size, place}
 use Rattle.soundness.specs.Soundness.{isChild, children, freePlaces}
 use Rattle.soundness.specs.Theory.Sentences.{Lives, NoFrame, OnlyMain, FramesFacts, EachPlace, at-child, main-is, only-main, places-of}
 use Rattle.frame_check.specs.Algorithm.{mainAt, mains}
-use Rattle.frame_check.specs.Theory.Passes.{LiveAt, Passes}
+use Rattle.frame_check.specs.Theory.Passes.{Younger, LiveAt, Passes}
+use Rattle.frame_check.specs.Theory.Links.{to-siblings, to-main-link}
 
 none-of : (m : ℕ) → m ≤ 1 → m ≢ 1 → 0 < m → ⊥
 none-of m a b c = omega arith
@@ -25,6 +26,12 @@ none-of m a b c = omega arith
 module _ (workers first : ℕ) (ds fs : List ℕ) (s : Passes workers first ds fs) where
   live : (p : ℕ) → p < places → Lives fs p → LiveAt ds fs p
   live = s .live
+
+  counts : (p : ℕ) → p < places → Lives fs p → frameAt fs p .outstanding ≡ children fs p
+  counts p b l = live p b l .1 .0
+
+  named : (p : ℕ) → p < places → Lives fs p → Younger fs p
+  named p b l = live p b l .1 .1 .1 .1 .1
 
   held : (w : ℕ) → w < maxWorkers → (k : ℕ) → k < size ds w → (place ds w k < places) × Lives fs (place ds w k)
   held w b k c = s .on w b k c .0
@@ -44,7 +51,7 @@ module _ (workers first : ℕ) (ds fs : List ℕ) (s : Passes workers first ds f
   main-above : (d p : ℕ) → p < places → Lives fs p → frameAt fs p .depth ≡ d → 0 < mains fs
   main-above zero p b l e = howMany-pos places p (mainAt fs) b (main-is ds fs p .test (l, e))
   main-above (suc d) p b l e =
-      let h = live p b l .1 .0 .1 (λ z. omega arith) in
+      let h = live p b l .1 .1 .0 .1 (λ z. omega arith) in
       main-above d (frameAt fs p .parent) (h .0) (h .1) (omega (arith, h .2))
 
   -- where there is not one Main, no frame lives and the deques are empty
@@ -59,7 +66,7 @@ module _ (workers first : ℕ) (ds fs : List ℕ) (s : Passes workers first ds f
 
   one-main : NoFrame ds fs ⊎ OnlyMain fs
   one-main = elim (ℕ-discrete (mains fs) 1) [
-    | yes e ↦ inr (only-main ds fs (e, λ p b l d. live p b l .1 .0 .0 d))
+    | yes e ↦ inr (only-main ds fs (e, λ p b l d. live p b l .1 .1 .0 .0 d))
     | no e ↦ inl (dead e, empty e)
   ]
 
@@ -69,7 +76,7 @@ module _ (workers first : ℕ) (ds fs : List ℕ) (s : Passes workers first ds f
   only-below w b k l c d a e =
       let q = place ds w (suc k) in
       let h = held w b (suc k) l in
-      let n : children fs q ≡ cond (ltb (suc (suc k)) (size ds w)) 1 0 = sym (live q (h .0) (h .1) .0) ∙ inner w b k l .1 in
+      let n : children fs q ≡ cond (ltb (suc (suc k)) (size ds w)) 1 0 = sym (counts q (h .0) (h .1)) ∙ inner w b k l .1 in
       let t = at-child fs q c a e in
       elim (decided (ltb (suc (suc k)) (size ds w))) [
         | inl m ↦
@@ -89,10 +96,12 @@ module _ (workers first : ℕ) (ds fs : List ℕ) (s : Passes workers first ds f
   finds =
       record {
         one-main = one-main;
-        parents = λ p b l. live p b l .1 .0 .1;
-        outstanding = λ p b l. live p b l .0;
-        placed = λ p b l. live p b l .1 .1 .0;
-        returning = λ p b l. live p b l .1 .1 .1;
+        parents = λ p b l. live p b l .1 .1 .0 .1;
+        outstanding = counts;
+        placed = λ p b l. live p b l .1 .1 .1 .0;
+        returning = λ p b l. live p b l .1 .1 .1 .1 .0;
+        siblings = λ q b l. to-siblings fs counts named q b l (live q b l .0);
+        main-link = λ p b l. to-main-link fs p (named p b l);
         hold-live = held;
         absent = λ w b. s .fits w b .1 .0;
         within = λ w b. s .fits w b .0;

@@ -6,7 +6,7 @@ use mathlib.Core.List.{List}
 use Prim.Native.Nat.{ℕ, zero, suc, _-_, _≤_, _<_}
 use native.Mathlib.Omega.{arith}
 use lib.Dec.{ltb}
-use Rattle.words.specs.Basics.{none, howMany}
+use Rattle.words.specs.Basics.{none}
 use Rattle.words.specs.Tests.{decided, true≢false, lt-of, ltb-of}
 use Rattle.words.specs.Counting.{howMany-none}
 use Rattle.words.specs.Tallies.{howMany-one}
@@ -18,6 +18,7 @@ use Rattle.soundness.specs.Theory.Sentences.{Lives, FramesFacts, child-is, at-c
 use Rattle.frame_check.specs.Algorithm.{mainAt, mains}
 use Rattle.frame_check.specs.Theory.FreeChain.{FreeChain, free-dead}
 use Rattle.frame_check.specs.Theory.Passes.{OnDeque, Passes}
+use Rattle.frame_check.specs.Theory.Links.{to-chained, to-younger}
 
 module _ (workers first : ℕ) (ds fs : List ℕ) (F : FramesFacts workers first ds fs) where
   -- a frame below the top has a child if there is a frame below it, else none
@@ -71,5 +72,8 @@ module _ (workers first : ℕ) (ds fs : List ℕ) (F : FramesFacts workers first
         on = on;
         chained = chained;
         one = one;
-        live = λ p b l. (F .outstanding p b l, ((orphan p b l, F .parents p b l), (F .placed p b l, F .returning p b l)));
+        live = λ p b l. (
+          to-chained fs p (F .siblings p b l),
+          (F .outstanding p b l, ((orphan p b l, F .parents p b l), (F .placed p b l, (F .returning p b l, to-younger fs (F .outstanding) (F .siblings) p b l (F .main-link p b l) (F .parents p b l))))),
+        );
       }

@@ -1,38 +1,31 @@
 -- The check answers true where its facts hold, and only there: with the tallies as the numbers that they count, each of its tests is
--- its fact. A place's word of the tallies is its two counts in one, each below 1,024.
+-- its fact. A place's word of the tallies is its two counts, each below 1,024, and the sum of its links in one.
 use mathlib.Core.Path.{_≡_, sym, ap, _∙_}
-use mathlib.Core.Logic.{_⊎_, inl, inr}
-use mathlib.Core.Bool.{Bool, true, cond, _&&_}
+use mathlib.Core.Logic.{_⊎_}
+use mathlib.Core.Bool.{Bool, true, cond}
 use mathlib.Core.List.{List}
-use Prim.Native.Nat.{ℕ, suc, _+_, _*_, _-_, _≤_, _<_}
+use Prim.Native.Nat.{ℕ, suc, _+_, _*_, _-_, _%_, _^_, _≤_, _<_}
 use native.Mathlib.Nat.{le-trans}
 use native.Mathlib.Omega.{arith}
-use lib.ListN.{length, getD, getD-replicate}
+use lib.ListN.{length, getD}
 use lib.Dec.{eqb, ltb}
-use borrow.Author.Tests.{ne-eqb}
-use Rattle.words.specs.Basics.{none, all, howMany}
-use Rattle.words.specs.Tests.{decided, both}
+use Rattle.words.specs.Basics.{none, howMany}
+use Rattle.words.specs.Tests.{both}
 use Rattle.words.specs.Counting.{all-at, all-of}
-use Rattle.words.specs.Tallies.{and-of, howMany-le, howMany-cong, sum-upto}
-use Rattle.frames.specs.declared.Frame.{Frame}
+use Rattle.words.specs.Tallies.{and-of, howMany-le, sum-upto}
 use Rattle.frames.specs.Frames.{frameAt}
+use Rattle.frames.specs.Siblings.{younger, chained, eldest}
 use Rattle.frames.specs.Widths.{maxWorkers, places, dequePlaces}
 use Rattle.frames.specs.Deques.{size, place}
 use Rattle.soundness.specs.Soundness.{isChild, children, inDeques, freePlaces}
-use Rattle.soundness.specs.Theory.Is.{Is, eq-is, le-is, and-is, or-is, implies-is, cond-is, all-is}
+use Rattle.soundness.specs.Theory.Is.{Is, true-is, eq-is, lt-is, le-is, and-is, or-is, not-is, implies-is, cond-is, all-is}
 use Rattle.soundness.specs.Theory.Sentences.{Lives, HasParent, Placed, Returning, lives-is, parent-is, placed-is, returning-is, hold-is, absent-is, zeros-is}
-use Rattle.frame_check.specs.Algorithm.{childStep, dequeStep, childCount, dequeCount, childAt, childIn, tallyChildren}
-use Rattle.frame_check.specs.Algorithm.{dequeFits, onDeque, dequeSound, mains, placeSound, wordSound, placeChecked, zeros, tallies, checkFrames}
-use Rattle.frame_check.specs.Theory.Tallied.{length-tally, tally-at, tallyDeques-at}
+use Rattle.frame_check.specs.Algorithm.{dequeStep, linkStep, childCount, dequeCount, linkSum, childIn, stepIn, tallyChildren}
+use Rattle.frame_check.specs.Algorithm.{dequeFits, onDeque, mains, youngerSound, siblingsSound, placeSound, wordSound, placeChecked, zeros, tallies, checkFrames}
+use Rattle.frame_check.specs.Theory.Tallied.{in-word, length-tally, tallyDeques-at, children-at}
 use Rattle.frame_check.specs.Theory.FreeChain.{FreeChain, chain-is}
 
 -- ---- the tallies
-
-zeros-at : (p : ℕ) → p < places → _≡_ {A = ℕ} (getD zeros p 0) 0
-zeros-at p b = getD-replicate places p 0 0 b
-
-child-counted : (f : Frame) (p : ℕ) → p < places → eqb (childAt f) p ≡ eqb (f .live) 1 && eqb (f .parent) p
-child-counted f p b = elim (decided (eqb (f .live) 1)) [ inl e ↦ rw e | inr e ↦ rw e (ne-eqb none p (λ d. omega arith)) ]
 
 -- each count is below 1,024
 children-le : (fs : List ℕ) (p : ℕ) → children fs p ≤ 64
@@ -43,57 +36,50 @@ deques-le ds p h =
     sum-upto maxWorkers dequePlaces (λ w. howMany (size ds w) (λ k. eqb (place ds w k) p))
     (λ w c. le-trans (howMany-le (size ds w) (λ k. eqb (place ds w k) p)) (h w c))
 
--- the counts c and n in one word
-abbrev packed : ℕ → ℕ → ℕ
-packed c n = childStep * c + dequeStep * n
+-- the counts c and n and the sum s of links in one word
+abbrev packed : ℕ → ℕ → ℕ → ℕ
+packed c n s = (c + linkStep * s + dequeStep * n) % 2 ^ 32
 
--- no count wraps: after the children and the deques
-children-fit : {a c m : ℕ} → a ≡ 0 → m ≡ c → c ≤ 64 → a + childStep * m < 4294967296
-children-fit z d l = omega arith
-
-deques-fit : {a c n : ℕ} → a ≡ c → c ≤ 64 → n ≤ 512 → a + dequeStep * n < 4294967296
-deques-fit u l k = omega arith
-
-children-only : {a c m t : ℕ} → a ≡ 0 → m ≡ c → t ≡ a + childStep * m → t ≡ c
-children-only z d e = omega arith
-
-together : {a c t : ℕ} (n : ℕ) → a ≡ c → t ≡ a + dequeStep * n → t ≡ packed c n
-together n u v = omega arith
+together : {a t : ℕ} (c s n : ℕ) → a ≡ (c + linkStep * s) % 2 ^ 32 → t ≡ (a + dequeStep * n) % 2 ^ 32 → t ≡ packed c n s
+together c s n u v = omega arith
 
 in-range : {p : ℕ} (ts : List ℕ) → p < places → length ts ≡ places → p < length ts
 in-range ts b e = omega arith
 
-children-at : (fs : List ℕ) (p : ℕ) → p < places → getD (tallyChildren fs zeros) p 0 ≡ children fs p
-children-at fs p b =
-    let m = howMany-cong places (λ c. eqb (childIn fs c) p) (isChild fs p) (λ c d. child-counted (frameAt fs c) p b) in
-    children-only (zeros-at p b) m (tally-at childStep places (childIn fs) zeros p b (children-fit (zeros-at p b) m (children-le fs p)))
-
--- a place's word is its counts in one
-tallies-at : (ds fs : List ℕ) → ((w : ℕ) → w < maxWorkers → size ds w ≤ dequePlaces) → (p : ℕ) → p < places
-    → getD (tallies ds fs) p 0 ≡ packed (children fs p) (inDeques ds p)
-tallies-at ds fs h p b =
+-- a place's word is its counts and its sum in one
+tallies-at : (ds fs : List ℕ) (p : ℕ) → p < places → getD (tallies ds fs) p 0 ≡ packed (children fs p) (inDeques ds p) (suc (eldest fs p))
+tallies-at ds fs p b =
     let us = tallyChildren fs zeros in
-    let u = children-at fs p b in
-    together (inDeques ds p) u
-    (tallyDeques-at maxWorkers ds us p (in-range us b (length-tally childStep places (childIn fs) zeros)) (deques-fit u (children-le fs p) (deques-le ds p h)))
+    let u = children-at places fs p b in
+    together (children fs p) (suc (eldest fs p)) (inDeques ds p) u
+    (tallyDeques-at maxWorkers ds us p (in-range us b (length-tally (stepIn fs) places (childIn fs) zeros)) (in-word (children fs p + linkStep * suc (eldest fs p)) u))
 
--- the word taken apart gives the counts back
-child-back : (c n : ℕ) → c < dequeStep → childCount (packed c n) ≡ c
-child-back c n a = omega arith
+-- the word taken apart gives them back, the sum modulo 4,096
+child-back : (c n s : ℕ) → c < dequeStep → childCount (packed c n s) ≡ c
+child-back c n s a = omega arith
 
-deque-back : (c n : ℕ) → c < dequeStep → dequeCount (packed c n) ≡ n
-deque-back c n a = omega arith
+deque-back : (c n s : ℕ) → c < dequeStep → n < dequeStep → dequeCount (packed c n s) ≡ n
+deque-back c n s a b = omega arith
 
--- a place with what its tallies count
+sum-back : (c n s : ℕ) → c < dequeStep → n < dequeStep → linkSum (packed c n s) ≡ s % 4096
+sum-back c n s a b = omega arith
+
+-- the eldest as the check finds it
+abbrev pub eldestFound : List ℕ → ℕ → ℕ
+eldestFound fs q = suc (eldest fs q) % 4096 - 1
+
+-- a place with what its word counts
 abbrev placeCounted : List ℕ → List ℕ → ℕ → Bool
-placeCounted ds fs p = placeSound fs p (children fs p) (inDeques ds p)
+placeCounted ds fs p = placeSound fs p (children fs p) (inDeques ds p) (suc (eldest fs p) % 4096)
 
 place-counted : (ds fs : List ℕ) → ((w : ℕ) → w < maxWorkers → size ds w ≤ dequePlaces) → (p : ℕ) → p < places → placeChecked ds fs p ≡ placeCounted ds fs p
 place-counted ds fs h p b =
     let c = children fs p in
     let n = inDeques ds p in
+    let s = suc (eldest fs p) in
     let u : c < dequeStep = omega (arith, children-le fs p) in
-    ap (wordSound fs p) (tallies-at ds fs h p b) ∙ rw (child-back c n u, deque-back c n u)
+    let v : n < dequeStep = omega (arith, deques-le ds p h) in
+    ap (wordSound fs p) (tallies-at ds fs p b) ∙ rw (child-back c n s u, deque-back c n s u v, sum-back c n s u v)
 
 -- ---- what the check finds
 
@@ -111,8 +97,16 @@ OnDeque ds fs w k =
 abbrev pub Parented : List ℕ → ℕ → Type 0
 Parented fs p = (frameAt fs p .depth ≡ 0 → frameAt fs p .parent ≡ none) × ((frameAt fs p .depth ≡ 0 → ⊥) → HasParent fs p)
 
+-- R-5: Main and an only child name no sibling
+abbrev pub Younger : List ℕ → ℕ → Type 0
+Younger fs p = (younger fs p ≡ none) ⊎ ((frameAt fs p .depth ≡ 0 → ⊥) × (1 < frameAt fs (frameAt fs p .parent) .outstanding))
+
+-- the links chain the live children of the frame at q, from the eldest on, if they are more than one
+abbrev pub Chained : List ℕ → ℕ → Type 0
+Chained fs q = (children fs q ≤ 1) ⊎ (chained (children fs q) fs q (eldestFound fs q) ≡ true)
+
 abbrev pub LiveAt : List ℕ → List ℕ → ℕ → Type 0
-LiveAt ds fs p = (frameAt fs p .outstanding ≡ children fs p) × (Parented fs p × (Placed ds fs p × Returning fs p))
+LiveAt ds fs p = Chained fs p × ((frameAt fs p .outstanding ≡ children fs p) × (Parented fs p × (Placed ds fs p × (Returning fs p × Younger fs p))))
 
 pub record Passes (workers first : ℕ) (ds fs : List ℕ) : Type 0 where
   pub fits : (w : ℕ) → w < maxWorkers → Fits workers ds w
@@ -132,12 +126,19 @@ module _ (workers first : ℕ) (ds fs : List ℕ) where
       let f = frameAt fs (place ds w k) in
       and-is (hold-is ds fs w k) (or-is (eq-is k 0) (and-is (eq-is (f .parent) (place ds w (k - 1))) (eq-is (f .outstanding) (cond (ltb (suc k) (size ds w)) 1 0))))
 
+  younger-is : (p : ℕ) → Is (youngerSound (frameAt fs p) (frameAt fs (frameAt fs p .parent))) (Younger fs p)
+  younger-is p =
+      or-is (eq-is (younger fs p) none) (and-is (not-is (eq-is (frameAt fs p .depth) 0)) (lt-is 1 (frameAt fs (frameAt fs p .parent) .outstanding)))
+
+  chained-is : (q : ℕ) → Is (siblingsSound fs q (children fs q) (suc (eldest fs q) % 4096)) (Chained fs q)
+  chained-is q = or-is (le-is (children fs q) 1) (true-is (chained (children fs q) fs q (eldestFound fs q)))
+
   place-is : (p : ℕ) → Is (placeCounted ds fs p) (Lives fs p → LiveAt ds fs p)
   place-is p =
       let f = frameAt fs p in
       implies-is (lives-is ds fs p)
-      (and-is (eq-is (f .outstanding) (children fs p))
-      (and-is (cond-is (eq-is (f .depth) 0) (eq-is (f .parent) none) (parent-is ds fs p)) (and-is (placed-is ds fs p) (returning-is ds fs p))))
+      (and-is (chained-is p) (and-is (eq-is (f .outstanding) (children fs p))
+      (and-is (cond-is (eq-is (f .depth) 0) (eq-is (f .parent) none) (parent-is ds fs p)) (and-is (placed-is ds fs p) (and-is (returning-is ds fs p) (younger-is p))))))
 
   -- ---- the whole
 

@@ -1,4 +1,4 @@
--- Document 01's "Soundness" with R-3's sentence, the sentences on numbers, frames and deques, as facts. Sentences has that the tests are these facts.
+-- Document 01's "Soundness" with R-3's and R-5's sentences, those on numbers, totals, frames and deques, as facts. Sentences has that the tests are these facts.
 use mathlib.Core.Path.{_≡_, sym, ap}
 use mathlib.Core.Logic.{_≢_, _⊎_}
 use mathlib.Core.Bool.{true}
@@ -6,7 +6,7 @@ use mathlib.Core.List.{List}
 use Prim.Native.Nat.{ℕ, zero, suc, _*_, _≤_, _<_}
 use native.Mathlib.Omega.{arith}
 use native.Mathlib.Decide.{ℕ-discrete}
-use lib.ListN.{length}
+use lib.ListN.{length, getD}
 use lib.Dec.{eqb}
 use borrow.Author.Tests.{eq-eqb, ne-eqb}
 use Rattle.words.specs.Basics.{none, sum, howMany, δ, count}
@@ -14,9 +14,11 @@ use Rattle.words.specs.Counting.{δ-same, δ-other, count-nil, count-cons, sum-
 use Rattle.sizes.specs.Sizes.{treeNodes}
 use Rattle.frames.specs.Widths.{maxWorkers, places, dequePlaces}
 use Rattle.frames.specs.Frames.{frameAt, freePlace}
+use Rattle.frames.specs.Siblings.{younger, Children}
 use Rattle.frames.specs.Deques.{size, place, placesTo, dequeList}
 use Rattle.frames.specs.Theory.Places.{FreePlaces}
 use Rattle.soundness.specs.declared.Numbers.{Numbers}
+use Rattle.soundness.specs.Numbers.{totalCount}
 use Rattle.soundness.specs.Theory.Is.{Is, eq-is, and-is}
 use Rattle.soundness.specs.Soundness.{isChild, children, inDeques, poolSound, liveRoots}
 
@@ -78,6 +80,14 @@ Placed ds fs p = ((stands ds p ≡ 1) × (frameAt fs p .suspended ≡ 0)) ⊎ ((
 abbrev pub Returning : List ℕ → ℕ → Type 0
 Returning fs p = (frameAt fs p .returning ≡ 0) ⊎ ((frameAt fs p .returning ≡ 1) × (frameAt fs p .suspended ≡ 1))
 
+-- R-5: "these links chain the live children of each frame, each once"
+abbrev pub Siblings : List ℕ → ℕ → Type 0
+Siblings fs q = (cs : List ℕ) × Children fs q cs
+
+-- R-5: the totals, "zero while Main lives"; where a frame lives Main does
+abbrev pub TotalsZero : List ℕ → List ℕ → Type 0
+TotalsZero ts fs = (p : ℕ) → p < places → Lives fs p → (i : ℕ) → i < totalCount → getD ts i 0 ≡ 0
+
 -- "Free frame places lie once on theirs, all but the link to the next being zero."
 pub record PlacesFree (fs : List ℕ) (first : ℕ) : Type 0 where
   pub gs : List ℕ
@@ -90,6 +100,8 @@ pub record FramesFacts (workers first : ℕ) (ds fs : List ℕ) : Type 0 where
   pub outstanding : (p : ℕ) → p < places → Lives fs p → frameAt fs p .outstanding ≡ children fs p
   pub placed : (p : ℕ) → p < places → Lives fs p → Placed ds fs p
   pub returning : (p : ℕ) → p < places → Lives fs p → Returning fs p
+  pub siblings : (q : ℕ) → q < places → Lives fs q → Siblings fs q
+  pub main-link : (p : ℕ) → p < places → Lives fs p → frameAt fs p .depth ≡ 0 → younger fs p ≡ none
   pub hold-live : (w : ℕ) → w < maxWorkers → (k : ℕ) → k < size ds w → (place ds w k < places) × Lives fs (place ds w k)
   pub absent : (w : ℕ) → w < maxWorkers → workers ≤ w → size ds w ≡ 0
   pub within : (w : ℕ) → w < maxWorkers → size ds w ≤ dequePlaces
@@ -110,7 +122,8 @@ pub record NumbersFacts (s : Numbers) (ws : List ℕ) : Type 0 where
   pub room : 4 * s .nodes ≤ length ws
 
 -- "State and pool are sound if all of this is true." The pool's part is in PoolSentences
-pub record SoundFacts (s : Numbers) (ds fs ws : List ℕ) : Type 0 where
+pub record SoundFacts (s : Numbers) (ts ds fs ws : List ℕ) : Type 0 where
   pub numbers : NumbersFacts s ws
+  pub totals : TotalsZero ts fs
   pub frames : FramesFacts (s .workers) (s .«free_place») ds fs
   pub pool : poolSound (s .splitters) (s .nodes) ws (s .«free_node») (liveRoots fs) ≡ true

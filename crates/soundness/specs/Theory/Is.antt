@@ -7,10 +7,10 @@ use native.Mathlib.Omega.{arith}
 use native.Mathlib.Decide.{decLt}
 use lib.Dec.{eqb, ltb, leb}
 use borrow.Author.Tests.{ltb-true, eqb-true, eq-eqb, leb-true, le-leb}
-use Rattle.words.specs.Basics.{all, implies}
+use Rattle.words.specs.Basics.{all, some, implies}
 use Rattle.words.specs.Tests.{decided, both, lt-of, ltb-of, not-true, true≢false}
 use Rattle.words.specs.Counting.{all-at, all-of}
-use Rattle.words.specs.Tallies.{and-of, or-left, or-right, either, implies-at, implies-of}
+use Rattle.words.specs.Tallies.{and-of, or-left, or-right, either, implies-at, implies-of, some-at, some-of}
 
 pub record Is (b : Bool) (P : Type 0) : Type 0 where
   pub fact : b ≡ true → P
@@ -83,3 +83,8 @@ all-is n {f} h = record { fact = λ e i b. h i .fact (all-at n f e i b); test = 
 -- every number whose next is below n
 pub all-but-last : (n : ℕ) {f : ℕ → Bool} {P : ℕ → Type 0} → ((i : ℕ) → Is (f i) (P i)) → Is (all (n - 1) f) ((i : ℕ) → suc i < n → P i)
 all-but-last n h = is-as (λ g i b. g i (omega arith)) (λ g i b. g i (omega arith)) (all-is (n - 1) h)
+
+-- ---- some number below n
+
+pub some-is : (n : ℕ) {f : ℕ → Bool} {P : ℕ → Type 0} → ((i : ℕ) → Is (f i) (P i)) → Is (some n f) ((i : ℕ) × (i < n) × P i)
+some-is n {f} h = record { fact = λ e. let r = some-at n f e in (r .0, r .1, h (r .0) .fact (r .2)); test = λ g. some-of n f (g .0) (g .1) (h (g .0) .test (g .2)) }

@@ -1,24 +1,30 @@
--- Document 01's "Soundness": each test of Soundness on numbers, frames and deques holds if and only if its fact does.
+-- Document 01's "Soundness" with R-3's and R-5's sentences: each test of Soundness on numbers, totals, frames and deques holds if and only if its fact does.
 use mathlib.Core.Path.{_≡_, sym, ap, _∙_, subst}
 use mathlib.Core.Logic.{_≢_, _⊎_, inl, inr}
-use mathlib.Core.Bool.{Bool, true, not, _||_, _&&_}
+use mathlib.Core.Bool.{Bool, true, _||_, _&&_}
 use mathlib.Core.List.{List, _++_}
 use Prim.Native.Nat.{ℕ, suc, _≤_, _<_}
 use native.Mathlib.Omega.{arith}
-use lib.Dec.{eqb, ltb, leb}
+use lib.Dec.{eqb, ltb}
+use lib.ListN.{getD}
 use Rattle.words.specs.Basics.{none, all, howMany, implies, below, count}
 use Rattle.words.specs.Tallies.{howMany-one}
 use Rattle.frames.specs.declared.Frame.{Frame}
 use Rattle.frames.specs.Widths.{maxWorkers, places, dequePlaces}
 use Rattle.frames.specs.Frames.{frameAt, freePlace}
+use Rattle.frames.specs.Siblings.{younger}
+use Rattle.frames.specs.Theory.Siblings.{linked-is}
 use Rattle.frames.specs.Deques.{size, place}
+use Rattle.reducers.specs.declared.View.{View}
+use Rattle.reducers.specs.Reducers.{zeroView}
 use Rattle.soundness.specs.declared.Numbers.{Numbers}
-use Rattle.soundness.specs.Soundness.{lives, children, inDeques, freePlaces, placeFree, liveRoots, allOf, numberSentences, frameSentences, poolSentences, sentences, soundParts}
-use Rattle.soundness.specs.Soundness.{oneMain, parentsLive, countsRight, placedOnce, returningRight, holdLive, absentEmpty, restZero, linked, onlyBelow, placesFree, framesSound, numbersSound, poolSound, sound}
-use Rattle.soundness.specs.Theory.Is.{Is, is-as, true-is, eq-is, lt-is, le-is, and-is, and3-is, or-is, not-is, implies-is, both-imply, from-is, all-is, all-but-last}
+use Rattle.soundness.specs.Numbers.{totalCount}
+use Rattle.soundness.specs.Soundness.{lives, children, inDeques, siblingsLinked, freePlaces, viewZero, placeFree, liveRoots, allOf, numberSentences, totalSentences, frameSentences, poolSentences, sentences, soundParts}
+use Rattle.soundness.specs.Soundness.{oneMain, parentsLive, countsRight, placedOnce, returningRight, linksRight, totalsRight, holdLive, absentEmpty, restZero, linked, onlyBelow, placesFree, framesSound, numbersSound, poolSound, sound}
+use Rattle.soundness.specs.Theory.Is.{Is, is-as, true-is, eq-is, lt-is, le-is, and-is, and3-is, or-is, not-is, implies-is, both-imply, from-is, all-is, all-but-last, some-is}
 use Rattle.soundness.specs.Theory.Each.{row-of, of-each, allOf-append}
 use Rattle.soundness.specs.Theory.FreeLists.{chain-below, follow-sound, sound-follow, the-one}
-pub use Rattle.soundness.specs.Theory.Facts.{Lives, stands, stands-is, child-is, child-at, at-child, NoFrame, OnlyMain, HasParent, Placed, Returning, PlacesFree, FramesFacts, NumbersFacts, SoundFacts}
+pub use Rattle.soundness.specs.Theory.Facts.{Lives, stands, stands-is, child-is, child-at, at-child, NoFrame, OnlyMain, HasParent, Placed, Returning, Siblings, TotalsZero, PlacesFree, FramesFacts, NumbersFacts, SoundFacts}
 
 -- ---- frames and deques
 
@@ -92,6 +98,15 @@ module _ (ds fs : List ℕ) where
   unfolding returningRight
   returningRight-is = all-is places (λ p. implies-is (lives-is p) (returning-is p))
 
+  -- R-5: the links go through the live children of the frame at q, each once
+  pub siblings-is : (q : ℕ) → Is (siblingsLinked fs q) (Siblings fs q)
+  siblings-is q = record { fact = linked-is fs q .0; test = linked-is fs q .1 }
+
+  linksRight-is : Is (linksRight fs) (((q : ℕ) → q < places → Lives fs q → Siblings fs q) × ((p : ℕ) → p < places → Lives fs p → frameAt fs p .depth ≡ 0 → younger fs p ≡ none))
+  unfolding linksRight
+  linksRight-is =
+      and-is (all-is places (λ q. implies-is (lives-is q) (siblings-is q))) (all-is places (λ p. both-imply (lives-is p) (eq-is (frameAt fs p .depth) 0) (eq-is (younger fs p) none)))
+
   -- the frame at place k of worker w's deque lives
   pub hold-is : (w k : ℕ) → Is (ltb (place ds w k) places && lives fs (place ds w k)) ((place ds w k < places) × Lives fs (place ds w k))
   hold-is w k = and-is (lt-is (place ds w k) places) (lives-is (place ds w k))
@@ -114,9 +129,9 @@ module _ (ds fs : List ℕ) where
   unfolding restZero
   restZero-is = all-is maxWorkers (λ w. and-is (le-is (size ds w) dequePlaces) (zeros-is w))
 
-  linked-is : Is (linked ds fs) ((w : ℕ) → w < maxWorkers → (k : ℕ) → suc k < size ds w → frameAt fs (place ds w (suc k)) .parent ≡ place ds w k)
+  above-is : Is (linked ds fs) ((w : ℕ) → w < maxWorkers → (k : ℕ) → suc k < size ds w → frameAt fs (place ds w (suc k)) .parent ≡ place ds w k)
   unfolding linked
-  linked-is = all-is maxWorkers (λ w. all-but-last (size ds w) (λ k. eq-is (frameAt fs (place ds w (suc k)) .parent) (place ds w k)))
+  above-is = all-is maxWorkers (λ w. all-but-last (size ds w) (λ k. eq-is (frameAt fs (place ds w (suc k)) .parent) (place ds w k)))
 
   onlyBelow-is : Is (onlyBelow ds fs) ((w : ℕ) → w < maxWorkers → (k : ℕ) → suc k < size ds w → (c : ℕ) → c < places → Lives fs c → frameAt fs c .parent ≡ place ds w (suc k)
       → (suc (suc k) < size ds w) × (c ≡ place ds w (suc (suc k))))
@@ -127,14 +142,48 @@ module _ (ds fs : List ℕ) where
 
 -- ---- free places
 
-made : ℕ → ℕ → ℕ → ℕ → ℕ → ℕ → ℕ → Frame
-made l p d o s r b = record { live = l; parent = p; depth = d; outstanding = o; suspended = s; root = r; returning = b }
+madeView : ℕ → ℕ → ℕ → ℕ → View
+madeView a b c d = record { sum = record { value = a }; min = record { value = b }; affine = record { multiplier = c; addend = d } }
 
-free-frame : (f : Frame) → (f .live ≡ 0) × ((f .depth ≡ 0) × ((f .outstanding ≡ 0) × ((f .suspended ≡ 0) × ((f .root ≡ 0) × (f .returning ≡ 0))))) → f ≡ freePlace (f .parent)
+made : ℕ → ℕ → ℕ → ℕ → ℕ → ℕ → ℕ → View → ℕ → Frame
+made l p d o s r b v y = record { live = l; parent = p; depth = d; outstanding = o; suspended = s; root = r; returning = b; view = v; younger = y }
+
+view-is : (v : View) → Is (viewZero v) (v ≡ zeroView)
+unfolding madeView
+view-is v =
+    is-as (λ h. (let g : madeView (v .sum .value) (v .min .value) (v .affine .multiplier) (v .affine .addend) ≡ madeView 0 0 0 0 = rw (h .0, h .1 .0, h .1 .1 .0, h .1 .1 .1) in g))
+    (λ e. (ap (λ (w : View). w .sum .value) e, (ap (λ (w : View). w .min .value) e, (ap (λ (w : View). w .affine .multiplier) e, ap (λ (w : View). w .affine .addend) e))))
+    (and-is (eq-is (v .sum .value) 0) (and-is (eq-is (v .min .value) 0) (and-is (eq-is (v .affine .multiplier) 0) (eq-is (v .affine .addend) 0))))
+
+-- a record's words but the link, all zero
+pub record Zero (f : Frame) : Type 0 where
+  pub live : f .live ≡ 0
+  pub depth : f .depth ≡ 0
+  pub outstanding : f .outstanding ≡ 0
+  pub suspended : f .suspended ≡ 0
+  pub root : f .root ≡ 0
+  pub returning : f .returning ≡ 0
+  pub view : f .view ≡ zeroView
+  pub younger : f .younger ≡ 0
+
+free-frame : (f : Frame) → Zero f → f ≡ freePlace (f .parent)
 unfolding made
 free-frame f h =
-    let g : made (f .live) (f .parent) (f .depth) (f .outstanding) (f .suspended) (f .root) (f .returning) ≡ made 0 (f .parent) 0 0 0 0 0 = rw (h .0, h .1 .0, h .1 .1 .0, h .1 .1 .1 .0, h .1 .1 .1 .1 .0, h .1 .1 .1 .1 .1) in
+    let g : made (f .live) (f .parent) (f .depth) (f .outstanding) (f .suspended) (f .root) (f .returning) (f .view) (f .younger) ≡ made 0 (f .parent) 0 0 0 0 0 zeroView 0 =
+    rw (h .live, h .depth, h .outstanding, h .suspended, h .root, h .returning, h .view, h .younger) in
     g
+
+frame-free : (f : Frame) (q : ℕ) → f ≡ freePlace q → Zero f
+frame-free f q e = record {
+  live = ap (λ (g : Frame). g .live) e;
+  depth = ap (λ (g : Frame). g .depth) e;
+  outstanding = ap (λ (g : Frame). g .outstanding) e;
+  suspended = ap (λ (g : Frame). g .suspended) e;
+  root = ap (λ (g : Frame). g .root) e;
+  returning = ap (λ (g : Frame). g .returning) e;
+  view = ap (λ (g : Frame). g .view) e;
+  younger = ap (λ (g : Frame). g .younger) e;
+}
 
 abbrev pub FreeAt : List ℕ → ℕ → Type 0
 FreeAt fs p = (q : ℕ) × (frameAt fs p ≡ freePlace q)
@@ -142,9 +191,23 @@ FreeAt fs p = (q : ℕ) × (frameAt fs p ≡ freePlace q)
 pub free-is : (fs : List ℕ) (p : ℕ) → Is (placeFree fs p) (FreeAt fs p)
 free-is fs p =
     let f = frameAt fs p in
-    is-as (λ h. (f .parent, free-frame f h))
-    (λ h. (let e = h .1 in (ap (λ (g : Frame). g .live) e, (ap (λ (g : Frame). g .depth) e, (ap (λ (g : Frame). g .outstanding) e, (ap (λ (g : Frame). g .suspended) e, (ap (λ (g : Frame). g .root) e, ap (λ (g : Frame). g .returning) e)))))))
-    (and-is (eq-is (f .live) 0) (and-is (eq-is (f .depth) 0) (and-is (eq-is (f .outstanding) 0) (and-is (eq-is (f .suspended) 0) (and-is (eq-is (f .root) 0) (eq-is (f .returning) 0))))))
+    is-as
+    (λ h. (
+      f .parent,
+      free-frame f (record {
+        live = h .0;
+        depth = h .1 .0;
+        outstanding = h .1 .1 .0;
+        suspended = h .1 .1 .1 .0;
+        root = h .1 .1 .1 .1 .0;
+        returning = h .1 .1 .1 .1 .1 .0;
+        view = h .1 .1 .1 .1 .1 .1 .0;
+        younger = h .1 .1 .1 .1 .1 .1 .1;
+      }),
+    ))
+    (λ h. (let z = frame-free f (h .0) (h .1) in (z .live, (z .depth, (z .outstanding, (z .suspended, (z .root, (z .returning, (z .view, z .younger)))))))))
+    (and-is (eq-is (f .live) 0) (and-is (eq-is (f .depth) 0) (and-is (eq-is (f .outstanding) 0) (and-is (eq-is (f .suspended) 0)
+    (and-is (eq-is (f .root) 0) (and-is (eq-is (f .returning) 0) (and-is (view-is (f .view)) (eq-is (f .younger) 0))))))))
 
 module _ (fs : List ℕ) (first : ℕ) where
   -- p lives and is not among gs, or it is free and there once
@@ -194,13 +257,15 @@ module _ (workers first : ℕ) (ds fs : List ℕ) where
         outstanding = counts-is ds fs .fact (r 2);
         placed = placedOnce-is ds fs .fact (r 3);
         returning = returningRight-is ds fs .fact (r 4);
-        hold-live = holdLive-is ds fs .fact (r 5);
-        absent = absentEmpty-is ds fs workers .fact (r 6);
-        within = λ w b. restZero-is ds fs .fact (r 7) w b .0;
-        zeros = λ w b k l c. restZero-is ds fs .fact (r 7) w b .1 k c l;
-        child-of-above = linked-is ds fs .fact (r 8);
-        only-below = onlyBelow-is ds fs .fact (r 9);
-        places = places-is fs first .fact (r 10);
+        siblings = linksRight-is ds fs .fact (r 5) .0;
+        main-link = linksRight-is ds fs .fact (r 5) .1;
+        hold-live = holdLive-is ds fs .fact (r 6);
+        absent = absentEmpty-is ds fs workers .fact (r 7);
+        within = λ w b. restZero-is ds fs .fact (r 8) w b .0;
+        zeros = λ w b k l c. restZero-is ds fs .fact (r 8) w b .1 k c l;
+        child-of-above = above-is ds fs .fact (r 9);
+        only-below = onlyBelow-is ds fs .fact (r 10);
+        places = places-is fs first .fact (r 11);
       }
 
   pub facts-frames : FramesFacts workers first ds fs → framesSound workers first ds fs ≡ true
@@ -216,18 +281,21 @@ module _ (workers first : ℕ) (ds fs : List ℕ) where
           (
             returningRight-is ds fs .test (F .returning),
             (
-              holdLive-is ds fs .test (F .hold-live),
+              linksRight-is ds fs .test (F .siblings, F .main-link),
               (
-                absentEmpty-is ds fs workers .test (F .absent),
+                holdLive-is ds fs .test (F .hold-live),
                 (
-                  restZero-is ds fs .test (λ w b. (F .within w b, λ k c l. F .zeros w b k l c)),
+                  absentEmpty-is ds fs workers .test (F .absent),
                   (
-                    linked-is ds fs .test (F .child-of-above),
+                    restZero-is ds fs .test (λ w b. (F .within w b, λ k c l. F .zeros w b k l c)),
                     (
-                      onlyBelow-is ds fs .test (F .only-below),
+                      above-is ds fs .test (F .child-of-above),
                       (
-                        places-is fs first .test (F .places),
-                        tt,
+                        onlyBelow-is ds fs .test (F .only-below),
+                        (
+                          places-is fs first .test (F .places),
+                          tt,
+                        ),
                       ),
                     ),
                   ),
@@ -282,21 +350,32 @@ module _ (s : Numbers) (ws : List ℕ) where
     ),
   )
 
-module _ (s : Numbers) (ds fs ws : List ℕ) where
-  pub sound-facts : sound s ds fs ws ≡ true → SoundFacts s ds fs ws
+-- R-5: the totals
+totals-is : (ts fs : List ℕ) → Is (totalsRight ts fs) (TotalsZero ts fs)
+unfolding totalsRight
+totals-is ts fs =
+    is-as (λ h p b l. h (p, b, l)) (λ h e. h (e .0) (e .1) (e .2))
+    (implies-is (some-is places (λ p. eq-is (frameAt fs p .live) 1)) (all-is totalCount (λ i. eq-is (getD ts i 0) 0)))
+
+module _ (s : Numbers) (ts ds fs ws : List ℕ) where
+  pub sound-facts : sound s ts ds fs ws ≡ true → SoundFacts s ts ds fs ws
   unfolding sound
   sound-facts e =
-      let r = row-of (soundParts s ds fs ws) e in
-      record { numbers = numbers-facts s ws (r 0); frames = frames-facts (s .workers) (s .«free_place») ds fs (r 1); pool = r 2 }
+      let r = row-of (soundParts s ts ds fs ws) e in
+      record { numbers = numbers-facts s ws (r 0); totals = totals-is ts fs .fact (r 1); frames = frames-facts (s .workers) (s .«free_place») ds fs (r 2); pool = r 3 }
 
-  pub facts-sound : SoundFacts s ds fs ws → sound s ds fs ws ≡ true
+  pub facts-sound : SoundFacts s ts ds fs ws → sound s ts ds fs ws ≡ true
   unfolding sound
-  facts-sound F = of-each (soundParts s ds fs ws) (facts-numbers s ws (F .numbers), (facts-frames (s .workers) (s .«free_place») ds fs (F .frames), (F .pool, tt)))
+  facts-sound F =
+      of-each (soundParts s ts ds fs ws)
+      (facts-numbers s ws (F .numbers), (totals-is ts fs .test (F .totals), (facts-frames (s .workers) (s .«free_place») ds fs (F .frames), (F .pool, tt))))
 
-  -- the three parts are all the sentences
-  pub sound-is-all : sound s ds fs ws ≡ allOf (sentences s ds fs ws)
+  -- the four parts are all the sentences
+  pub sound-is-all : sound s ts ds fs ws ≡ allOf (sentences s ts ds fs ws)
   unfolding sound numbersSound framesSound poolSound
   sound-is-all =
+      let nu = numberSentences s ws in
+      let to = totalSentences ts fs in
       let fr = frameSentences (s .workers) (s .«free_place») ds fs in
       let po = poolSentences (s .splitters) (s .nodes) ws (s .«free_node») (liveRoots fs) in
-      sym (allOf-append (numberSentences s ws) (fr ++ po) ∙ ap (λ b. allOf (numberSentences s ws) && b) (allOf-append fr po))
+      sym (allOf-append nu (to ++ (fr ++ po)) ∙ ap (λ b. allOf nu && b) (allOf-append to (fr ++ po) ∙ ap (λ b. totalsRight ts fs && b) (allOf-append fr po)))

@@ -13,7 +13,7 @@ use Rattle.frame_check.proofs.deques.tally_deque.Statement.{statement}
 use Rattle.frame_check.proofs.deques.tally_deque.Tie as tie
 
 abbrev Inv-loop : tie.InvT-loop
-Inv-loop tallies₀ deques frames w n sound₀ k₀ tallies sound k = (tallies ≡ tally dequeStep k (place deques w) tallies₀) × (sound ≡ all k (onDeque deques frames w)) × (k ≤ n)
+Inv-loop tallies₀ deques frames w n sound₀ k₀ tallies sound k = (tallies ≡ tally (λ i. dequeStep) k (place deques w) tallies₀) × (sound ≡ all k (onDeque deques frames w)) × (k ≤ n)
 
 abbrev μ-loop : tie.MeasureT-loop
 μ-loop tallies₀ deques frames w n sound₀ k₀ tallies sound k = n - k
@@ -53,7 +53,7 @@ loop-again : tie.Need-loop-again Inv-loop μ-loop
 loop-again c =
     let a = c .before .before .before .before .before .before .before .before .before .before .before .before .before .before .before .args in
     let l = c .before .before .before .before .before .before .before .before .before .before .loop in (
-      rw (c .before .before .before .before .bump .ensures) (tally-turn dequeStep (l .k) (place (a .deques .now) (a .w)) (a .tallies .now) (l .inv .0) (c .before .before .before .before .before .before .before .before .place-at .ensures)),
+      rw (c .before .before .before .before .bump .ensures) (tally-turn (λ i. dequeStep) (l .k) (place (a .deques .now) (a .w)) (a .tallies .now) (l .inv .0) (c .before .before .before .before .before .before .before .before .place-at .ensures) refl),
       all-turn (l .k) (onDeque (a .deques .now) (a .frames .now) (a .w)) (l .inv .1)
           (rw (
             c .in-deque .ensures,
@@ -70,14 +70,14 @@ same-length : tie.Need-same-length Inv-loop μ-loop
 same-length c =
     let a = c .before .before .before .before .before .before .args in
     let l = c .before .loop in
-    ap length (l .inv .0) ∙ length-tally dequeStep (l .k) (place (a .deques .now) (a .w)) (a .tallies .now)
+    ap length (l .inv .0) ∙ length-tally (λ i. dequeStep) (l .k) (place (a .deques .now) (a .w)) (a .tallies .now)
 
 returns : tie.Need-returns Inv-loop μ-loop
 returns c =
     let a = c .before .before .before .before .before .before .args in
     let l = c .before .loop in
     rw (← c .before .before .size-at .ensures) (
-      at-end (λ k. tally dequeStep k (place (a .deques .now) (a .w)) (a .tallies .now)) (l .inv .2) (c .loop-test .left) (l .inv .0),
+      at-end (λ k. tally (λ i. dequeStep) k (place (a .deques .now) (a .w)) (a .tallies .now)) (l .inv .2) (c .loop-test .left) (l .inv .0),
       at-end (λ k. all k (onDeque (a .deques .now) (a .frames .now) (a .w))) (l .inv .2) (c .loop-test .left) (l .inv .1),
     )
 

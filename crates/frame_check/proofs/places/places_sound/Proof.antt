@@ -9,7 +9,6 @@ use Rattle.words.specs.Loops.{all-fail, all-left, not-past, one-left, fewer-lef
 use Rattle.frames.specs.Widths.{places}
 use Rattle.frame_check.specs.Algorithm.{liveAt, placeTallied}
 use Rattle.frame_check.proofs.Laws.{all-turn, next-fits, next-less, next-le, dead-sound}
-use borrow.Author.Needs.{needs}
 use Rattle.frame_check.proofs.places.places_sound.Statement.{statement}
 use Rattle.frame_check.proofs.places.places_sound.Tie as tie
 

@@ -25,7 +25,10 @@ bump-of c = c .before .before .before
 abbrev live-of : tie.After-bump Inv-loop μ-loop → tie.Else1 Inv-loop μ-loop
 live-of c = c .before .before
 
-abbrev frame-of : tie.After-struct-known Inv-loop μ-loop → tie.After-frame-at Inv-loop μ-loop
+abbrev step-of : tie.After-struct-known Inv-loop μ-loop → tie.After-step-of Inv-loop μ-loop
+step-of c = c .before
+
+abbrev frame-of : tie.After-step-of Inv-loop μ-loop → tie.After-frame-at Inv-loop μ-loop
 frame-of c = c .before
 
 abbrev loop-of : tie.After-frame-at Inv-loop μ-loop → tie.At-loop Inv-loop μ-loop
@@ -35,7 +38,7 @@ abbrev start-of : tie.At-loop Inv-loop μ-loop → tie.Start Inv-loop μ-loop
 start-of c = c .before .before .before
 
 flat-le : (c : tie.After-flat-in Inv-loop μ-loop) → c .flat-in .result ≤ 1
-flat-le c = rw (c .flat-in .ensures) (hit-le (isFlat (frame-of (live-of (bump-of c) .before) .frame-at .result)))
+flat-le c = rw (c .flat-in .ensures) (hit-le (isFlat (frame-of (step-of (live-of (bump-of c) .before)) .frame-at .result)))
 
 loop-holds : tie.Need-loop-holds Inv-loop μ-loop
 unfolding tally
@@ -43,6 +46,9 @@ loop-holds c = (record { tallied = refl; main-is = refl; live-is = refl }, c .be
 
 frame-at-requires : tie.Need-frame-at-requires Inv-loop μ-loop
 frame-at-requires c κs = search needs
+
+step-of-requires : tie.Need-step-of-requires Inv-loop μ-loop
+step-of-requires c κs = search needs
 
 add-p : tie.Need-add-p Inv-loop μ-loop
 add-p c = search needs
@@ -52,7 +58,7 @@ loop-less c = search needs
 
 loop-again : tie.Need-loop-again Inv-loop μ-loop
 loop-again c =
-    let f = frame-of (c .before) in
+    let f = frame-of (step-of (c .before)) in
     let l = loop-of f in
     let a = start-of l .args in
     let i = l .loop .inv in (
@@ -82,12 +88,13 @@ loop-again-2 : tie.Need-loop-again-2 Inv-loop μ-loop
 loop-again-2 c =
     let b = bump-of c in
     let t = live-of b in
-    let f = frame-of (t .before) in
+    let w = step-of (t .before) in
+    let f = frame-of w in
     let l = loop-of f in
     let a = start-of l .args in
     let i = l .loop .inv in (
       rw (b .bump .ensures)
-          (pass-live (a .frames .now) (a .tallies .now) (l .loop .p) (l .loop .tallies) (l .loop .mains) (l .loop .live) (f .frame-at .result) (f .frame-at .ensures) (i .0) (t .if1 .left) (c .flat-in .ensures)),
+          (pass-live (a .frames .now) (a .tallies .now) (l .loop .p) (l .loop .tallies) (l .loop .mains) (l .loop .live) (f .frame-at .result) (f .frame-at .ensures) (i .0) (t .if1 .left) (c .flat-in .ensures) (w .step-of .ensures)),
       b .bump .kept .0 ∙ i .1,
       omega (arith, i .2, flat-le c),
       omega (arith, i .3),
@@ -111,6 +118,7 @@ tally-children-spec =
     μ-loop
     loop-holds
     frame-at-requires
+    step-of-requires
     add-p
     loop-less
     loop-again
