@@ -1,5 +1,5 @@
 -- The ways out of the functions that save, test and read.
-use mathlib.Core.Path.{_≡_, refl, sym, ap, ap₂, _∙_}
+use mathlib.Core.Path.{_≡_, refl, sym, ap, ap₂, subst, _∙_}
 use mathlib.Core.Logic.{inl, inr, _≢_}
 use mathlib.Core.Bool.{Bool, true, false, not}
 use mathlib.Core.List.{List, [], _∷_, _++_, append-assoc, append-nil}
@@ -8,22 +8,22 @@ use native.Mathlib.Omega.{arith}
 use lib.ListN.{length, getD, take, drop, replicate, length-append, length-set, length-drop, length-replicate, drop-of-length-le}
 use lib.Seq.{sets, sets-eq, take-all, drop-at, length-take-le, drop-append-add, drop-drop, drop-cons, take-nil}
 use lib.Dec.{ltb}
-use borrow.Author.Tests.{ltb-true, ltb-false, lt-ltb, le-ltb}
+use borrow.Author.Tests.{ltb-true, ltb-false}
 use Rattle.words.specs.Basics.{plus}
 use Rattle.words.specs.Tests.{decided}
-use Rattle.frames.specs.Widths.{places, frameWords, dequeWords}
+use Rattle.frames.specs.Widths.{frameWords, dequeWords}
+use Rattle.soundness.specs.Numbers.{numberCount}
 use Rattle.image.specs.declared.ImageCheck.the-variants.{WrongLength, WrongCheck, Good}
-use Rattle.image.specs.Widths.{numberCount, nodeWords, stateWords, wordsFor, version, oldFrameWords, oldStateWords}
-use Rattle.image.specs.Image.{nodeCount, versioned, imageWords, wordBytes, bytesOf, wordsOf, wordAt, check, blocksFor, filled, imageOf, imageBlocks, imageBytes, firstIn, nodesIn, stateWordsIn, wordsCalled, blocksCalled, wrongLength, dataOf, checksHold, allZero, restOf, wrongCheck, imageCheck, wordsIn, unversioned, widened, numberWordsIn, framesIn, poolIn, Lengths, stored, IsRead}
+use Rattle.image.specs.Widths.{nodeWords, stateWords, wordsFor, version}
+use Rattle.image.specs.Image.{nodeCount, versioned, imageWords, wordBytes, bytesOf, wordsOf, wordAt, check, blocksFor, filled, imageOf, imageBlocks, imageBytes, firstIn, nodesIn, wordsCalled, blocksCalled, wrongLength, dataOf, checksHold, allZero, restOf, wrongCheck, imageCheck, wordsIn, unversioned, numberWordsIn, poolIn, Lengths, stored, IsRead}
 use Rattle.image.specs.Inner.{placeOf, sumBefore, withCheck, putWords, readWords}
-use Rattle.image.specs.Theory.Forms.{old-state, new-state, state-least, length-widened}
+use Rattle.image.specs.Theory.Version.{Readable}
 use Rattle.image.specs.Theory.Bytes.{bytes-zeros, length-words, at-words}
 use Rattle.image.specs.Theory.Blocks.{word-drop, word-take, word-front, length-data}
 use Rattle.image.specs.Theory.Check.{check-word, check-zeros}
 use Rattle.image.specs.Theory.Refused.{right-length, when-17}
 use Rattle.image.specs.Theory.Round.{length-filled, blocks-enough, blocks-needed, good-length, part-length, length-pool}
-use Rattle.image.specs.Theory.Written.{length-state, length-image-words, length-image, image-blocks, frames-new}
-use Rattle.image.specs.Theory.Old.{oldFramesIn, frames-old}
+use Rattle.image.specs.Theory.Written.{length-state, length-image-words, length-image, image-blocks}
 use Rattle.image.proofs.Stores.{put-append, put-run, put-last, put-blocks, sum-after, sum-block, sum-word, sum-none}
 
 -- ---- saving
@@ -75,11 +75,11 @@ first-stored ns t u w h ew eu =
     run-open (w ∷ []) t u 0 1 0 0 w refl (omega arith) refl (sym z) eu s (omega arith)
 
 -- then the others
-pub numbers-stored : (ns t u v : List ℕ) (w : ℕ) → length ns ≡ numberCount → w ≡ plus (getD ns 0 0) version → u ≡ putWords t 0 (w ∷ []) → v ≡ putWords u 1 (take 4 (drop 1 ns))
+pub numbers-stored : (ns t u v : List ℕ) (w : ℕ) → length ns ≡ numberCount → w ≡ plus (getD ns 0 0) version → u ≡ putWords t 0 (w ∷ []) → v ≡ putWords u 1 (take 8 (drop 1 ns))
     → v ≡ putWords t 0 (versioned ns)
 numbers-stored [] t u v w l e eu ev = absurd (omega arith)
 numbers-stored (x ∷ xs) t u v w l e eu ev =
-    ev ∙ ap₂ (λ (p q : List ℕ). putWords p 1 q) eu (take-all 4 xs (omega arith)) ∙ sym (put-append (w ∷ []) xs t 0) ∙ ap (λ (y : ℕ). putWords t 0 (y ∷ xs)) e
+    ev ∙ ap₂ (λ (p q : List ℕ). putWords p 1 q) eu (take-all 8 xs (omega arith)) ∙ sym (put-append (w ∷ []) xs t 0) ∙ ap (λ (y : ℕ). putWords t 0 (y ∷ xs)) e
 
 -- zeros up to the end of the last block
 module _ (t : List ℕ) (w b s : ℕ) (eb : b ≡ blocksFor w) (fits : 512 * b ≤ length t) (es : s ≡ sumBefore t w) where
@@ -134,13 +134,6 @@ first-at image l = number-at image 0 l (omega arith)
 pub nodes-at : (image : List ℕ) → 512 ≤ length image → wordAt image 8 ≡ nodesIn image
 nodes-at image l = number-at image 2 l (omega arith)
 
--- the first word tells the words of a state
-pub state-old : (image : List ℕ) (w : ℕ) → w ≡ firstIn image → w < version → oldStateWords ≡ stateWordsIn image
-state-old image w e h = sym (old-state image (lt-ltb (firstIn image) version (omega arith)))
-
-pub state-new : (image : List ℕ) (w : ℕ) → w ≡ firstIn image → version ≤ w → stateWords ≡ stateWordsIn image
-state-new image w e h = sym (new-state image (le-ltb (firstIn image) version (omega arith)))
-
 -- the data with a block more
 data-snoc : (n : ℕ) (image : List ℕ) → dataOf (suc n) image ≡ dataOf n image ++ take 508 (drop (512 * n) image)
 unfolding dataOf
@@ -182,26 +175,29 @@ module _ (image : List ℕ) where
       let c′ : checksHold (blocksCalled image) image ≡ true = ap (λ (k : ℕ). checksHold k image) (sym en) ∙ c in
       let z′ : allZero (restOf image) ≡ z =
       ap₂ (λ (a b : ℕ). allZero (drop (4 * a) (dataOf b image))) (sym ew) (sym en)
-      ∙ ap allZero (rest-place n w image (omega (arith, state-least image)) (omega arith) (omega arith) (omega arith)) ∙ sym e in
+      ∙ ap allZero (rest-place n w image (omega arith) (omega arith) (omega arith) (omega arith)) ∙ sym e in
       rw (c′, z′)
 
   pub too-short : length image < 512 → WrongLength ≡ imageCheck image
   too-short h = sym (when-17 image .1 (inl h))
 
-  pub no-form : (w : ℕ) → w ≡ firstIn image → 512 ≤ w → WrongLength ≡ imageCheck image
-  no-form w e h = sym (when-17 image .1 (inr (inl (omega arith))))
+  pub form-before : (w : ℕ) → w ≡ firstIn image → w < 512 → WrongLength ≡ imageCheck image
+  form-before w e h = sym (when-17 image .1 (inr (inl (omega arith))))
+
+  pub form-after : (w : ℕ) → w ≡ firstIn image → 768 ≤ w → WrongLength ≡ imageCheck image
+  form-after w e h = sym (when-17 image .1 (inr (inr (inl (omega arith)))))
 
   pub other-length : (b : ℕ) → b ≡ blocksCalled image → length image ≢ 512 * b → WrongLength ≡ imageCheck image
-  other-length b eb d = sym (when-17 image .1 (inr (inr (λ e. d (e ∙ ap (λ (k : ℕ). 512 * k) (sym eb))))))
+  other-length b eb d = sym (when-17 image .1 (inr (inr (inr (λ e. d (e ∙ ap (λ (k : ℕ). 512 * k) (sym eb)))))))
 
-  tested : (w b : ℕ) → w ≡ firstIn image → w < 512 → b ≡ blocksCalled image → length image ≡ 512 * b → wrongLength image ≡ false
-  tested w b ew h eb d = right-length image (record { form = omega arith; long = d ∙ ap (λ (k : ℕ). 512 * k) eb })
+  tested : (w b : ℕ) → w ≡ firstIn image → Readable w → b ≡ blocksCalled image → length image ≡ 512 * b → wrongLength image ≡ false
+  tested w b ew h eb d = right-length image (record { form = subst Readable ew h; long = d ∙ ap (λ (k : ℕ). 512 * k) eb })
 
-  pub is-wrong : (w b : ℕ) → w ≡ firstIn image → w < 512 → b ≡ blocksCalled image → length image ≡ 512 * b → wrongCheck image ≡ true → WrongCheck ≡ imageCheck image
+  pub is-wrong : (w b : ℕ) → w ≡ firstIn image → Readable w → b ≡ blocksCalled image → length image ≡ 512 * b → wrongCheck image ≡ true → WrongCheck ≡ imageCheck image
   unfolding imageCheck
   is-wrong w b ew h eb d e = rw (tested w b ew h eb d, e)
 
-  pub is-right : (w b : ℕ) → w ≡ firstIn image → w < 512 → b ≡ blocksCalled image → length image ≡ 512 * b → wrongCheck image ≡ false → Good ≡ imageCheck image
+  pub is-right : (w b : ℕ) → w ≡ firstIn image → Readable w → b ≡ blocksCalled image → length image ≡ 512 * b → wrongCheck image ≡ false → Good ≡ imageCheck image
   unfolding imageCheck
   is-right w b ew h eb d e = rw (tested w b ew h eb d, e)
 
@@ -262,46 +258,20 @@ module _ (image : List ℕ) (good : imageCheck image ≡ Good) where
   all-of t u k i b l d = all-stored t u (take k (drop i (wordsIn image))) (part-length image good i k b ∙ sym l) (d ∙ ap (sets t 0) (these k i b))
 
   pub numbers-fit : 512 * blocksFor numberCount ≤ length image
-  numbers-fit = fits 0 numberCount (omega (arith, state-least image))
+  numbers-fit = fits 0 numberCount (omega arith)
 
   pub numbers-read : (ns u v : List ℕ) → length ns ≡ numberCount → u ≡ sets ns 0 (readWords numberCount image 0) → v ≡ unversioned u → v ≡ numberWordsIn image
-  numbers-read ns u v l e d = d ∙ ap unversioned (all-of ns u numberCount 0 (omega (arith, state-least image)) l e)
+  numbers-read ns u v l e d = d ∙ ap unversioned (all-of ns u numberCount 0 (omega arith) l e)
 
-  -- the frame records of either form
-  module _ (w : ℕ) (ew : w ≡ firstIn image) where
-    old-in : w < version → numberCount + dequeWords + oldFrameWords ≤ wordsCalled image
-    old-in h = omega (arith, state-old image w ew h)
-
-    new-in : version ≤ w → numberCount + dequeWords + frameWords ≤ wordsCalled image
-    new-in h = omega (arith, state-new image w ew h)
-
-    pub old-frames-fit : w < version → 512 * blocksFor (numberCount + dequeWords + oldFrameWords) ≤ length image
-    old-frames-fit h = fits (numberCount + dequeWords) oldFrameWords (old-in h)
-
-    pub new-frames-fit : version ≤ w → 512 * blocksFor (numberCount + dequeWords + frameWords) ≤ length image
-    new-frames-fit h = fits (numberCount + dequeWords) frameWords (new-in h)
-
-    pub old-frames-read : (fs u : List ℕ) → length fs ≡ frameWords → w < version → u ≡ sets fs 0 (widened places (readWords oldFrameWords image (numberCount + dequeWords))) → u ≡ framesIn image
-    old-frames-read fs u l h e =
-        let q : readWords oldFrameWords image (numberCount + dequeWords) ≡ oldFramesIn image = these oldFrameWords (numberCount + dequeWords) (old-in h) in
-        let k : length (oldFramesIn image) ≡ oldFrameWords = part-length image good (numberCount + dequeWords) oldFrameWords (old-in h) in
-        let k′ : length (widened places (oldFramesIn image)) ≡ length fs = length-widened places (oldFramesIn image) (omega arith) ∙ sym l in
-        all-stored fs u (widened places (oldFramesIn image)) k′ (e ∙ ap (λ (x : List ℕ). sets fs 0 (widened places x)) q)
-        ∙ sym (frames-old image (lt-ltb (firstIn image) version (omega arith)))
-
-    pub new-frames-read : (fs u : List ℕ) → length fs ≡ frameWords → version ≤ w → u ≡ sets fs 0 (readWords frameWords image (numberCount + dequeWords)) → u ≡ framesIn image
-    new-frames-read fs u l h e =
-        all-of fs u frameWords (numberCount + dequeWords) (new-in h) l e ∙ sym (frames-new image (le-ltb (firstIn image) version (omega arith)))
-
-  pub parts-read : (ds ws ns' ds' fs' ws' : List ℕ) (k s : ℕ) → k ≡ nodesIn image → s ≡ stateWordsIn image → length ds ≡ dequeWords → nodeWords * nodesIn image ≤ length ws → ns' ≡ numberWordsIn image
-      → ds' ≡ sets ds 0 (readWords dequeWords image numberCount) → fs' ≡ framesIn image → ws' ≡ sets ws 0 (readWords (nodeWords * k) image s)
-      → IsRead image ns' ds' fs' ws ws'
-  parts-read ds ws ns' ds' fs' ws' k s e es ld room en ed ef ew =
+  pub parts-read : (ds fs ws ns' ds' fs' ws' : List ℕ) (k : ℕ) → k ≡ nodesIn image → length ds ≡ dequeWords → length fs ≡ frameWords → nodeWords * nodesIn image ≤ length ws
+      → ns' ≡ numberWordsIn image → ds' ≡ sets ds 0 (readWords dequeWords image numberCount) → fs' ≡ sets fs 0 (readWords frameWords image (numberCount + dequeWords))
+      → ws' ≡ sets ws 0 (readWords (nodeWords * k) image stateWords) → IsRead image ns' ds' fs' ws ws'
+  parts-read ds fs ws ns' ds' fs' ws' k e ld lf room en ed ef ew =
       let lp : length (poolIn image) ≤ length ws = omega (arith, length-pool image good) in
       record {
         numbers = en;
-        deques = all-of ds ds' dequeWords numberCount (omega (arith, state-least image)) ld ed;
-        frames = ef;
+        deques = all-of ds ds' dequeWords numberCount (omega arith) ld ed;
+        frames = all-of fs fs' frameWords (numberCount + dequeWords) (omega arith) lf ef;
         pool = front-stored ws ws' (poolIn image) lp
-            (ew ∙ ap₂ (λ (a b : ℕ). sets ws 0 (readWords (nodeWords * a) image b)) e es ∙ ap (sets ws 0) (these (nodeWords * nodesIn image) (stateWordsIn image) (omega arith)));
+            (ew ∙ ap (λ (a : ℕ). sets ws 0 (readWords (nodeWords * a) image stateWords)) e ∙ ap (sets ws 0) (these (nodeWords * nodesIn image) stateWords (omega arith)));
       }

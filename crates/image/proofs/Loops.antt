@@ -1,21 +1,20 @@
 -- A turn and the end of the loops.
 use mathlib.Core.Path.{_≡_, refl, sym, ap, ap₂, _∙_}
 use mathlib.Core.Bool.{Bool, true, false, _&&_}
-use mathlib.Core.List.{List, [], _∷_, _++_, append-assoc}
+use mathlib.Core.List.{List, [], _∷_, _++_}
 use Prim.Native.Nat.{ℕ, zero, suc, _+_, _-_, _*_, _%_, _<_, _≤_}
 use native.Mathlib.Omega.{arith}
 use native.Mathlib.Nat.{mod-add-mod}
 use native.Mathlib.Numerals.{add-one, unary-clauses}
-use lib.ListN.{length, getD, take, drop, set, replicate, length-append, length-replicate, length-drop, replicate-append-replicate}
-use lib.Seq.{sets, set-set, take-suc, take-all, take-append-le, drop-append-le, drop-drop, take-add, length-take-le, getD-drop}
+use lib.ListN.{length, getD, take, drop, set, replicate, length-replicate, length-drop, replicate-append-replicate}
+use lib.Seq.{sets, set-set, take-suc, drop-drop, take-add, length-take-le, getD-drop}
 use lib.Dec.{eqb}
 use borrow.Author.Tests.{ne-eqb}
 use Rattle.words.specs.Basics.{plus, sum}
 use Rattle.words.specs.Counting.{sum-cong}
 use Rattle.model.specs.Record.{little}
-use Rattle.image.specs.Image.{wordBytes, bytesOf, wordAt, check, checksHold, allZero, widened}
+use Rattle.image.specs.Image.{wordBytes, bytesOf, wordAt, check, checksHold, allZero}
 use Rattle.image.specs.Inner.{placeOf, putWords, wordsAt, readWords}
-use Rattle.image.specs.Theory.Forms.{length-widened}
 use Rattle.image.specs.Theory.Bytes.{length-bytes, bytes-append}
 use Rattle.image.specs.Theory.Blocks.{word-drop, word-take}
 use Rattle.image.specs.Theory.Check.{check-none, check-next, block-by-words}
@@ -167,35 +166,6 @@ read-block t u v image b j k e d =
     d ∙ ap (sets u (j + 127 * k)) (sym r)
     ∙ sets-next t u (readWords (127 * k) image (127 * b)) (readWords 127 image (127 * b + 127 * k)) (readWords (127 * (k + 1)) image (127 * b)) j (j + 127 * k) e (omega (arith, length-data-words (127 * k) image (127 * b)))
     (ap (λ (m : ℕ). readWords m image (127 * b)) q ∙ data-split (127 * k) 127 image (127 * b))
-
--- ---- the frame records of an image from before
-
--- a record more
-widened-next : (n : ℕ) (xs ys : List ℕ) → length xs ≡ 6 * n → length ys ≡ 6 → widened (suc n) (xs ++ ys) ≡ widened n xs ++ ys ++ 0 ∷ []
-unfolding widened
-widened-next zero [] ys l k = ap (λ (q : List ℕ). q ++ 0 ∷ []) (take-all 6 ys (omega arith))
-widened-next zero (x ∷ xs) ys l k = absurd (omega arith)
-widened-next (suc n) xs ys l k =
-    let first : List ℕ = take 6 xs in
-    let rest : List ℕ = widened n (drop 6 xs) in
-    ap₂ (λ (p q : List ℕ). p ++ 0 ∷ widened (suc n) q) (take-append-le 6 xs ys (omega arith)) (drop-append-le 6 xs ys (omega arith))
-    ∙ ap (λ (q : List ℕ). first ++ 0 ∷ q) (widened-next n (drop 6 xs) ys (omega (arith, length-drop 6 xs)) k)
-    ∙ sym (append-assoc first (0 ∷ (rest ++ ys)) (0 ∷ []))
-    ∙ ap (λ (q : List ℕ). q ++ 0 ∷ []) (sym (append-assoc first (0 ∷ rest) ys))
-
-pub record-turn : (t u v image : List ℕ) (i p : ℕ) → u ≡ sets t 0 (widened p (readWords (6 * p) image i)) → v ≡ sets u (7 * p) (readWords 6 image (i + 6 * p))
-    → set v (7 * p + 6) 0 ≡ sets t 0 (widened (p + 1) (readWords (6 * (p + 1)) image i))
-record-turn t u v image i p e d =
-    let xs : List ℕ = readWords (6 * p) image i in
-    let ys : List ℕ = readWords 6 image (i + 6 * p) in
-    let lx : length xs ≡ 6 * p = length-data-words (6 * p) image i in
-    let ly : length ys ≡ 6 = length-data-words 6 image (i + 6 * p) in
-    let lw : length (widened p xs) ≡ 7 * p = length-widened p xs (omega arith) in
-    let six : v ≡ sets t 0 (widened p xs ++ ys) = d ∙ sets-next t u (widened p xs) ys (widened p xs ++ ys) 0 (7 * p) e (omega arith) refl in
-    let more : 6 * (p + 1) ≡ 6 * p + 6 = omega arith in
-    let all : widened (p + 1) (readWords (6 * (p + 1)) image i) ≡ widened p xs ++ ys ++ 0 ∷ [] =
-    ap₂ (λ (m k : ℕ). widened m (readWords k image i)) (add-one p) more ∙ ap (widened (suc p)) (data-split (6 * p) 6 image i) ∙ widened-next p xs ys lx ly in
-    sets-next t v (widened p xs ++ ys) (0 ∷ []) (widened (p + 1) (readWords (6 * (p + 1)) image i)) 0 (7 * p + 6) six (omega (arith, length-append (widened p xs) ys)) all
 
 -- ---- tests
 

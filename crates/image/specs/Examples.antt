@@ -2,16 +2,16 @@
 use mathlib.Core.Path.{_≡_, refl}
 use mathlib.Core.Bool.{true, false}
 use mathlib.Core.List.{List, [], _∷_, _++_, map}
-use Prim.Native.Nat.{ℕ, zero, suc, _+_, _*_}
+use Prim.Native.Nat.{ℕ, _+_, _*_}
 use lib.ListN.{length, take, drop, set, replicate}
 use Rattle.words.specs.Basics.{none}
-use Rattle.frames.specs.Widths.{places, recordWords, frameWords, dequeWords}
+use Rattle.frames.specs.Widths.{frameWords, dequeWords}
 use Rattle.frames.specs.Frames.{setFrame, initPlaces, initFrames}
 use Rattle.frames.specs.Deques.{size, setSize, setPlace, push, initDeques}
+use Rattle.soundness.specs.Numbers.{numberCount}
 use Rattle.image.specs.declared.ImageCheck.the-variants.{WrongLength}
-use Rattle.image.specs.Widths.{stateWords, oldRecordWords, oldStateWords}
-use Rattle.image.specs.Image.{wordBytes, bytesOf, wordsOf, wordAt, check, block, blocksOf, blocksFor, asBlocks, imageWords, imageBytes, isOld, noForm, stateWordsIn, blocksCalled, wrongLength, checksHold, imageCheck, unversioned, widened}
-use Rattle.image.specs.Theory.Old.{oldImageOf}
+use Rattle.image.specs.Widths.{stateWords}
+use Rattle.image.specs.Image.{wordBytes, bytesOf, wordsOf, wordAt, check, block, blocksOf, blocksFor, asBlocks, imageWords, imageBytes, noForm, blocksCalled, wrongLength, checksHold, imageCheck, unversioned}
 
 -- ---- bytes and checks
 
@@ -44,12 +44,8 @@ checks = refl
 
 -- ---- sizes
 
-state-words : stateWords ≡ 973
+state-words : stateWords ≡ 1297
 state-words = refl
-
--- of an image from before
-old-state-words : oldStateWords ≡ 909
-old-state-words = refl
 
 -- 127 words are just one block, 128 are two
 just-one : blocksFor 127 ≡ 1
@@ -58,95 +54,98 @@ just-one = refl
 one-more : blocksFor 128 ≡ 2
 one-more = refl
 
--- one node: 977 words; 16,384 nodes; as many as a word can say
-bytes-1 : imageBytes 1 ≡ 4096
+-- one node: 1,301 words; 16,384 nodes; as many as a word can say
+bytes-1 : imageBytes 1 ≡ 5632
 bytes-1 = refl
 
-bytes-16384 : imageBytes 16384 ≡ 268288
+bytes-16384 : imageBytes 16384 ≡ 269824
 bytes-16384 = refl
 
-bytes-most : imageBytes 4294967295 ≡ 69260579328
+bytes-most : imageBytes 4294967295 ≡ 69260580352
 bytes-most = refl
 
 -- ---- the image of a start with one worker and one splitter, of value 7, in one node
 
--- "At the start Main, depth 0, is alone on worker 0's deque"
+-- "At the start Main, depth 0, is alone on worker 0's deque"; the totals are "zero while Main lives"
 words : List ℕ
-words = imageWords (1 ∷ 1 ∷ 1 ∷ none ∷ 1 ∷ []) (initDeques (replicate dequeWords 0)) (initFrames (replicate frameWords 0)) (1 ∷ none ∷ none ∷ 7 ∷ [])
+words = imageWords (1 ∷ 1 ∷ 1 ∷ none ∷ 1 ∷ 0 ∷ 0 ∷ 0 ∷ 0 ∷ []) (initDeques (replicate dequeWords 0)) (initFrames (replicate frameWords 0)) (1 ∷ none ∷ none ∷ 7 ∷ [])
 
 image : List ℕ
 image = asBlocks words
 
--- the numbers, the first with 256 added, then worker 0's deque of length 1, with Main in place 0
-begins : take 28 image ≡ 1 ∷ 1 ∷ 0 ∷ 0 ∷ 1 ∷ 0 ∷ 0 ∷ 0 ∷ 1 ∷ 0 ∷ 0 ∷ 0 ∷ 255 ∷ 255 ∷ 255 ∷ 255 ∷ 1 ∷ 0 ∷ 0 ∷ 0 ∷ 1 ∷ 0 ∷ 0 ∷ 0 ∷ 0 ∷ 0 ∷ 0 ∷ 0 ∷ []
+-- the numbers, the first with 512 added, and the totals, then worker 0's deque of length 1, with Main in place 0
+first-words : take 11 words ≡ 513 ∷ 1 ∷ 1 ∷ none ∷ 1 ∷ 0 ∷ 0 ∷ 0 ∷ 0 ∷ 1 ∷ 0 ∷ []
+unfolding words initDeques push size setSize setPlace initFrames initPlaces setFrame
+first-words = refl
+
+-- Main's record: live, parent none, depth, outstanding, suspended, root, returning, "last, the four view words", which begin as the identities, "and
+-- the next younger live sibling or none"; then the first free place, which links to place 2
+records : take 14 (drop (numberCount + dequeWords) words) ≡ 1 ∷ none ∷ 0 ∷ 0 ∷ 0 ∷ 0 ∷ 0 ∷ 0 ∷ none ∷ 1 ∷ 0 ∷ none ∷ 0 ∷ 2 ∷ []
+unfolding words initDeques push size setSize setPlace initFrames initPlaces setFrame
+records = refl
+
+-- the nodes come last
+last-words : drop stateWords words ≡ 1 ∷ none ∷ none ∷ 7 ∷ []
+unfolding words initDeques push size setSize setPlace initFrames initPlaces setFrame
+last-words = refl
+
+begins : take 16 image ≡ 1 ∷ 2 ∷ 0 ∷ 0 ∷ 1 ∷ 0 ∷ 0 ∷ 0 ∷ 1 ∷ 0 ∷ 0 ∷ 0 ∷ 255 ∷ 255 ∷ 255 ∷ 255 ∷ []
 unfolding image words asBlocks blocksOf bytesOf check initDeques push size setSize setPlace initFrames initPlaces setFrame
 begins = refl
 
--- its length, the first block's check, 257 + 1 + 1 + 4294967295 + 1 + 1, and the last one's: the links 53 to 63 and none of the last
--- free places, then the node, 1 + none + none + 7
-known : length image ∷ wordAt image 508 ∷ wordAt image (7 * 512 + 508) ∷ [] ≡ 4096 ∷ 260 ∷ 643 ∷ []
+-- its length, the first block's check, 513 + 1 + 1 + 4294967295 + 1 + 1, and the last one's: the links 63 and none of the last free
+-- places, then the node, 1 + none + none + 7
+known : length image ∷ wordAt image 508 ∷ wordAt image (10 * 512 + 508) ∷ [] ≡ 5632 ∷ 516 ∷ 68 ∷ []
 unfolding image words asBlocks blocksOf bytesOf wordAt check initDeques push size setSize setPlace initFrames initPlaces setFrame
 known = refl
 
 -- a block less or more, a byte less, nothing
-wrong-lengths : map imageCheck (take 3584 image ∷ (image ++ replicate 512 0) ∷ take 4095 image ∷ [] ∷ []) ≡ WrongLength ∷ WrongLength ∷ WrongLength ∷ WrongLength ∷ []
-unfolding image words asBlocks blocksOf bytesOf wordsOf check stateWordsIn wrongLength imageCheck initDeques push size setSize setPlace initFrames initPlaces setFrame
+wrong-lengths : map imageCheck (take 5120 image ∷ (image ++ replicate 512 0) ∷ take 5631 image ∷ [] ∷ []) ≡ WrongLength ∷ WrongLength ∷ WrongLength ∷ WrongLength ∷ []
+unfolding image words asBlocks blocksOf bytesOf wordsOf check wrongLength imageCheck initDeques push size setSize setPlace initFrames initPlaces setFrame
 wrong-lengths = refl
 
--- ---- the same start as R-1 wrote it
-
--- the first six words of each record
-narrowed : ℕ → List ℕ → List ℕ
-narrowed zero fs = []
-narrowed (suc n) fs = take oldRecordWords fs ++ narrowed n (drop recordWords fs)
-
--- "reads as having none waiting": at the start none is
-same-frames : widened places (narrowed places (initFrames (replicate frameWords 0))) ≡ initFrames (replicate frameWords 0)
-unfolding narrowed widened initFrames initPlaces setFrame
-same-frames = refl
-
-before : List ℕ
-before = oldImageOf (1 ∷ 1 ∷ 1 ∷ none ∷ 1 ∷ []) (initDeques (replicate dequeWords 0)) (narrowed places (initFrames (replicate frameWords 0))) (1 ∷ none ∷ none ∷ 7 ∷ [])
-
--- its first word is not changed
-before-begins : take 8 before ≡ 1 ∷ 0 ∷ 0 ∷ 0 ∷ 1 ∷ 0 ∷ 0 ∷ 0 ∷ []
-unfolding before narrowed asBlocks blocksOf bytesOf check initDeques push size setSize setPlace initFrames initPlaces setFrame
-before-begins = refl
-
--- the last block: the links 62, 63 and none, then the node
-before-known : length before ∷ wordAt before 508 ∷ wordAt before (7 * 512 + 508) ∷ [] ≡ 4096 ∷ 4 ∷ 130 ∷ []
-unfolding before narrowed asBlocks blocksOf bytesOf wordAt check initDeques push size setSize setPlace initFrames initPlaces setFrame
-before-known = refl
+-- the totals once Main has returned: "the sum, the minimum, the multiplier and the addend"
+totals : take numberCount (imageWords (1 ∷ 1 ∷ 1 ∷ 0 ∷ 0 ∷ 12 ∷ 5 ∷ 6 ∷ 7 ∷ []) [] [] []) ≡ 513 ∷ 1 ∷ 1 ∷ 0 ∷ 0 ∷ 12 ∷ 5 ∷ 6 ∷ 7 ∷ []
+totals = refl
 
 -- ---- the first word
 
--- a first block with this first word, and 26 nodes: 1,013 words in the form from before, 1,077 now
+-- the same words with another first word, as blocks
+with-first : ℕ → List ℕ
+with-first w = asBlocks (set words 0 w)
+
+-- one worker in R-1's form, in R-3's, and in one that is not known yet: as many blocks as are called for, and right checks
+other-forms : map imageCheck (with-first 1 ∷ with-first 257 ∷ with-first 769 ∷ []) ≡ WrongLength ∷ WrongLength ∷ WrongLength ∷ []
+unfolding with-first words asBlocks blocksOf bytesOf wordsOf check wrongLength imageCheck initDeques push size setSize setPlace initFrames initPlaces setFrame
+other-forms = refl
+
+-- a first block with this first word, and 26 nodes: 1,401 words
 firstBlock : ℕ → List ℕ
 firstBlock w = bytesOf (w ∷ 1 ∷ 26 ∷ []) ++ replicate 500 0
 
 firsts : List (List ℕ)
-firsts = firstBlock 255 ∷ firstBlock 256 ∷ firstBlock 511 ∷ firstBlock 512 ∷ []
+firsts = map firstBlock (0 ∷ 255 ∷ 256 ∷ 511 ∷ 512 ∷ 767 ∷ 768 ∷ [])
 
--- "below 256, it is an image from before"
-old-forms : map isOld firsts ≡ true ∷ false ∷ false ∷ false ∷ []
-unfolding firsts firstBlock bytesOf wordsOf
-old-forms = refl
-
-no-forms : map noForm firsts ≡ false ∷ false ∷ false ∷ true ∷ []
+-- "reads only its own form"
+no-forms : map noForm firsts ≡ true ∷ true ∷ true ∷ true ∷ false ∷ false ∷ true ∷ []
 unfolding firsts firstBlock bytesOf wordsOf
 no-forms = refl
 
 -- what is called for
-blocks-called : map blocksCalled (take 3 firsts) ≡ 8 ∷ 9 ∷ 9 ∷ []
-unfolding firsts firstBlock bytesOf wordsOf stateWordsIn
+blocks-called : blocksCalled (firstBlock 512) ≡ 12
+unfolding firstBlock bytesOf wordsOf
 blocks-called = refl
 
--- as many blocks as each form calls for pass 17, and no number of blocks does without a form; the checks are not looked at
-seventeen : map wrongLength ((firstBlock 255 ++ replicate 3584 0) ∷ (firstBlock 256 ++ replicate 4096 0) ∷ (firstBlock 256 ++ replicate 3584 0) ∷ (firstBlock 512 ++ replicate 4096 0) ∷ (firstBlock 512 ++ replicate 3584 0) ∷ [])
-    ≡ false ∷ false ∷ true ∷ true ∷ true ∷ []
-unfolding firstBlock bytesOf wordsOf stateWordsIn wrongLength
+-- as many blocks as are called for pass 17, one less does not; the checks are not looked at
+seventeen : map wrongLength ((firstBlock 512 ++ replicate 5632 0) ∷ (firstBlock 767 ++ replicate 5632 0) ∷ (firstBlock 512 ++ replicate 5120 0) ∷ []) ≡ false ∷ false ∷ true ∷ []
+unfolding firstBlock bytesOf wordsOf wrongLength
 seventeen = refl
 
+-- images of the forms before, as many blocks as 26 nodes had there: 8, and from R-3 on 9
+seventeen-before : map wrongLength ((firstBlock 1 ++ replicate 3584 0) ∷ (firstBlock 257 ++ replicate 4096 0) ∷ []) ≡ true ∷ true ∷ []
+unfolding firstBlock bytesOf wordsOf wrongLength
+seventeen-before = refl
+
 -- the workers that are read
-workers-read : map unversioned ((255 ∷ []) ∷ (256 ∷ []) ∷ (264 ∷ []) ∷ (511 ∷ []) ∷ []) ≡ (255 ∷ []) ∷ (0 ∷ []) ∷ (8 ∷ []) ∷ (255 ∷ []) ∷ []
+workers-read : map unversioned ((512 ∷ []) ∷ (520 ∷ []) ∷ (767 ∷ []) ∷ []) ≡ (0 ∷ []) ∷ (8 ∷ []) ∷ (255 ∷ []) ∷ []
 workers-read = refl

@@ -1,4 +1,4 @@
--- Document 02's R-1, as R-3 changes it: a state and a pool as blocks of bytes, what an image is refused for, and what an accepted one says.
+-- Document 02's R-1, as R-3 and R-5 change it: a state and a pool as blocks of bytes, what an image is refused for, and what an accepted one says.
 -- Definitions only.
 -- A state is lent in three parts: the words ns of its numbers, ds of its deques and fs of its frame records. ws are the pool's words.
 use mathlib.Core.Path.{_≡_}
@@ -9,11 +9,11 @@ use lib.ListN.{length, getD, take, drop, set, replicate}
 use lib.Dec.{eqb, ltb}
 use Rattle.words.specs.Basics.{plus, sum}
 use Rattle.model.specs.Record.{little}
-use Rattle.frames.specs.Widths.{places, frameWords, dequeWords}
-use Rattle.soundness.specs.Numbers.{numbersIn}
+use Rattle.frames.specs.Widths.{frameWords, dequeWords}
+use Rattle.soundness.specs.Numbers.{numberCount, numbersIn}
 use Rattle.image.specs.declared.ImageCheck.{ImageCheck}
 use Rattle.image.specs.declared.ImageCheck.the-variants.{WrongLength, WrongCheck, Good}
-use Rattle.image.specs.Widths.{numberCount, nodeWords, blockBytes, dataBytes, dataWords, stateWords, wordsFor, version, oldRecordWords, oldFrameWords, oldStateWords}
+use Rattle.image.specs.Widths.{nodeWords, blockBytes, dataBytes, dataWords, stateWords, wordsFor, version, versionStep}
 
 -- ---- the words of an image
 
@@ -21,12 +21,12 @@ use Rattle.image.specs.Widths.{numberCount, nodeWords, blockBytes, dataB
 abbrev pub nodeCount : List ℕ → ℕ
 nodeCount ns = numbersIn ns .nodes
 
--- R-3: "The first word of an image has 256 added"
+-- R-3: "The first word of an image has 256 added .. Each later change of the image adds 256 again"
 abbrev pub versioned : List ℕ → List ℕ
 versioned ns = set ns 0 (plus (getD ns 0 0) version)
 
--- "workers, splitters, nodes, first free node, first free frame place; for each of 8 workers its deque length and 64 places for its frames
--- from the top; 64 frame records ..; then the pool's nodes"
+-- "workers, splitters, nodes, first free node, first free frame place", by R-5 "the four totals, in that order, after the first free frame
+-- place"; "for each of 8 workers its deque length and 64 places for its frames from the top; 64 frame records ..; then the pool's nodes"
 abbrev pub imageWords : List ℕ → List ℕ → List ℕ → List ℕ → List ℕ
 imageWords ns ds fs ws = versioned ns ++ ds ++ fs ++ take (nodeWords * nodeCount ns) ws
 
@@ -101,21 +101,13 @@ firstIn image = getD (wordsOf (take dataBytes image)) 0 0
 abbrev pub nodesIn : List ℕ → ℕ
 nodesIn image = nodeCount (wordsOf (take dataBytes image))
 
--- R-3: "below 256, it is an image from before"
-abbrev pub isOld : List ℕ → Bool
-isOld image = ltb (firstIn image) version
-
--- "A first word of no readable form gives 17": "each later change of the image adds 256 again"
+-- R-3: "Each later change of the image adds 256 again and reads only its own form. A first word of no readable form gives 17."
 abbrev pub noForm : List ℕ → Bool
-noForm image = not (ltb (firstIn image) (2 * version))
-
--- the words of a state in it
-unfoldable pub stateWordsIn : List ℕ → ℕ
-stateWordsIn image = cond (isOld image) oldStateWords stateWords
+noForm image = ltb (firstIn image) version || not (ltb (firstIn image) (version + versionStep))
 
 -- the words and the blocks that "its first block calls for"
 abbrev pub wordsCalled : List ℕ → ℕ
-wordsCalled image = stateWordsIn image + nodeWords * nodesIn image
+wordsCalled image = wordsFor (nodesIn image)
 
 abbrev pub blocksCalled : List ℕ → ℕ
 blocksCalled image = blocksFor (wordsCalled image)
@@ -158,12 +150,7 @@ wordsIn image = wordsOf (dataOf (blocksCalled image) image)
 
 -- the numbers without the version
 abbrev pub unversioned : List ℕ → List ℕ
-unversioned ns = set ns 0 (getD ns 0 0 % version)
-
--- n frame records of an image from before, each with R-3's word: "reads as having none waiting"
-unfoldable pub widened : ℕ → List ℕ → List ℕ
-widened zero fs = []
-widened (suc n) fs = take oldRecordWords fs ++ 0 ∷ widened n (drop oldRecordWords fs)
+unversioned ns = set ns 0 (getD ns 0 0 % versionStep)
 
 -- the words of the numbers, of the deques, of the frame records and of the nodes
 abbrev pub numberWordsIn : List ℕ → List ℕ
@@ -172,12 +159,11 @@ numberWordsIn image = unversioned (take numberCount (wordsIn image))
 abbrev pub dequesIn : List ℕ → List ℕ
 dequesIn image = take dequeWords (drop numberCount (wordsIn image))
 
-unfoldable pub framesIn : List ℕ → List ℕ
-framesIn image =
-    let fs = drop (numberCount + dequeWords) (wordsIn image) in cond (isOld image) (widened places (take oldFrameWords fs)) (take frameWords fs)
+abbrev pub framesIn : List ℕ → List ℕ
+framesIn image = take frameWords (drop (numberCount + dequeWords) (wordsIn image))
 
 abbrev pub poolIn : List ℕ → List ℕ
-poolIn image = take (nodeWords * nodesIn image) (drop (stateWordsIn image) (wordsIn image))
+poolIn image = take (nodeWords * nodesIn image) (drop stateWords (wordsIn image))
 
 -- ---- lent slices
 

@@ -1,5 +1,5 @@
--- the two forms of an image
-pub mod Forms
+-- the version in the first word
+pub mod Version
 -- words as bytes and back
 pub mod Bytes
 -- data as blocks and back
@@ -8,11 +8,9 @@ pub mod Blocks
 pub mod Check
 -- when an image is refused by 17 and 18
 pub mod Refused
--- reading what was written, and writing what was read, for both forms
+-- reading what was written, and writing what was read
 pub mod Round
--- an image as it is written now
+-- an image as it is written
 pub mod Written
--- an image from before
-pub mod Old
 -- the list of promises: what saving and reading give together
 pub mod Promises

@@ -1,10 +1,8 @@
--- How many words and bytes an image is made of, beside the widths of deques and frame records (crate frames). Definitions only.
+-- How many words and bytes an image is made of, beside the widths of deques and frame records (crate frames) and of the numbers (crate
+-- soundness). Definitions only.
 use Prim.Native.Nat.{ℕ, _+_, _*_}
-use Rattle.frames.specs.Widths.{places, frameWords, dequeWords}
-
--- document 02: "workers, splitters, nodes, first free node, first free frame place"
-abbrev pub numberCount : ℕ
-numberCount = 5
+use Rattle.frames.specs.Widths.{frameWords, dequeWords}
+use Rattle.soundness.specs.Numbers.{numberCount}
 
 -- document 01: "A node is four words: holders, left, right, value."
 abbrev pub nodeWords : ℕ
@@ -29,16 +27,10 @@ stateWords = numberCount + dequeWords + frameWords
 abbrev pub wordsFor : ℕ → ℕ
 wordsFor nodes = stateWords + nodeWords * nodes
 
--- R-3: "The first word of an image has 256 added; below 256, it is an image from before"
+-- R-3: "The first word of an image has 256 added"
+abbrev pub versionStep : ℕ
+versionStep = 256
+
+-- "Each later change of the image adds 256 again": R-5's is the second change
 abbrev pub version : ℕ
-version = 256
-
--- the frame records and the state of an image from before: R-1's "live, parent .., depth, outstanding, suspended and root"
-abbrev pub oldRecordWords : ℕ
-oldRecordWords = 6
-
-abbrev pub oldFrameWords : ℕ
-oldFrameWords = places * oldRecordWords
-
-abbrev pub oldStateWords : ℕ
-oldStateWords = numberCount + dequeWords + oldFrameWords
+version = 2 * versionStep

@@ -10,6 +10,7 @@ use crate::DATA_BYTES;
 use crate::DATA_WORDS;
 use crate::ImageCheck;
 use crate::VERSION;
+use crate::VERSION_STEP;
 use crate::bytes::word_at;
 use crate::read::first_in;
 use crate::read::words_called;
@@ -74,7 +75,11 @@ pub fn check_image(image: &[u8]) -> ImageCheck
     if image.len() < BLOCK_BYTES {
         return ImageCheck::WrongLength;
     }
-    if first_in(image) >= 2 * VERSION {
+    let first = first_in(image);
+    if first < VERSION {
+        return ImageCheck::WrongLength;
+    }
+    if first >= VERSION + VERSION_STEP {
         return ImageCheck::WrongLength;
     }
     let words = words_called(image);

@@ -1,4 +1,4 @@
-// A state and a pool as blocks of bytes, and back: document 02, R-1, R-3 and R-4. The state's parts are lent and have their exact lengths, so no
+// A state and a pool as blocks of bytes, and back: document 02, R-1 and R-3 to R-5. The state's parts are lent and have their exact lengths, so no
 // function tests an index.
 mod accept;
 mod bytes;
@@ -13,9 +13,10 @@ pub use read::read_parts;
 pub use widths::image_bytes;
 pub use write::write_image;
 
-// The widths of specs/Widths.antt.
-pub const NUMBER_COUNT: usize = 5;
+// The words of a state's numbers: specs/Numbers.antt of crate soundness.
+pub const NUMBER_COUNT: usize = 9;
 
+// The widths of specs/Widths.antt.
 pub const NODE_WORDS: usize = 4;
 
 pub const BLOCK_BYTES: usize = 512;
@@ -26,13 +27,9 @@ pub const DATA_WORDS: usize = 127;
 
 pub const STATE_WORDS: usize = NUMBER_COUNT + frames::DEQUE_WORDS + frames::FRAME_WORDS;
 
-pub const VERSION: u32 = 256;
+pub const VERSION_STEP: u32 = 256;
 
-pub const OLD_RECORD_WORDS: usize = 6;
-
-pub const OLD_FRAME_WORDS: usize = frames::PLACES as usize * OLD_RECORD_WORDS;
-
-pub const OLD_STATE_WORDS: usize = NUMBER_COUNT + frames::DEQUE_WORDS + OLD_FRAME_WORDS;
+pub const VERSION: u32 = 2 * VERSION_STEP;
 
 // What an image is found to be.
 pub enum ImageCheck {

@@ -3,20 +3,18 @@ ghost use mathlib.Core.Path.{_≡_};
 ghost use Prim.Native.Nat.{_+_, _*_, _^_, _<_, _≤_};
 ghost use lib.ListN.{length};
 ghost use lib.Seq.{sets};
-ghost use Rattle.frames.specs.Widths.{places, frameWords};
+ghost use Rattle.soundness.specs.Numbers.{numberCount};
 ghost use Rattle.image.specs.declared.ImageCheck.the-variants.{Good};
-ghost use Rattle.image.specs.Widths.{numberCount, nodeWords, blockBytes, dataWords, oldFrameWords};
-ghost use Rattle.image.specs.Image.{blocksFor, firstIn, nodesIn, stateWordsIn, wordsCalled, imageCheck, widened, numberWordsIn, framesIn, Lengths, IsRead};
+ghost use Rattle.image.specs.Widths.{nodeWords, blockBytes, dataWords};
+ghost use Rattle.image.specs.Image.{blocksFor, firstIn, nodesIn, wordsCalled, imageCheck, numberWordsIn, Lengths, IsRead};
 ghost use Rattle.image.specs.Inner.{wordsAt, readWords};
 use crate::BLOCK_BYTES;
 use crate::DATA_BYTES;
 use crate::DATA_WORDS;
 use crate::NODE_WORDS;
 use crate::NUMBER_COUNT;
-use crate::OLD_RECORD_WORDS;
-use crate::OLD_STATE_WORDS;
 use crate::STATE_WORDS;
-use crate::VERSION;
+use crate::VERSION_STEP;
 use crate::bytes::read_four;
 use crate::bytes::read_fours;
 use crate::bytes::read_run;
@@ -25,8 +23,6 @@ use crate::widths::place_of;
 use crate::widths::run_length;
 use frames::DEQUE_WORDS;
 use frames::FRAME_WORDS;
-use frames::PLACES;
-use frames::RECORD_WORDS;
 
 // The first word, which tells the form.
 pub fn first_in(image: &[u8]) -> u32
@@ -44,24 +40,13 @@ pub fn nodes_in(image: &[u8]) -> u32
     word_at(image, 8)
 }
 
-// The words of a state in it: "below 256, it is an image from before".
-fn state_words_in(image: &[u8]) -> usize
-    requires { ⌜ blockBytes ≤ length (now image) ⌝ }
-    ensures { λ r. ⌜ r ≡ stateWordsIn (now (image .entry)) ⌝ }
-{
-    if first_in(image) < VERSION {
-        return OLD_STATE_WORDS;
-    }
-    STATE_WORDS
-}
-
 // The words that its first block calls for.
 pub fn words_called(image: &[u8]) -> usize
     requires { ⌜ blockBytes ≤ length (now image) ⌝ }
     ensures { λ r. ⌜ (r ≡ wordsCalled (now (image .entry))) × (r < 2 ^ 35) ⌝ }
 {
     let nodes = nodes_in(image);
-    state_words_in(image) + NODE_WORDS * (nodes as usize)
+    STATE_WORDS + NODE_WORDS * (nodes as usize)
 }
 
 // Reads the 127 words of the block b into `to` from j on: 31 times four, and the last four, the first of which is there already.
@@ -105,38 +90,7 @@ fn read_numbers(image: &[u8], numbers: &mut [u32])
     ensures { λ _. ⌜ now (numbers .exit) ≡ numberWordsIn (now (image .entry)) ⌝ }
 {
     read_words(image, 0, numbers, 0, NUMBER_COUNT);
-    numbers[0] = numbers[0] % VERSION;
-}
-
-// Reads the frame records of an image from before, from the data's word i on: six words and a zero each.
-fn read_old_frames(image: &[u8], i: usize, frames: &mut [u32])
-    requires { ⌜ (length (now frames) ≡ frameWords) × (blockBytes * blocksFor (i + oldFrameWords) ≤ length (now image)) ⌝ }
-    ensures { λ _. ⌜ now (frames .exit) ≡ sets (now (frames .entry)) 0 (widened places (readWords oldFrameWords (now (image .entry)) i)) ⌝ }
-{
-    let mut p: usize = 0;
-    while p < PLACES as usize {
-        read_words(
-            image,
-            i + OLD_RECORD_WORDS * p,
-            frames,
-            RECORD_WORDS * p,
-            OLD_RECORD_WORDS,
-        );
-        frames[RECORD_WORDS * p + OLD_RECORD_WORDS] = 0;
-        p += 1;
-    }
-}
-
-// Reads the frame records of either form.
-fn read_frames(image: &[u8], frames: &mut [u32])
-    requires { ⌜ (imageCheck (now image) ≡ Good) × (length (now frames) ≡ frameWords) ⌝ }
-    ensures { λ _. ⌜ now (frames .exit) ≡ framesIn (now (image .entry)) ⌝ }
-{
-    if first_in(image) < VERSION {
-        read_old_frames(image, NUMBER_COUNT + DEQUE_WORDS, frames);
-        return;
-    }
-    read_words(image, NUMBER_COUNT + DEQUE_WORDS, frames, 0, FRAME_WORDS);
+    numbers[0] = numbers[0] % VERSION_STEP;
 }
 
 // Reads an image that is not refused by 17 or 18 into the parts of a state and a pool that holds its nodes. Words past them never change.
@@ -151,9 +105,8 @@ pub fn read_parts(
     ensures { λ _. ⌜ IsRead (now (image .entry)) (now (numbers .exit)) (now (deques .exit)) (now (frames .exit)) (now (pool .entry)) (now (pool .exit)) ⌝ }
 {
     let nodes = nodes_in(image);
-    let state_words = state_words_in(image);
     read_numbers(image, numbers);
     read_words(image, NUMBER_COUNT, deques, 0, DEQUE_WORDS);
-    read_frames(image, frames);
-    read_words(image, state_words, pool, 0, NODE_WORDS * (nodes as usize));
+    read_words(image, NUMBER_COUNT + DEQUE_WORDS, frames, 0, FRAME_WORDS);
+    read_words(image, STATE_WORDS, pool, 0, NODE_WORDS * (nodes as usize));
 }

@@ -2,7 +2,8 @@
 ghost use mathlib.Core.Path.{_≡_};
 ghost use Prim.Native.Nat.{_+_, _-_, _*_, _%_, _^_, _<_, _≤_};
 ghost use lib.ListN.{length, take, drop, replicate};
-ghost use Rattle.image.specs.Widths.{numberCount, nodeWords, blockBytes, dataWords};
+ghost use Rattle.soundness.specs.Numbers.{numberCount};
+ghost use Rattle.image.specs.Widths.{nodeWords, blockBytes, dataWords};
 ghost use Rattle.image.specs.Image.{nodeCount, versioned, blocksFor, imageOf, imageBytes, Lengths, stored};
 ghost use Rattle.image.specs.Inner.{putWords, sumBefore};
 use crate::BLOCK_BYTES;
@@ -73,7 +74,7 @@ fn write_words(target: &mut [u8], i: usize, from: &[u32], n: usize, before: u32)
     write_run(target, i + k, from, k, n - k, sum)
 }
 
-// Stores the numbers: "The first word of an image has 256 added".
+// Stores the numbers, the first one with the version.
 fn write_numbers(target: &mut [u8], numbers: &[u32]) -> u32
     requires { ⌜ (length (now numbers) ≡ numberCount) × (blockBytes ≤ length (now target)) ⌝ }
     ensures { λ r. ⌜ (now (target .exit) ≡ putWords (now (target .entry)) 0 (versioned (now (numbers .entry)))) × (r ≡ sumBefore (now (target .exit)) numberCount) ⌝ }

@@ -1,34 +1,32 @@
--- R-1's promises about images, with R-3's two forms: what 17 and 18 refuse, and what saving and reading give together.
+-- R-1's promises about images: what 17 and 18 refuse, and what saving and reading give together.
 use mathlib.Core.Path.{_≡_, ap, _∙_}
-use mathlib.Core.Bool.{true, false}
-use mathlib.Core.Logic.{_⊎_, _≢_, _↔_}
+use mathlib.Core.Logic.{inl, inr, _⊎_, _≢_, _↔_}
 use mathlib.Core.List.{List, _++_}
-use Prim.Native.Nat.{ℕ, _*_, _<_, _≤_}
+use Prim.Native.Nat.{ℕ, _+_, _*_, _<_, _≤_}
 use native.Mathlib.Omega.{arith}
 use lib.ListN.{length, take, drop}
 use lib.Seq.{take-at, drop-at, length-take-le, take-append-le}
-use Rattle.frames.specs.declared.Frame.{Frame}
-use Rattle.frames.specs.Widths.{places}
-use Rattle.frames.specs.Frames.{frameAt}
 use Rattle.soundness.specs.Numbers.{numbersIn}
 use Rattle.image.specs.declared.ImageCheck.the-variants.{WrongLength, WrongCheck, Good}
-use Rattle.image.specs.Widths.{nodeWords, blockBytes, version}
-use Rattle.image.specs.Image.{nodeCount, versioned, asBlocks, imageOf, imageBytes, firstIn, nodesIn, isOld, blocksCalled, imageCheck, widened, numberWordsIn, dequesIn, framesIn, poolIn, Lengths, stored, IsRead}
+use Rattle.image.specs.Widths.{nodeWords, blockBytes, version, versionStep}
+use Rattle.image.specs.Image.{nodeCount, versioned, asBlocks, imageOf, imageBytes, firstIn, nodesIn, blocksCalled, imageCheck, numberWordsIn, dequesIn, framesIn, poolIn, Lengths, stored, IsRead}
 use Rattle.image.specs.Theory.Bytes.{Bytes}
 use Rattle.image.specs.Theory.Refused as refused
 use Rattle.image.specs.Theory.Refused.{RightLength, SomeCheckWrong, RestNotZero}
-use Rattle.image.specs.Theory.Forms.{oldFrameAt}
 use Rattle.image.specs.Theory.Round as round
 use Rattle.image.specs.Theory.Round.{AllWords}
 use Rattle.image.specs.Theory.Written as written
 pub use Rattle.image.specs.Theory.Written.{Says}
-use Rattle.image.specs.Theory.Old as old
-use Rattle.image.specs.Theory.Old.{oldImageOf, OldLengths, oldFramesIn}
 
 -- "17, the image is not just as many whole blocks as its first block calls for, or has no whole block"; "A first word of no readable
 -- form gives 17."
-pub refused-17 : (image : List ℕ) → (imageCheck image ≡ WrongLength) ↔ ((length image < blockBytes) ⊎ (2 * version ≤ firstIn image) ⊎ (length image ≢ blockBytes * blocksCalled image))
+pub refused-17 : (image : List ℕ) → (imageCheck image ≡ WrongLength)
+    ↔ ((length image < blockBytes) ⊎ (firstIn image < version) ⊎ (version + versionStep ≤ firstIn image) ⊎ (length image ≢ blockBytes * blocksCalled image))
 refused-17 image = refused.when-17 image
+
+-- "Each later change of the image adds 256 again and reads only its own form": images of the two forms before are refused
+pub refused-before : (image : List ℕ) → firstIn image < version → imageCheck image ≡ WrongLength
+refused-before image h = refused-17 image .1 (inr (inl h))
 
 -- "18, a check is wrong or the rest of the last block is not zero", where 17 does not refuse it
 pub refused-18 : (image : List ℕ) → (imageCheck image ≡ WrongCheck) ↔ (RightLength image × (SomeCheckWrong image ⊎ RestNotZero image))
@@ -49,8 +47,8 @@ module _ (ns ds fs ws : List ℕ) (has : Lengths ns ds fs) (room : nodeWords * n
       drop-at (imageOf ns ds fs ws) (drop (length (imageOf ns ds fs ws)) t) (imageBytes (nodeCount ns)) image-length
       ∙ ap (λ (k : ℕ). drop k t) image-length
 
-  -- "The first word of an image has 256 added": the first number, the workers, is below it
-  module _ (all : AllWords ns ds fs ws) (few : numbersIn ns .workers < version) where
+  -- the first number, the workers, leaves the version room in the first word
+  module _ (all : AllWords ns ds fs ws) (few : numbersIn ns .workers < versionStep) where
     pub says-what-was-written : Says (imageOf ns ds fs ws) ns ds fs ws
     says-what-was-written = written.written-says ns ds fs ws has room all few
 
@@ -86,40 +84,12 @@ module _ (image : List ℕ) (good : imageCheck image ≡ Good) where
   pool-front : (ws : List ℕ) → take (nodeWords * nodeCount (numberWordsIn image)) (stored (poolIn image) ws) ≡ take (nodeWords * nodeCount (numberWordsIn image)) (poolIn image)
   pool-front ws = take-append-le (nodeWords * nodeCount (numberWordsIn image)) (poolIn image) (drop (length (poolIn image)) ws) (omega (arith, pool-length, same-nodes))
 
-  -- read and written again it is the same bytes, if it is of the form that is written
-  pub written-again : isOld image ≡ false → Bytes image → imageOf (numberWordsIn image) (dequesIn image) (framesIn image) (poolIn image) ≡ image
+  -- read and written again it is the same bytes
+  pub written-again : Bytes image → imageOf (numberWordsIn image) (dequesIn image) (framesIn image) (poolIn image) ≡ image
   written-again = written.written-again image good
 
   -- also from the lent pool into which it was read
-  pub saved-again : isOld image ≡ false → Bytes image → (ns ds fs ws ws' : List ℕ) → IsRead image ns ds fs ws ws' → imageOf ns ds fs ws' ≡ image
-  saved-again o h ns ds fs ws ws' r =
+  pub saved-again : Bytes image → (ns ds fs ws ws' : List ℕ) → IsRead image ns ds fs ws ws' → imageOf ns ds fs ws' ≡ image
+  saved-again h ns ds fs ws ws' r =
       rw (r .numbers, r .deques, r .frames, r .pool)
-      (ap (λ (l : List ℕ). asBlocks (versioned (numberWordsIn image) ++ dequesIn image ++ framesIn image ++ l)) (pool-front ws) ∙ written-again o h)
-
--- ---- images from before: "below 256, it is an image from before and reads as having none waiting"
-
--- what R-1 wrote, its frame records of six words, is read as the same state, each record with a zero more
-pub says-what-was-before : (ns ds fs ws : List ℕ) → OldLengths ns ds fs → nodeWords * nodeCount ns ≤ length ws → AllWords ns ds fs ws → numbersIn ns .workers < version
-    → Says (oldImageOf ns ds fs ws) ns ds (widened places fs) ws
-says-what-was-before ns ds fs ws has room all few = old.old-says ns ds fs ws has room all few
-
-module _ (image : List ℕ) (good : imageCheck image ≡ Good) (from-before : isOld image ≡ true) where
-  -- every accepted image from before is what R-1 wrote of these parts,
-  pub was-before : Bytes image → oldImageOf (numberWordsIn image) (dequesIn image) (oldFramesIn image) (poolIn image) ≡ image
-  was-before = old.old-written-again image good from-before
-
-  -- and just that is read from it: the same numbers, deques and nodes, and its frame records with a zero more each;
-  pub read-before : Bytes image → (ns ds fs ws ws' : List ℕ) → IsRead image ns ds fs ws ws' → (oldImageOf ns ds (oldFramesIn image) ws' ≡ image) × (fs ≡ widened places (oldFramesIn image))
-  read-before h ns ds fs ws ws' r = (
-    rw (r .numbers, r .deques, r .pool)
-        (ap (λ (l : List ℕ). asBlocks (numberWordsIn image ++ dequesIn image ++ oldFramesIn image ++ l)) (pool-front image good ws) ∙ was-before h),
-    r .frames ∙ old.frames-old image from-before,
-  )
-
-  -- each of them is read with its six words,
-  pub same-records : (p : ℕ) → p < places → frameAt (framesIn image) p ≡ oldFrameAt (oldFramesIn image) p
-  same-records = old.none-waiting image good from-before
-
-  -- "none waiting"
-  pub none-waiting : (p : ℕ) → p < places → frameAt (framesIn image) p .returning ≡ 0
-  none-waiting p h = ap (λ (f : Frame). f .returning) (same-records p h)
+      (ap (λ (l : List ℕ). asBlocks (versioned (numberWordsIn image) ++ dequesIn image ++ framesIn image ++ l)) (pool-front ws) ∙ written-again h)

@@ -12,9 +12,9 @@ use borrow.Author.Tests.{eq-eqb, ne-eqb, eqb-true, eqb-false, lt-ltb, le-ltb, lt
 use Rattle.words.specs.Tests.{decided, neither, not-false, true≢false}
 use Rattle.image.specs.declared.ImageCheck.{ImageCheck}
 use Rattle.image.specs.declared.ImageCheck.the-variants.{WrongLength, WrongCheck, Good}
-use Rattle.image.specs.Widths.{blockBytes, dataBytes, version}
+use Rattle.image.specs.Widths.{blockBytes, dataBytes, version, versionStep}
 use Rattle.image.specs.Image.{wordAt, check, firstIn, noForm, blocksCalled, wrongLength, checksHold, allZero, restOf, wrongCheck, imageCheck}
-use Rattle.image.specs.Theory.Forms.{state-least}
+use Rattle.image.specs.Theory.Version.{Readable}
 use Rattle.image.specs.Theory.Blocks.{word-take}
 
 -- block k of an image
@@ -81,45 +81,58 @@ byte-some (b ∷ bs) (suc i) w = let f : allZero bs ≡ false = byte-some bs i w
 
 -- a first word of a readable form, and as many whole blocks as are called for
 pub record RightLength (image : List ℕ) : Type 0 where
-  pub form : firstIn image < 2 * version
+  pub form : Readable (firstIn image)
   pub long : length image ≡ blockBytes * blocksCalled image
 
 -- "17, the image is not just as many whole blocks as its first block calls for, or has no whole block"; "A first word of no readable
 -- form gives 17."
 abbrev pub NotRightLength : List ℕ → Type 0
-NotRightLength image = (length image < blockBytes) ⊎ (2 * version ≤ firstIn image) ⊎ (length image ≢ blockBytes * blocksCalled image)
+NotRightLength image = (length image < blockBytes) ⊎ (firstIn image < version) ⊎ (version + versionStep ≤ firstIn image) ⊎ (length image ≢ blockBytes * blocksCalled image)
 
 module _ (image : List ℕ) where
-  -- every form calls for a block
+  -- a block is called for
   pub whole : length image ≡ 512 * blocksCalled image → 512 ≤ length image
-  whole d = omega (arith, state-least image)
+  whole d = omega arith
+
+  readable-form : Readable (firstIn image) → noForm image ≡ false
+  readable-form (h, k) = rw (le-ltb (firstIn image) 512 h, lt-ltb (firstIn image) 768 k)
+
+  form-readable : noForm image ≡ false → Readable (firstIn image)
+  form-readable e =
+      let n = neither (ltb (firstIn image) 512) (not (ltb (firstIn image) 768)) e in
+      (ltb-false (firstIn image) 512 (n .0), ltb-true (firstIn image) 768 (not-false (ltb (firstIn image) 768) (n .1)))
 
   pub right-length : RightLength image → wrongLength image ≡ false
   unfolding wrongLength
   right-length r =
-      rw (le-ltb (length image) 512 (whole (r .long)), lt-ltb (firstIn image) 512 (r .form), eq-eqb (length image) (512 * blocksCalled image) (r .long))
+      rw (le-ltb (length image) 512 (whole (r .long)), readable-form (r .form), eq-eqb (length image) (512 * blocksCalled image) (r .long))
 
   pub length-right : wrongLength image ≡ false → RightLength image
   unfolding wrongLength
   length-right e =
       let t : Bool = eqb (length image) (512 * blocksCalled image) in
       let n = neither (ltb (length image) 512 || noForm image) (not t) e in
-      let f = neither (ltb (length image) 512) (noForm image) (n .0) .1 in
       record {
-        form = ltb-true (firstIn image) 512 (not-false (ltb (firstIn image) 512) f);
+        form = form-readable (neither (ltb (length image) 512) (noForm image) (n .0) .1);
         long = eqb-true (length image) (512 * blocksCalled image) (not-false t (n .1));
       }
 
+  not-right : NotRightLength image → RightLength image → ⊥
+  not-right (inl h) r = omega (arith, whole (r .long))
+  not-right (inr (inl f)) r = omega (arith, r .form .0)
+  not-right (inr (inr (inl f))) r = omega (arith, r .form .1)
+  not-right (inr (inr (inr d))) r = d (r .long)
+
   length-wrong : NotRightLength image → wrongLength image ≡ true
-  unfolding wrongLength
-  length-wrong (inl h) = rw (lt-ltb (length image) 512 h)
-  length-wrong (inr (inl f)) = elim (decided (ltb (length image) 512)) [ inl h ↦ rw h | inr h ↦ rw (h, le-ltb (firstIn image) 512 f) ]
-  length-wrong (inr (inr d)) = elim (decided (ltb (length image) 512 || noForm image)) [ inl h ↦ rw h | inr h ↦ rw (h, ne-eqb (length image) (512 * blocksCalled image) d) ]
+  length-wrong n = elim (decided (wrongLength image)) [ inl e ↦ e | inr e ↦ absurd (not-right n (length-right e)) ]
 
   wrong-length : wrongLength image ≡ true → NotRightLength image
   wrong-length e = elim (decided (ltb (firstIn image) 512)) [
-    | inl f ↦ inr (inr (λ d. true≢false (sym e ∙ right-length (record { form = ltb-true (firstIn image) 512 f; long = d }))))
-    | inr f ↦ inr (inl (ltb-false (firstIn image) 512 f))
+    | inl f ↦ inr (inl (ltb-true (firstIn image) 512 f))
+    | inr f ↦ elim (decided (ltb (firstIn image) 768)) [
+      | inl g ↦ inr (inr (inr (λ d. true≢false (sym e ∙ right-length (record { form = (ltb-false (firstIn image) 512 f, ltb-true (firstIn image) 768 g); long = d })))))
+      | inr g ↦ inr (inr (inl (ltb-false (firstIn image) 768 g)))
+    ]
   ]
 
   -- what each answer says of the two tests

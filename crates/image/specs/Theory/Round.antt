@@ -1,6 +1,5 @@
--- Reading what was written gives the same words; an accepted image written again is the same image. For both forms at once.
-use mathlib.Core.Path.{_≡_, refl, sym, ap, ap₂, _∙_}
-use mathlib.Core.Logic.{inl, inr}
+-- Reading what was written gives the same words; an accepted image written again is the same image.
+use mathlib.Core.Path.{_≡_, refl, sym, ap, ap₂, subst, _∙_}
 use mathlib.Core.Bool.{true, false, not}
 use mathlib.Core.List.{List, [], _∷_, _++_, append-assoc}
 use Prim.Native.Nat.{ℕ, zero, suc, _+_, _-_, _*_, _<_, _≤_}
@@ -8,13 +7,14 @@ use native.Mathlib.Omega.{arith}
 use lib.ListN.{length, getD, take, drop, replicate, length-append, length-replicate, length-set, length-drop, take-append-drop, List·getD-append}
 use lib.Seq.{take-at, drop-at, length-take-le, getD-take, take-add, take-take}
 use lib.Dec.{eqb}
-use borrow.Author.Tests.{eqb-true, ltb-true, ltb-false}
-use Rattle.words.specs.Tests.{decided, both, neither, not-false}
-use Rattle.frames.specs.Widths.{places, frameWords, dequeWords}
+use borrow.Author.Tests.{eqb-true}
+use Rattle.words.specs.Tests.{both, neither, not-false}
+use Rattle.frames.specs.Widths.{frameWords, dequeWords}
+use Rattle.soundness.specs.Numbers.{numberCount}
 use Rattle.image.specs.declared.ImageCheck.the-variants.{Good}
-use Rattle.image.specs.Widths.{numberCount, nodeWords, version, oldFrameWords}
-use Rattle.image.specs.Image.{nodeCount, versioned, bytesOf, wordsOf, blocksOf, blocksFor, filled, asBlocks, firstIn, nodesIn, isOld, stateWordsIn, wordsCalled, blocksCalled, wrongLength, dataOf, checksHold, allZero, restOf, wrongCheck, imageCheck, wordsIn, numberWordsIn, dequesIn, framesIn, poolIn, Lengths}
-use Rattle.image.specs.Theory.Forms.{old-state, new-state, state-least, nodes-unversioned, version-on, no-version, length-widened}
+use Rattle.image.specs.Widths.{nodeWords, stateWords, wordsFor}
+use Rattle.image.specs.Image.{nodeCount, versioned, bytesOf, wordsOf, blocksOf, blocksFor, filled, asBlocks, firstIn, nodesIn, wordsCalled, blocksCalled, wrongLength, dataOf, checksHold, allZero, restOf, wrongCheck, imageCheck, wordsIn, numberWordsIn, dequesIn, framesIn, poolIn, Lengths}
+use Rattle.image.specs.Theory.Version.{Readable, nodes-unversioned, version-on}
 use Rattle.image.specs.Theory.Bytes.{Bytes, Words, Below, length-bytes, bytes-append, bytes-take, bytes-zeros, words-back, length-words, bytes-words, words-append}
 use Rattle.image.specs.Theory.Refused.{RightLength, whole, right-length, length-right, means}
 use Rattle.image.specs.Theory.Blocks.{below-drop, below-take, below-append, length-blocks, data-back, checks-back, blocks-back, length-data}
@@ -92,11 +92,11 @@ module _ (W : List ℕ) (w : ℕ) (l : length W ≡ w) (three : 3 ≤ w) where
         ∙ ap (λ (ws : List ℕ). getD ws i 0) its-words ∙ List·getD-append W zeros-after 0 i (omega arith)
 
     -- of a readable form, and as many words as are called for
-    module _ (form : getD W 0 0 < 2 * version) (size : wordsCalled (asBlocks W) ≡ w) where
+    module _ (form : Readable (getD W 0 0)) (size : wordsCalled (asBlocks W) ≡ w) where
       not-17 : wrongLength (asBlocks W) ≡ false
       not-17 =
           let f : firstIn (asBlocks W) ≡ getD W 0 0 = recorded 0 (omega arith) in
-          right-length (asBlocks W) (record { form = omega (arith, f); long = long ∙ ap (λ (k : ℕ). 512 * blocksFor k) (sym size) })
+          right-length (asBlocks W) (record { form = subst Readable (sym f) form; long = long ∙ ap (λ (k : ℕ). 512 * blocksFor k) (sym size) })
 
       rest : allZero (restOf (asBlocks W)) ≡ true
       rest =
@@ -119,16 +119,16 @@ module _ (W : List ℕ) (w : ℕ) (l : length W ≡ w) (three : 3 ≤ w) where
       same-words : wordsIn (asBlocks W) ≡ filled (blocksFor w) W
       same-words = ap (λ (k : ℕ). wordsOf (dataOf (blocksFor k) (asBlocks W))) size ∙ its-words
 
--- ---- the parts, in either form: ns with or without the version, and g words of frame records
+-- ---- the parts: ns has the version
 
 -- the second of three
 second : (a b c : List ℕ) (m n : ℕ) → length a ≡ m → length b ≡ n → take n (drop m (a ++ b ++ c)) ≡ b
 second a b c m n p q = ap (λ (l : List ℕ). take n (drop m l)) (append-assoc a b c) ∙ ap (take n) (drop-at a (b ++ c) m p) ∙ take-at b c n q
 
-pub record PartLengths (ns ds fs ks : List ℕ) (g : ℕ) : Type 0 where
+pub record PartLengths (ns ds fs ks : List ℕ) : Type 0 where
   pub numbers : length ns ≡ numberCount
   pub deques : length ds ≡ dequeWords
-  pub frames : length fs ≡ g
+  pub frames : length fs ≡ frameWords
   pub nodes : length ks ≡ nodeWords * nodeCount ns
 
 -- each is a word
@@ -138,20 +138,20 @@ pub record AllWords (ns ds fs ws : List ℕ) : Type 0 where
   pub frames : Words fs
   pub pool : Words ws
 
-module _ (ns ds fs ks : List ℕ) (g : ℕ) (has : PartLengths ns ds fs ks g) where
+module _ (ns ds fs ks : List ℕ) (has : PartLengths ns ds fs ks) where
   abbrev parts : List ℕ
   parts = ns ++ ds ++ fs ++ ks
 
   length-two : length (ns ++ ds) ≡ numberCount + dequeWords
   length-two = omega (arith, length-append ns ds, has .numbers, has .deques)
 
-  pub length-three : length (ns ++ ds ++ fs) ≡ numberCount + dequeWords + g
+  pub length-three : length (ns ++ ds ++ fs) ≡ stateWords
   length-three = omega (arith, length-append (ns ++ ds) fs, length-two, has .frames)
 
   abbrev size : ℕ
-  size = numberCount + dequeWords + g + nodeWords * nodeCount ns
+  size = wordsFor (nodeCount ns)
 
-  pub length-parts : length (ns ++ ds ++ fs ++ ks) ≡ numberCount + dequeWords + g + nodeWords * nodeCount ns
+  pub length-parts : length (ns ++ ds ++ fs ++ ks) ≡ wordsFor (nodeCount ns)
   length-parts = omega (arith, length-append (ns ++ ds ++ fs) ks, length-three, has .nodes)
 
   number-first : (i : ℕ) → i < numberCount → getD parts i 0 ≡ getD ns i 0
@@ -176,13 +176,12 @@ module _ (ns ds fs ks : List ℕ) (g : ℕ) (has : PartLengths ns ds fs ks g) wh
     pub nodes-back : nodesIn (asBlocks (ns ++ ds ++ fs ++ ks)) ≡ nodeCount ns
     nodes-back = number-recorded 2 (omega arith)
 
-    -- of a readable form, whose state has this many words
-    module _ (form : getD ns 0 0 < 2 * version) (state : stateWordsIn (asBlocks (ns ++ ds ++ fs ++ ks)) ≡ numberCount + dequeWords + g) where
+    module _ (form : Readable (getD ns 0 0)) where
       called : wordsCalled (asBlocks parts) ≡ size
-      called = ap₂ (λ (a b : ℕ). a + nodeWords * b) state nodes-back
+      called = ap wordsFor nodes-back
 
-      form-parts : getD parts 0 0 < 2 * version
-      form-parts = omega (arith, number-first 0 (omega arith))
+      form-parts : Readable (getD parts 0 0)
+      form-parts = subst Readable (sym (number-first 0 (omega arith))) form
 
       -- 17 and 18 do not refuse it,
       pub parts-accepted : imageCheck (asBlocks (ns ++ ds ++ fs ++ ks)) ≡ Good
@@ -206,17 +205,17 @@ module _ (ns ds fs ks : List ℕ) (g : ℕ) (has : PartLengths ns ds fs ks g) wh
       deques-part = ap (λ (l : List ℕ). take dequeWords (drop numberCount l)) words-two ∙ second ns ds (fs ++ (ks ++ tail)) numberCount dequeWords (has .numbers) (has .deques)
 
       -- the frame records
-      pub frames-part : take g (drop (numberCount + dequeWords) (wordsIn (asBlocks (ns ++ ds ++ fs ++ ks)))) ≡ fs
+      pub frames-part : framesIn (asBlocks (ns ++ ds ++ fs ++ ks)) ≡ fs
       frames-part =
-          ap (λ (l : List ℕ). take g (drop (numberCount + dequeWords) l)) (words ∙ append-assoc (ns ++ ds ++ fs) ks tail)
-          ∙ second (ns ++ ds) fs (ks ++ tail) (numberCount + dequeWords) g length-two (has .frames)
+          ap (λ (l : List ℕ). take frameWords (drop (numberCount + dequeWords) l)) (words ∙ append-assoc (ns ++ ds ++ fs) ks tail)
+          ∙ second (ns ++ ds) fs (ks ++ tail) (numberCount + dequeWords) frameWords length-two (has .frames)
 
       -- and the nodes that were written
       pub pool-part : poolIn (asBlocks (ns ++ ds ++ fs ++ ks)) ≡ ks
       pool-part =
-          ap₂ (λ (a b : ℕ). take (nodeWords * b) (drop a (wordsIn (asBlocks parts)))) state nodes-back
-          ∙ ap (λ (l : List ℕ). take (nodeWords * nodeCount ns) (drop (numberCount + dequeWords + g) l)) words
-          ∙ second (ns ++ ds ++ fs) ks tail (numberCount + dequeWords + g) (nodeWords * nodeCount ns) length-three (has .nodes)
+          ap (λ (k : ℕ). take (nodeWords * k) (drop stateWords (wordsIn (asBlocks parts)))) nodes-back
+          ∙ ap (λ (l : List ℕ). take (nodeWords * nodeCount ns) (drop stateWords l)) words
+          ∙ second (ns ++ ds ++ fs) ks tail stateWords (nodeWords * nodeCount ns) length-three (has .nodes)
 
 -- ---- an accepted image, written again
 
@@ -259,33 +258,22 @@ module _ (image : List ℕ) (good : imageCheck image ≡ Good) where
   pub part-length : (i k : ℕ) → i + k ≤ w → length (take k (drop i (wordsIn image))) ≡ k
   part-length i k h = length-take-le k (drop i (wordsIn image)) (omega (arith, length-drop i (wordsIn image), length-w, enough))
 
-  frames-length : length (framesIn image) ≡ frameWords
-  unfolding framesIn
-  frames-length =
-      let fs : List ℕ = drop (numberCount + dequeWords) (wordsIn image) in
-      elim (decided (isOld image)) [
-        | inl o ↦
-            let l : length (take oldFrameWords fs) ≡ oldFrameWords = part-length (numberCount + dequeWords) oldFrameWords (omega (arith, old-state image o)) in
-            rw o (length-widened places (take oldFrameWords fs) (omega (arith, l)))
-        | inr o ↦ rw o (part-length (numberCount + dequeWords) frameWords (omega (arith, new-state image o)))
-      ]
-
   -- the parts of an accepted image have their lengths
   pub good-parts : Lengths (numberWordsIn image) (dequesIn image) (framesIn image)
   good-parts =
       record {
-        numbers = length-set (take numberCount (wordsIn image)) 0 _ ∙ part-length 0 numberCount (omega (arith, state-least image));
-        deques = part-length numberCount dequeWords (omega (arith, state-least image));
-        frames = frames-length;
+        numbers = length-set (take numberCount (wordsIn image)) 0 _ ∙ part-length 0 numberCount (omega arith);
+        deques = part-length numberCount dequeWords (omega arith);
+        frames = part-length (numberCount + dequeWords) frameWords (omega arith);
       }
 
   pub length-pool : length (poolIn image) ≡ nodeWords * nodesIn image
-  length-pool = part-length (stateWordsIn image) (nodeWords * nodesIn image) (omega arith)
+  length-pool = part-length stateWords (nodeWords * nodesIn image) (omega arith)
 
   -- its numbers are those of the first block
   good-number : (i : ℕ) → i < numberCount → getD (take numberCount (wordsIn image)) i 0 ≡ getD (wordsOf (take 508 image)) i 0
   good-number i b =
-      getD-take numberCount (wordsIn image) i 0 b ∙ first-words n image i (omega (arith, state-least image)) (omega (arith, good-whole)) (omega arith)
+      getD-take numberCount (wordsIn image) i 0 b ∙ first-words n image i (omega arith) (omega (arith, good-whole)) (omega arith)
 
   good-first : getD (take numberCount (wordsIn image)) 0 0 ≡ firstIn image
   good-first = good-number 0 (omega arith)
@@ -297,25 +285,20 @@ module _ (image : List ℕ) (good : imageCheck image ≡ Good) where
   pub good-nodes : nodeCount (numberWordsIn image) ≡ nodesIn image
   good-nodes = nodes-unversioned (take numberCount (wordsIn image)) ∙ first-nodes
 
-  -- with the version, and without where it has none
-  pub numbers-again : isOld image ≡ false → versioned (numberWordsIn image) ≡ take numberCount (wordsIn image)
-  numbers-again o = version-on (take numberCount (wordsIn image)) (omega (arith, good-first, ltb-false (firstIn image) version o)) (omega (arith, good-first, good-right .form))
+  -- with the version again
+  pub numbers-again : versioned (numberWordsIn image) ≡ take numberCount (wordsIn image)
+  numbers-again = version-on (take numberCount (wordsIn image)) (subst Readable (sym good-first) (good-right .form))
 
-  pub old-numbers : isOld image ≡ true → numberWordsIn image ≡ take numberCount (wordsIn image)
-  old-numbers o = no-version (take numberCount (wordsIn image)) (omega (arith, good-first, ltb-true (firstIn image) version o))
-
-  -- what the parts make up again, with g words of frame records
-  pub words-again : (g : ℕ) → stateWordsIn image ≡ numberCount + dequeWords + g
-      → take numberCount (wordsIn image) ++ dequesIn image ++ take g (drop (numberCount + dequeWords) (wordsIn image)) ++ take (nodeWords * nodesIn image) (poolIn image) ≡ take w (wordsIn image)
-  words-again g e =
+  -- what the parts make up again
+  pub words-again : take numberCount (wordsIn image) ++ dequesIn image ++ framesIn image ++ take (nodeWords * nodesIn image) (poolIn image) ≡ take w (wordsIn image)
+  words-again =
       let W : List ℕ = wordsIn image in
       let k : ℕ = nodeWords * nodesIn image in
       let ns : List ℕ = take numberCount W in
-      let fs : List ℕ = take g (drop (numberCount + dequeWords) W) in
-      ap (λ (l : List ℕ). ns ++ dequesIn image ++ fs ++ l) (take-take k k (drop (stateWordsIn image) W) (omega arith))
-      ∙ ap (λ (l : List ℕ). l ++ fs ++ poolIn image) (sym (take-add numberCount dequeWords W))
-      ∙ ap (λ (l : List ℕ). l ++ poolIn image) (sym (take-add (numberCount + dequeWords) g W) ∙ ap (λ (j : ℕ). take j W) (sym e))
-      ∙ sym (take-add (stateWordsIn image) k W)
+      ap (λ (l : List ℕ). ns ++ dequesIn image ++ framesIn image ++ l) (take-take k k (drop stateWords W) (omega arith))
+      ∙ ap (λ (l : List ℕ). l ++ framesIn image ++ poolIn image) (sym (take-add numberCount dequeWords W))
+      ∙ ap (λ (l : List ℕ). l ++ poolIn image) (sym (take-add (numberCount + dequeWords) frameWords W))
+      ∙ sym (take-add stateWords k W)
 
   module _ (h : Bytes image) where
     bytes-again : bytesOf (wordsIn image) ≡ dataOf n image

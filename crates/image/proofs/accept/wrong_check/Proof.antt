@@ -3,7 +3,6 @@ use mathlib.Core.Path.{sym, _∙_}
 use native.Mathlib.Omega.{arith}
 use borrow.Author.Needs.{needs}
 use borrow.Author.Tests.{not-true, not-false}
-use Rattle.image.specs.Theory.Forms.{state-least}
 use Rattle.image.proofs.Ends.{checks-wrong, rest-tested}
 use Rattle.image.proofs.accept.wrong_check.Statement.{statement}
 use Rattle.image.proofs.accept.wrong_check.Tie as tie
@@ -23,15 +22,15 @@ returns-2 c =
     (sym (k .checks-right .ensures) ∙ not-false (k .checks-right .result) (i .if1 .left))
     (c .zeros .ensures)
 
--- every form calls for a block
+-- a block is called for
 sub-zeros : tie.Need-sub-zeros
-sub-zeros c = omega (arith, state-least (c .before .before .before .args .image .now))
+sub-zeros c = omega arith
 
 sub-zeros-2 : tie.Need-sub-zeros-2
-sub-zeros-2 c = omega (arith, state-least (c .before .before .before .args .image .now))
+sub-zeros-2 c = omega arith
 
 zeros-requires : tie.Need-zeros-requires
-zeros-requires c κs = omega (arith, state-least (c .before .before .before .args .image .now))
+zeros-requires c κs = omega arith
 
 pub wrong-check-spec : {M : Type 1} → statement M
 wrong-check-spec = tie.close (tie.spec (λ c κs. search needs) returns (λ c. search needs) (λ c. search needs) (λ c. search needs) sub-zeros (λ c. search needs) sub-zeros-2 zeros-requires returns-2)

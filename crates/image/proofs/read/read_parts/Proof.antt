@@ -1,10 +1,10 @@
 -- The four parts one after the other: `parts-read`.
-use Prim.Native.Nat.{_*_}
+use Prim.Native.Nat.{_+_, _*_}
 use native.Mathlib.Omega.{arith}
 use borrow.Author.Needs.{needs}
-use Rattle.frames.specs.Widths.{dequeWords}
-use Rattle.image.specs.Widths.{numberCount, nodeWords}
-use Rattle.image.specs.Theory.Forms.{state-least}
+use Rattle.frames.specs.Widths.{frameWords, dequeWords}
+use Rattle.soundness.specs.Numbers.{numberCount}
+use Rattle.image.specs.Widths.{nodeWords, stateWords}
 use Rattle.image.specs.Theory.Promises.{whole-block}
 use Rattle.image.proofs.Ends.{fits, parts-read}
 use Rattle.image.proofs.read.read_parts.Statement.{statement}
@@ -13,16 +13,16 @@ use Rattle.image.proofs.read.read_parts.Tie as tie
 abbrev start-of : tie.After-nodes-in → tie.Start
 start-of k = k .before .before .before .before .before .before
 
-abbrev state-of : tie.After-read-numbers → tie.After-state-words-in
-state-of n = n .before .before
+abbrev nodes-of : tie.After-read-numbers → tie.After-nodes-in
+nodes-of n = n .before .before
 
 abbrev numbers-of : tie.After-read-words → tie.After-read-numbers
 numbers-of d = d .before .before .before .before
 
-abbrev deques-of : tie.After-read-frames → tie.After-read-words
+abbrev deques-of : tie.After-read-words2 → tie.After-read-words
 deques-of f = f .before .before .before .before
 
-abbrev frames-of : tie.After-read-words2 → tie.After-read-frames
+abbrev frames-of : tie.After-read-words3 → tie.After-read-words2
 frames-of p = p .before .before .before .before
 
 nodes-in-requires : tie.Need-nodes-in-requires
@@ -30,33 +30,27 @@ nodes-in-requires c κs =
     let start = c .before .before .before .before .before in
     whole-block (start .args .image .now) (start .pre .0)
 
-state-words-in-requires : tie.Need-state-words-in-requires
-state-words-in-requires c κs =
-    let start = start-of c in
-    whole-block (start .args .image .now) (start .pre .0)
-
 read-numbers-requires : tie.Need-read-numbers-requires
 read-numbers-requires c κs =
-    let start = start-of (c .before .before) in
+    let start = start-of (c .before) in
     (start .pre .0, start .pre .1 .numbers)
 
 read-words-requires : tie.Need-read-words-requires
 read-words-requires c κs =
-    let start = start-of (state-of (c .before .before .before) .before) in
-    (omega (arith, start .pre .1 .deques), fits (start .args .image .now) (start .pre .0) numberCount dequeWords (omega (arith, state-least (start .args .image .now))))
-
-read-frames-requires : tie.Need-read-frames-requires
-read-frames-requires c κs =
-    let start = start-of (state-of (numbers-of (c .before .before .before)) .before) in
-    (start .pre .0, start .pre .1 .frames)
+    let start = start-of (nodes-of (c .before .before .before)) in
+    (omega (arith, start .pre .1 .deques), fits (start .args .image .now) (start .pre .0) numberCount dequeWords (omega arith))
 
 read-words-requires-2 : tie.Need-read-words-requires-2
 read-words-requires-2 c κs =
-    let s = state-of (numbers-of (deques-of (c .before .before .before))) in
-    let k = s .before in
+    let start = start-of (nodes-of (numbers-of (c .before .before .before))) in
+    (omega (arith, start .pre .1 .frames), fits (start .args .image .now) (start .pre .0) (numberCount + dequeWords) frameWords (omega arith))
+
+read-words-requires-3 : tie.Need-read-words-requires-3
+read-words-requires-3 c κs =
+    let k = nodes-of (numbers-of (deques-of (c .before .before .before))) in
     let start = start-of k in (
       omega (arith, start .pre .2, k .nodes-in .ensures),
-      fits (start .args .image .now) (start .pre .0) (s .state-words-in .result) (nodeWords * k .nodes-in .result) (omega (arith, s .state-words-in .ensures, k .nodes-in .ensures)),
+      fits (start .args .image .now) (start .pre .0) stateWords (nodeWords * k .nodes-in .result) (omega (arith, k .nodes-in .ensures)),
     )
 
 returns : tie.Need-returns
@@ -65,12 +59,11 @@ returns c =
     let f = frames-of p in
     let d = deques-of f in
     let n = numbers-of d in
-    let s = state-of n in
-    let k = s .before in
+    let k = nodes-of n in
     let start = start-of k in
-    parts-read (start .args .image .now) (start .pre .0) (start .args .deques .now) (start .args .pool .now) _ _ _ _
-    (k .nodes-in .result) (s .state-words-in .result) (k .nodes-in .ensures) (s .state-words-in .ensures) (start .pre .1 .deques) (start .pre .2)
-    (n .read-numbers .ensures) (d .read-words .ensures) (f .read-frames .ensures) (p .read-words2 .ensures)
+    parts-read (start .args .image .now) (start .pre .0) (start .args .deques .now) (start .args .frames .now) (start .args .pool .now) _ _ _ _
+    (k .nodes-in .result) (k .nodes-in .ensures) (start .pre .1 .deques) (start .pre .1 .frames) (start .pre .2)
+    (n .read-numbers .ensures) (d .read-words .ensures) (f .read-words2 .ensures) (p .read-words3 .ensures)
 
 pub read-parts-spec : {M : Type 1} → statement M
-read-parts-spec = tie.close (tie.spec nodes-in-requires state-words-in-requires read-numbers-requires read-words-requires read-frames-requires (λ c. search needs) (λ c. search needs) read-words-requires-2 (λ c. search needs) (λ c. search needs) (λ c. search needs) (λ c. search needs) returns)
+read-parts-spec = tie.close (tie.spec nodes-in-requires read-numbers-requires read-words-requires (λ c. search needs) read-words-requires-2 (λ c. search needs) (λ c. search needs) read-words-requires-3 (λ c. search needs) (λ c. search needs) (λ c. search needs) (λ c. search needs) returns)

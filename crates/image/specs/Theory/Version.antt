@@ -1,0 +1,37 @@
+-- The version in the first word of an image.
+use mathlib.Core.Path.{_≡_, refl, ap}
+use mathlib.Core.List.{List, [], _∷_}
+use Prim.Native.Nat.{ℕ, _+_, _<_, _≤_}
+use native.Mathlib.Omega.{arith}
+use lib.ListN.{length, getD}
+use lib.Seq.{getD-set-other}
+use Rattle.words.specs.Below.{Words, words-set, plus-word}
+use Rattle.image.specs.Widths.{version, versionStep}
+use Rattle.image.specs.Image.{nodeCount, versioned, unversioned}
+
+-- a first word of the readable form: "reads only its own form"
+abbrev pub Readable : ℕ → Type 0
+Readable w = (version ≤ w) × (w < version + versionStep)
+
+pub nodes-versioned : (ns : List ℕ) → nodeCount (versioned ns) ≡ nodeCount ns
+nodes-versioned ns = getD-set-other ns 0 2 _ 0 (λ e. omega arith)
+
+pub nodes-unversioned : (ns : List ℕ) → nodeCount (unversioned ns) ≡ nodeCount ns
+nodes-unversioned ns = getD-set-other ns 0 2 _ 0 (λ e. omega arith)
+
+pub words-versioned : (ns : List ℕ) → Words ns → Words (versioned ns)
+words-versioned ns h = words-set ns 0 _ h (plus-word (getD ns 0 0) version)
+
+-- what is written is readable
+pub first-versioned : (ns : List ℕ) → 0 < length ns → getD ns 0 0 < versionStep → Readable (getD (versioned ns) 0 0)
+first-versioned [] l h = absurd (omega arith)
+first-versioned (x ∷ ns) l h = (omega arith, omega arith)
+
+-- added and taken away again
+pub version-off : (ns : List ℕ) → getD ns 0 0 < versionStep → unversioned (versioned ns) ≡ ns
+version-off [] h = refl
+version-off (x ∷ ns) h = ap (λ (k : ℕ). k ∷ ns) (omega arith)
+
+pub version-on : (ns : List ℕ) → Readable (getD ns 0 0) → versioned (unversioned ns) ≡ ns
+version-on [] r = refl
+version-on (x ∷ ns) (h, k) = ap (λ (k : ℕ). k ∷ ns) (omega arith)
