@@ -2,9 +2,9 @@
 use Prim.Native.Nat.{ℕ, _+_, _*_, _/_, _%_, _^_}
 use Rattle.frames.specs.Steps.{returnedNumber, syncedNumber}
 use Rattle.semantics.specs.declared.Done.{Done}
-use Rattle.semantics.specs.declared.Done.the-variants.{Spawned, Ended, Stolen, Waited, Value, Written}
+use Rattle.semantics.specs.declared.Done.the-variants.{Spawned, Ended, Stolen, Waited, Value, Written, Folded}
 use Rattle.semantics.specs.declared.Refusal.{Refusal}
-use Rattle.semantics.specs.declared.Refusal.the-variants.{Values, Workers, Nodes, Tape, Work, Unsound, Record, NoWorker, MainReturned, WorkerIdle, ThiefBusy, NoVictim, FramesFull, NoSplitter, PoolFull, Blocks, BlockCheck, Target, Lengths}
+use Rattle.semantics.specs.declared.Refusal.the-variants.{Values, Workers, Nodes, Tape, Work, Unsound, Record, NoWorker, MainReturned, WorkerIdle, ThiefBusy, NoVictim, FramesFull, NoSplitter, PoolFull, Blocks, BlockCheck, Target, NoReducer, Lengths}
 use Rattle.semantics.specs.declared.Answer.{Answer}
 use Rattle.semantics.specs.declared.Answer.the-variants.{Accepted, Refused}
 
@@ -30,6 +30,8 @@ refusalNumber PoolFull = 16
 refusalNumber Blocks = 17
 refusalNumber BlockCheck = 18
 refusalNumber Target = 19
+-- R-5: "20, kind 7 names no reducer"
+refusalNumber NoReducer = 20
 -- the entries' own: a lent part of the state has another length
 refusalNumber Lengths = 99
 
@@ -42,6 +44,8 @@ doneWords (Stolen d) = (103, d)
 doneWords (Waited o) = (104, syncedNumber o)
 doneWords (Value v) = (105, v)
 doneWords (Written k) = (106, k)
+-- R-5: "answers 107 0"
+doneWords Folded = (107, 0)
 
 -- "A refused record gives its refusal and 0"
 abbrev pub answerWords : Answer → ℕ × ℕ

@@ -7,12 +7,12 @@ use lib.ListN.{getD, take}
 use lib.Dec.{eqb, leb}
 use Rattle.sizes.specs.Sizes.{height}
 use Rattle.pool.specs.Pool.{rest}
-use Rattle.model.specs.declared.Step.the-variants.{Spawn, Return, Steal, Sync, Read, Write}
+use Rattle.model.specs.declared.Step.the-variants.{Spawn, Return, Steal, Sync, Read, Write, Fold}
 use Rattle.model.specs.declared.Decoded.{Decoded}
 use Rattle.model.specs.declared.Decoded.the-variants.{Valid, Invalid}
 use Rattle.model.specs.Record.{recordOf}
 use Rattle.model.specs.Machine.{Frame, Machine, deque}
-use Rattle.model.specs.Steps.{Action, spawn, return, sync, read, write, Turn, acting, stealing, turnOf, step}
+use Rattle.model.specs.Steps.{Action, spawn, return, sync, read, write, fold, Turn, acting, stealing, turnOf, step}
 use Rattle.model.specs.Run.{Entry}
 use Rattle.semantics.specs.Answers.{wordsIn}
 use Rattle.semantics.specs.Core.{Core, actingIn}
@@ -103,6 +103,7 @@ restIn c (Valid (Steal w v)) = 0
 restIn c (Valid (Sync w)) = 0
 restIn c (Valid (Read w x)) = 0
 restIn c (Valid (Write w x v)) = rest (height (c .head .numbers .splitters)) (c .pool) (actingIn c w .root) x
+restIn c (Valid (Fold w r v)) = 0
 
 abbrev pub poolAt : Core → Decoded → PoolAt
 poolAt c d = record { rest = restIn c d; free = chainFree (stateOf (recordOn c d .core)) (recordOn c d .core .pool) }
@@ -205,6 +206,7 @@ valueAnswered return a = 0
 valueAnswered sync a = 0
 valueAnswered (read x) a = a .1
 valueAnswered (write x v) a = 0
+valueAnswered (fold r v) a = 0
 
 abbrev pub bottomEntry : List Frame → Action → ℕ × ℕ → List Entry
 bottomEntry [] act a = []

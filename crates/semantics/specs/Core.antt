@@ -1,4 +1,4 @@
--- What a step does to the state and the pool, and what it answers: refusals 8 to 16 in checking order, then the step.
+-- What a step does to the state and the pool, and what it answers: refusals 8 to 16 and 20 in checking order, then the step.
 -- Definitions only; every one is total.
 use mathlib.Core.Bool.{Bool, cond, not, _||_}
 use mathlib.Core.List.{List, [], _∷_, _++_}
@@ -6,25 +6,28 @@ use Prim.Native.Nat.{ℕ, zero, suc}
 use lib.Dec.{eqb, ltb}
 use Rattle.words.specs.Basics.{none, plus, all}
 use Rattle.pool.specs.Pool.{readAt, retain, release, rest, write}
+use Rattle.reducers.specs.Reducers.{viewWords}
 use Rattle.frames.specs.declared.Frame.{Frame}
 use Rattle.frames.specs.declared.Returned.{Returned}
 use Rattle.frames.specs.declared.Returned.the-variants.{Continued, Finished, Waiting}
 use Rattle.frames.specs.Frames.{frameAt, setFrame, withRoot, asReturning}
 use Rattle.frames.specs.Deques.{size, bottom, pop}
-use Rattle.frames.specs.Steps.{Table, acting, spawn, suspend, endFrame, endsToo, goOn, wentOn, steal, stolen, sync, synced}
+use Rattle.frames.specs.Steps.{Table, acting, spawn, suspend, endFrame, endsToo, goOn, wentOn, steal, stolen, sync, synced, fold}
 use Rattle.soundness.specs.Numbers.{setFreeNode, setFreePlace}
 use Rattle.model.specs.declared.Step.{Step}
-use Rattle.model.specs.declared.Step.the-variants.{Spawn, Return, Steal, Sync, Read, Write}
+use Rattle.model.specs.declared.Step.the-variants.{Spawn, Return, Steal, Sync, Read, Write, Fold}
+use Rattle.model.specs.Steps.{reducers}
 use Rattle.semantics.specs.declared.Head.{Head}
-use Rattle.semantics.specs.declared.Done.the-variants.{Spawned, Ended, Stolen, Waited, Value, Written}
+use Rattle.semantics.specs.declared.Done.the-variants.{Spawned, Ended, Stolen, Waited, Value, Written, Folded}
 use Rattle.semantics.specs.declared.Refusal.{Refusal}
-use Rattle.semantics.specs.declared.Refusal.the-variants.{NoWorker, MainReturned, WorkerIdle, ThiefBusy, NoVictim, FramesFull, NoSplitter, PoolFull}
+use Rattle.semantics.specs.declared.Refusal.the-variants.{NoWorker, MainReturned, WorkerIdle, ThiefBusy, NoVictim, FramesFull, NoSplitter, PoolFull, NoReducer}
 use Rattle.semantics.specs.declared.Answer.{Answer}
 use Rattle.semantics.specs.declared.Answer.the-variants.{Accepted, Refused}
 
--- what steps act on: the numbers, the words of the deques and of the frame table, and the pool's words
+-- what steps act on: the numbers, the words of the totals, of the deques and of the frame table, and the pool's words
 pub record Core : Type 0 where
   pub head : Head
+  pub totals : List ℕ
   pub deques : List ℕ
   pub frames : List ℕ
   pub pool : List ℕ
@@ -34,8 +37,8 @@ pub record StepResult : Type 0 where
   pub core : Core
   pub answer : Answer
 
-abbrev pub stepResult : Head → List ℕ → List ℕ → List ℕ → Answer → StepResult
-stepResult h ds fs ws a = record { core = record { head = h; deques = ds; frames = fs; pool = ws }; answer = a }
+abbrev pub stepResult : Head → List ℕ → List ℕ → List ℕ → List ℕ → Answer → StepResult
+stepResult h ts ds fs ws a = record { core = record { head = h; totals = ts; deques = ds; frames = fs; pool = ws }; answer = a }
 
 abbrev pub tableOf : Core → Table
 tableOf c = record { deques = c .deques; frames = c .frames; «free_place» = c .head .numbers .«free_place» }
@@ -56,7 +59,7 @@ withFreeNodes h f k = record { numbers = setFreeNode (h .numbers) f; height = h 
 
 -- the core with other deques, frame table and first free place
 abbrev pub withTable : Core → Table → Core
-withTable c t = record { head = withFreePlace (c .head) (t .«free_place»); deques = t .deques; frames = t .frames; pool = c .pool }
+withTable c t = record { head = withFreePlace (c .head) (t .«free_place»); totals = c .totals; deques = t .deques; frames = t .frames; pool = c .pool }
 
 -- ---- refusals
 
@@ -79,22 +82,32 @@ judged (t ∷ ts) c d = cond (t .0) (record { core = c; answer = Refused (t .1) 
 abbrev pub actingTests : Core → ℕ → List (Bool × Refusal)
 actingTests c w = (noWorker c w, NoWorker) ∷ (allIdle c, MainReturned) ∷ (idle c w, WorkerIdle) ∷ []
 
--- ---- the six kinds
+-- ---- the seven kinds
 
 unfoldable pub spawnOn : Core → ℕ → StepResult
 spawnOn c w =
     let t : Table = spawn (tableOf c) w in
-    stepResult (withFreePlace (c .head) (t .«free_place»)) (t .deques) (t .frames) (retain (c .pool) (actingIn c w .root)) (Accepted (Spawned (plus (actingIn c w .depth) 1)))
+    stepResult (withFreePlace (c .head) (t .«free_place»)) (c .totals) (t .deques) (t .frames) (retain (c .pool) (actingIn c w .root)) (Accepted (Spawned (plus (actingIn c w .depth) 1)))
 
 -- a return that left the core c, with the outcome o
 abbrev pub returned : Core → Returned → StepResult
 returned c o = record { core = c; answer = Accepted (Ended o) }
 
+-- R-5: "Once Main has returned, each total is ..": Main's view, at its end
+abbrev pub totalsAfter : Core → Frame → List ℕ
+totalsAfter c f = cond (eqb (f .parent) none) (viewWords (f .view)) (c .totals)
+
 -- the frame at place p ends: its tree is released, and its place is the first free one
 unfoldable pub endAt : Core → ℕ → Core
 endAt c p =
     let r : List ℕ × ℕ × ℕ = release (c .head .height) (c .pool) (c .head .numbers .«free_node») (c .head .«free_count») (frameAt (c .frames) p .root) in
-    record { head = withFreeNodes (withFreePlace (c .head) p) (r .1) (r .2); deques = c .deques; frames = endFrame (c .frames) (c .head .numbers .«free_place») p; pool = r .0 }
+    record {
+      head = withFreeNodes (withFreePlace (c .head) p) (r .1) (r .2);
+      totals = totalsAfter c (frameAt (c .frames) p);
+      deques = c .deques;
+      frames = endFrame (c .frames) (c .head .numbers .«free_place») p;
+      pool = r .0;
+    }
 
 -- a frame of depth d, whose parent is at place q, has ended on worker w, whose deque is empty. R-3: if that was the last child of a frame
 -- that waits in its return, "it ends too on that child's worker, and so on upward; the answer shows where that stopped: 1, 2 or 3"
@@ -107,7 +120,7 @@ upward (suc d) c w q =
 
 -- worker w's bottom frame leaves its deque
 abbrev pub popped : Core → ℕ → Core
-popped c w = record { head = c .head; deques = pop (c .deques) w; frames = c .frames; pool = c .pool }
+popped c w = record { head = c .head; totals = c .totals; deques = pop (c .deques) w; frames = c .frames; pool = c .pool }
 
 -- worker w's bottom frame ends; "If its parent is then the bottom, the outcome is 0"
 unfoldable pub endBottom : Core → ℕ → StepResult
@@ -126,12 +139,12 @@ returnOn c w =
 unfoldable pub stealOn : Core → ℕ → ℕ → StepResult
 stealOn c w v =
     let t : Table = steal (tableOf c) w v in
-    stepResult (c .head) (t .deques) (c .frames) (c .pool) (Accepted (Stolen (stolen (tableOf c) v .depth)))
+    stepResult (c .head) (c .totals) (t .deques) (c .frames) (c .pool) (Accepted (Stolen (stolen (tableOf c) v .depth)))
 
 unfoldable pub syncOn : Core → ℕ → StepResult
 syncOn c w =
     let t : Table = sync (tableOf c) w in
-    stepResult (c .head) (t .deques) (t .frames) (c .pool) (Accepted (Waited (synced (tableOf c) w)))
+    stepResult (c .head) (c .totals) (t .deques) (t .frames) (c .pool) (Accepted (Waited (synced (tableOf c) w)))
 
 unfoldable pub readOn : Core → ℕ → ℕ → StepResult
 readOn c w x = record { core = c; answer = Accepted (Value (readAt (c .head .height) (c .pool) (actingIn c w .root) x)) }
@@ -139,12 +152,16 @@ readOn c w x = record { core = c; answer = Accepted (Value (readAt (c .head .hei
 unfoldable pub writeOn : Core → ℕ → ℕ → ℕ → StepResult
 writeOn c w x v =
     let p : List ℕ × ℕ × ℕ × ℕ = write (c .head .height) (c .pool) (c .head .numbers .«free_node») (c .head .«free_count») (actingIn c w .root) x v in
-    stepResult (withFreeNodes (c .head) (p .1) (p .2)) (c .deques) (setFrame (c .frames) (bottom (c .deques) w) (withRoot (actingIn c w) (p .3))) (p .0)
+    stepResult (withFreeNodes (c .head) (p .1) (p .2)) (c .totals) (c .deques) (setFrame (c .frames) (bottom (c .deques) w) (withRoot (actingIn c w) (p .3))) (p .0)
     (Accepted (Written (p .2)))
+
+-- R-5: "Record kind 7 folds its value into the reducer named in its splitter field and answers 107 0"
+unfoldable pub foldOn : Core → ℕ → ℕ → ℕ → StepResult
+foldOn c w r v = stepResult (c .head) (c .totals) (c .deques) (fold (tableOf c) w r v .frames) (c .pool) (Accepted Folded)
 
 -- ---- a step
 
--- refusals 13, 15 and 16, of the kind alone; "14 no longer occurs" (R-3). 16, by R-2: "when fewer nodes are free than that rest has", of the path to the splitter
+-- refusals 13, 15, 16 and 20, of the kind alone; "14 no longer occurs" (R-3). 20 stands "in the place of 15" (R-5). 16, by R-2: "when fewer nodes are free than that rest has", of the path to the splitter
 abbrev pub kindTests : Core → Step → List (Bool × Refusal)
 kindTests c (Spawn w) = (eqb (c .head .numbers .«free_place») none, FramesFull) ∷ []
 kindTests c (Return w) = []
@@ -152,6 +169,7 @@ kindTests c (Steal w v) = []
 kindTests c (Sync w) = []
 kindTests c (Read w x) = (not (ltb x (c .head .numbers .splitters)), NoSplitter) ∷ []
 kindTests c (Write w x v) = (not (ltb x (c .head .numbers .splitters)), NoSplitter) ∷ (ltb (c .head .«free_count») (rest (c .head .height) (c .pool) (actingIn c w .root) x), PoolFull) ∷ []
+kindTests c (Fold w r v) = (not (ltb r reducers), NoReducer) ∷ []
 
 -- refusals 8, 9, 11 and 12
 abbrev pub stealTests : Core → ℕ → ℕ → List (Bool × Refusal)
@@ -165,6 +183,7 @@ testsOf c (Steal w v) = stealTests c w v
 testsOf c (Sync w) = actingTests c w ++ kindTests c (Sync w)
 testsOf c (Read w x) = actingTests c w ++ kindTests c (Read w x)
 testsOf c (Write w x v) = actingTests c w ++ kindTests c (Write w x v)
+testsOf c (Fold w r v) = actingTests c w ++ kindTests c (Fold w r v)
 
 -- what it does if none holds
 abbrev pub doneBy : Core → Step → StepResult
@@ -174,6 +193,7 @@ doneBy c (Steal w v) = stealOn c w v
 doneBy c (Sync w) = syncOn c w
 doneBy c (Read w x) = readOn c w x
 doneBy c (Write w x v) = writeOn c w x v
+doneBy c (Fold w r v) = foldOn c w r v
 
 unfoldable pub stepOn : Core → Step → StepResult
 stepOn c st = judged (testsOf c st) c (doneBy c st)

@@ -10,43 +10,52 @@ use lib.Dec.{eqb, ltb}
 use Rattle.words.specs.Basics.{count}
 use Rattle.words.specs.Below.{Words, Bytes}
 use Rattle.sizes.specs.Sizes.{height}
-use Rattle.frames.specs.Widths.{places}
-use Rattle.frames.specs.Frames.{frameAt}
+use Rattle.reducers.specs.Reducers.{valuesInto, totalSum, totalMin, totalAffine}
 use Rattle.soundness.specs.Soundness.{freeNodes, cleared}
 use Rattle.model.specs.declared.Step.{Step}
-use Rattle.model.specs.declared.Step.the-variants.{Spawn, Return, Steal, Sync, Read, Write}
+use Rattle.model.specs.declared.Step.the-variants.{Spawn, Return, Steal, Sync, Read, Write, Fold}
 use Rattle.model.specs.declared.Decoded.{Decoded}
 use Rattle.model.specs.declared.Decoded.the-variants.{Valid, Invalid}
 use Rattle.model.specs.Machine.{Name, Frame, Machine, start, live, deque, inUse}
 use Rattle.model.specs.Machine.{freeNodes as plainFree}
 use Rattle.model.specs.Steps.{refusal, step, answer, afterWrite}
 use Rattle.model.specs.Run.{Entry, IsFrame, stepsOf, readsOf, oneWorkerSteps}
-use Rattle.semantics.specs.Entries.{State, zeros, wholeNodes, numbersOf, isSound, chainFree}
-use Rattle.image.specs.Image.{imageBytes, nodesIn, isOld}
+use Rattle.model.specs.Views.{Folded, Views, viewsAtStart, viewsAfter, mainFolds}
+use Rattle.semantics.specs.Entries.{State, zeros, wholeNodes, numbersOf, totalsOf, isSound, chainFree}
+use Rattle.image.specs.Image.{imageBytes, nodesIn}
 use Rattle.semantics.specs.Answers.{wordsIn}
-use Rattle.semantics.specs.Images.{savedImage, imageBefore, stateIn, nodesZero, loadOn}
+use Rattle.semantics.specs.Images.{savedImage, stateIn, nodesZero, loadOn}
 use Rattle.semantics.specs.SoundMachine.{machineOf}
 use Rattle.semantics.specs.Calls.{Start, startResult, HostCall, outside, tape, StateAndPool, afterStart, outsideResult, tapeResult, saveResult, afterCall, recordsIn, answersIn, PoolAt, restIn, coreIn, Past, Run, Call, call, save, load, begun, runOf, saysAccepted, traceFrom}
 
 -- ---- the plain machine, fed records
+
+-- the machine, and beside it the views of its frames (R-5)
+pub record Plain : Type 0 where
+  pub machine : Machine
+  pub views : Views
 
 -- "A refused step alters nothing"; a record that is no step is refused by 7
 abbrev pub plainAfter : Machine → Decoded → Machine
 plainAfter M (Valid st) = step M st
 plainAfter M Invalid = M
 
+abbrev pub viewsBy : Plain → Decoded → Views
+viewsBy P (Valid st) = viewsAfter (P .machine) (P .views) st
+viewsBy P Invalid = P .views
+
 abbrev pub plainAnswer : Machine → Decoded → ℕ × ℕ
 plainAnswer M (Valid st) = answer M st
 plainAnswer M Invalid = (7, 0)
 
--- what answers are compared with: of a machine and a record, with the engine's pool at the record
+-- what answers are compared with: of a machine with its views and a record, with the engine's pool at the record
 pub record Specification : Type 0 where
-  pub answers : Machine → Decoded → PoolAt → ℕ × ℕ
-  pub after : Machine → Decoded → PoolAt → Machine
+  pub answers : Plain → Decoded → PoolAt → ℕ × ℕ
+  pub after : Plain → Decoded → PoolAt → Plain
 
 -- for a run from a start: the plain machine alone
 abbrev pub fromStart : Specification
-fromStart = record { answers = λ M d k. plainAnswer M d; after = λ M d k. plainAfter M d }
+fromStart = record { answers = λ P d k. plainAnswer (P .machine) d; after = λ P d k. record { machine = plainAfter (P .machine) d; views = viewsBy P d } }
 
 -- with as many nodes
 abbrev pub withNodes : Machine → ℕ → Machine
@@ -69,32 +78,36 @@ roomFor M k = withRoom M (ltb (plainFree M) (k .rest))
 abbrev pub isWritten : ℕ × ℕ → Bool
 isWritten a = eqb (a .0) 106
 
+abbrev pub soundAnswer : Machine → Decoded → PoolAt → ℕ × ℕ
+soundAnswer M d k = cond (isWritten (plainAnswer (roomFor M k) d)) (106, plainFree M - k .rest) (plainAnswer (roomFor M k) d)
+
+abbrev pub soundAfter : Machine → Decoded → PoolAt → Machine
+soundAfter M d k = withFree (plainAfter (roomFor M k) d) (cond (isWritten (plainAnswer (roomFor M k) d)) (plainFree M - k .rest) (k .free))
+
+-- what a frame folded before is not in such a state, only its words are: nothing is said of views
 abbrev pub fromSound : Specification
-fromSound = record {
-  answers = λ M d k. cond (isWritten (plainAnswer (roomFor M k) d)) (106, plainFree M - k .rest) (plainAnswer (roomFor M k) d);
-  after = λ M d k. withFree (plainAfter (roomFor M k) d) (cond (isWritten (plainAnswer (roomFor M k) d)) (plainFree M - k .rest) (k .free));
-}
+fromSound = record { answers = λ P d k. soundAnswer (P .machine) d k; after = λ P d k. record { machine = soundAfter (P .machine) d k; views = P .views } }
 
 -- the answers to the records ds, and the machine after them; ks are the pools at them
-abbrev pub answersBy : Specification → Machine → List Decoded → List PoolAt → List (ℕ × ℕ)
-answersBy S M (d ∷ ds) (k ∷ ks) = S .answers M d k ∷ answersBy S (S .after M d k) ds ks
-answersBy S M (d ∷ ds) [] = []
-answersBy S M [] ks = []
+abbrev pub answersBy : Specification → Plain → List Decoded → List PoolAt → List (ℕ × ℕ)
+answersBy S P (d ∷ ds) (k ∷ ks) = S .answers P d k ∷ answersBy S (S .after P d k) ds ks
+answersBy S P (d ∷ ds) [] = []
+answersBy S P [] ks = []
 
-abbrev pub machineBy : Specification → Machine → List Decoded → List PoolAt → Machine
-machineBy S M (d ∷ ds) (k ∷ ks) = machineBy S (S .after M d k) ds ks
-machineBy S M (d ∷ ds) [] = M
-machineBy S M [] ks = M
+abbrev pub machineBy : Specification → Plain → List Decoded → List PoolAt → Plain
+machineBy S P (d ∷ ds) (k ∷ ks) = machineBy S (S .after P d k) ds ks
+machineBy S P (d ∷ ds) [] = P
+machineBy S P [] ks = P
 
 -- ---- demand 2: "Each accepted step answers as a plain copying machine does"
 
 -- of a run, against the machine M at its beginning; N nodes are recorded. Every list of calls is a run, so each answer is compared, also
 -- one that a later reading forgets
-pub record Answers (S : Specification) (M : Machine) (N : ℕ) (r : Run) : Type 0 where
-  -- every answer word equal, refusals 7 to 16 included
+pub record Answers (S : Specification) (M : Plain) (N : ℕ) (r : Run) : Type 0 where
+  -- every answer word equal, refusals 7 to 16 and 20 included
   pub same-answers : answersIn (r .past .exchanges) ≡ answersBy S M (recordsIn (r .past .exchanges)) (r .past .pools)
   -- the free nodes are the machine's
-  pub same-free : r .stateless ≡ false → chainFree (r .now .state) (r .now .pool) ≡ plainFree (machineBy S M (recordsIn (r .past .exchanges)) (r .past .pools))
+  pub same-free : r .stateless ≡ false → chainFree (r .now .state) (r .now .pool) ≡ plainFree (machineBy S M (recordsIn (r .past .exchanges)) (r .past .pools) .machine)
   pub still-sound : r .stateless ≡ false → isSound (r .now .state) (r .now .pool) ≡ true
   -- "words beyond the last whole node or beyond the recorded nodes are never changed"
   pub same-length : r .stateless ≡ false → length (r .now .pool) ≡ length (r .lent)
@@ -104,18 +117,22 @@ pub record Answers (S : Specification) (M : Machine) (N : ℕ) (r : Run) : Type 
 abbrev pub plainStart : Start → Machine
 plainStart b = start (b .workers) (b .values) (wholeNodes (b .pool))
 
+-- R-5: "Main begins with the identities."
+abbrev pub plainBegun : Start → Plain
+plainBegun b = record { machine = plainStart b; views = viewsAtStart }
+
 abbrev pub runFrom : Start → List Call → Run
 runFrom b calls = runOf (begun (afterStart b)) calls
 
 -- for runs from an accepted start: "nodes in use are those that document 01 counts from the history"
 abbrev pub Demand2 : Start → List Call → Type 0
-Demand2 b calls = Answers fromStart (plainStart b) (wholeNodes (b .pool)) (runFrom b calls)
+Demand2 b calls = Answers fromStart (plainBegun b) (wholeNodes (b .pool)) (runFrom b calls)
 
 -- R-2: "Nodes in use after a write are as before, so the plain machine's count goes on being the measure": in a run from a start, the rest
 -- of a write's path has as many nodes as the write adds to that count, so that it has more than are free just when the write "would
 -- bring that count above the pool's nodes"
 abbrev pub plainNow : Start → List Call → Machine
-plainNow b calls = let p : Past = runFrom b calls .past in machineBy fromStart (plainStart b) (recordsIn (p .exchanges)) (p .pools)
+plainNow b calls = let p : Past = runFrom b calls .past in machineBy fromStart (plainBegun b) (recordsIn (p .exchanges)) (p .pools) .machine
 
 pub record Counted (M : Machine) (free rest : ℕ) (M′ : Machine) : Type 0 where
   pub same-count : inUse (M .splitters) (live M′) ≡ inUse (M .splitters) (live M) + rest
@@ -140,7 +157,7 @@ abbrev pub plainOf : StateAndPool → Machine
 plainOf h = machineOf (numbersOf (h .state)) (h .state .deques) (h .state .frames) (h .pool)
 
 abbrev pub SoundRun : StateAndPool → List Call → Type 0
-SoundRun h calls = Answers fromSound (plainOf h) (numbersOf (h .state) .nodes) (runOf (begun h) calls)
+SoundRun h calls = Answers fromSound (record { machine = plainOf h; views = viewsAtStart }) (numbersOf (h .state) .nodes) (runOf (begun h) calls)
 
 -- ---- the memory that a host lends holds words of 32 bits, and tapes hold bytes
 
@@ -214,22 +231,15 @@ pub record RefusedLoad (s : State) (ws work image : List ℕ) : Type 0 where
   pub pool : loadOn s ws work image .result ≢ 6 → loadOn s ws work image .pool ≡ ws
   pub zero-nodes : loadOn s ws work image .result ≡ 6 → loadOn s ws work image .pool ≡ nodesZero ws
 
--- R-3: "none waiting"
-abbrev pub NoneWaiting : State → Type 0
-NoneWaiting s = (p : ℕ) → p < places → frameAt (s .frames) p .returning ≡ 0
-
 -- what is read is what the image says; saved again it is the same image; the words past the recorded nodes stay
 pub record AcceptedLoad (s : State) (ws work image : List ℕ) : Type 0 where
   pub state : loadOn s ws work image .state ≡ stateIn image
   pub sound : isSound (stateIn image) (loadOn s ws work image .pool) ≡ true
-  pub again : isOld image ≡ false → Bytes image → savedImage (loadOn s ws work image .state) (loadOn s ws work image .pool) ≡ image
-  -- R-3: "below 256, it is an image from before and reads as having none waiting"; saved as R-1 saved, it is the same image
-  pub none-waiting : isOld image ≡ true → NoneWaiting (loadOn s ws work image .state)
-  pub again-before : isOld image ≡ true → Bytes image → imageBefore (loadOn s ws work image .state) (loadOn s ws work image .pool) ≡ image
+  pub again : Bytes image → savedImage (loadOn s ws work image .state) (loadOn s ws work image .pool) ≡ image
   pub same-length : length (loadOn s ws work image .pool) ≡ length ws
   pub beyond : drop (4 * nodesIn image) (loadOn s ws work image .pool) ≡ drop (4 * nodesIn image) ws
 
--- "Reading back gives the same state": of the image that an accepted save has written, and by R-3 of the one that R-1 wrote where none waits, into any
+-- "Reading back gives the same state": of the image that an accepted save has written, into any
 -- parts that fit, a work slice that is long enough and a pool that holds the nodes, whatever they hold and however much longer it is
 abbrev pub writtenImage : StateAndPool → List ℕ → List ℕ → List ℕ
 writtenImage h work target = take (imageBytes (numbersOf (h .state) .nodes)) (saveResult h work target .target)
@@ -296,6 +306,7 @@ callOf (Steal w v) work = outside 3 w v 0 work
 callOf (Sync w) work = outside 4 w 0 0 work
 callOf (Read w x) work = outside 5 w x 0 work
 callOf (Write w x v) work = outside 6 w x v work
+callOf (Fold w r v) work = outside 7 w r v work
 
 -- "It enters Main's child-first list step by step", the i-th with the work slice `works i`
 abbrev pub oneByOne : (ℕ → List ℕ) → ℕ → List Step → List HostCall
@@ -320,6 +331,11 @@ abbrev pub AllFree : StateAndPool → Type 0
 AllFree h =
     (i : ℕ) → i < numbersOf (h .state) .nodes → count i (freeNodes (numbersOf (h .state) .nodes) (h .pool) (numbersOf (h .state) .«free_node»)) ≡ 1
 
+-- R-5: "each total is the identity joined with the values folded into its reducer", of folds in their order
+abbrev pub totalWords : List Folded → List ℕ
+totalWords fs =
+    totalSum (valuesInto 0 fs) .value ∷ totalMin (valuesInto 1 fs) .value ∷ totalAffine (valuesInto 2 fs) .multiplier ∷ totalAffine (valuesInto 2 fs) .addend ∷ []
+
 -- b₁ is the one-worker run's start, cs₁ are its calls
 pub record OneWorker (b : Start) (calls : List Call) (b₁ : Start) (cs₁ : List Call) : Type 0 where
   pub starts : startResult b₁ .result ≡ 0
@@ -332,6 +348,9 @@ pub record OneWorker (b : Start) (calls : List Call) (b₁ : Start) (cs₁ : Lis
   -- unless the last reading was refused
   pub all-free : runFrom b calls .stateless ≡ false → AllFree (runFrom b calls .now)
   pub all-free-alone : AllFree (runFrom b₁ cs₁ .now)
+  -- R-5: "in the order of Main's child-first list, as in the one-worker run"
+  pub totals : runFrom b calls .stateless ≡ false → totalsOf (runFrom b calls .now .state) ≡ totalWords (mainFolds (traceOf b calls))
+  pub totals-alone : totalsOf (runFrom b₁ cs₁ .now .state) ≡ totalWords (mainFolds (traceOf b calls))
 
 -- for each lent parts that fit, each pool "of as many whole nodes" and each choice of long enough work slices
 abbrev pub Demand3 : Start → List Call → State → List ℕ → (ℕ → List ℕ) → Type 0

@@ -1,6 +1,6 @@
 -- The entries: start, a step from outside, a tape. What each returns and leaves, on all inputs. Definitions only.
 use mathlib.Core.Bool.{Bool, cond, not, _||_, _&&_}
-use mathlib.Core.List.{List, [], _∷_}
+use mathlib.Core.List.{List, [], _∷_, _++_}
 use Prim.Native.Nat.{ℕ, zero, suc, _+_, _*_, _/_, _%_}
 use lib.ListN.{length, set, replicate}
 use lib.Dec.{eqb, ltb}
@@ -12,7 +12,7 @@ use Rattle.frames.specs.Deques.{initDeques}
 use Rattle.soundness.specs.declared.Numbers.{Numbers}
 use Rattle.soundness.specs.declared.Checked.{Checked}
 use Rattle.soundness.specs.declared.Checked.the-variants.{NoRoom, Sound}
-use Rattle.soundness.specs.Numbers.{numbersIn, numberWords}
+use Rattle.soundness.specs.Numbers.{numbersIn, numberWords, numberCount, totalCount, totalsIn}
 use Rattle.soundness.specs.Soundness.{sound, freeCount, checked, cleared}
 use Rattle.model.specs.declared.Decoded.{Decoded}
 use Rattle.model.specs.declared.Decoded.the-variants.{Valid, Invalid}
@@ -27,7 +27,7 @@ use Rattle.semantics.specs.Core.{Core, StepResult, stepOn}
 
 -- ---- the state that a host lends, in three parts of words, in the order of document 02's R-1
 
--- "workers, splitters, nodes, first free node, first free frame place; for each of 8 workers its deque length and 64 places for
+-- "workers, splitters, nodes, first free node, first free frame place", R-5's "four totals"; "for each of 8 workers its deque length and 64 places for
 -- its frames from the top; 64 frame records"
 pub record State : Type 0 where
   pub numbers : List ℕ
@@ -36,27 +36,30 @@ pub record State : Type 0 where
 
 -- each part has its length; else the entries' own refusal, 99, comes before all others and nothing changes
 abbrev pub fits : State → Bool
-fits s = eqb (length (s .numbers)) 5 && (eqb (length (s .deques)) dequeWords && eqb (length (s .frames)) frameWords)
+fits s = eqb (length (s .numbers)) numberCount && (eqb (length (s .deques)) dequeWords && eqb (length (s .frames)) frameWords)
 
 abbrev pub numbersOf : State → Numbers
 numbersOf s = numbersIn (s .numbers)
+
+abbrev pub totalsOf : State → List ℕ
+totalsOf s = totalsIn (s .numbers)
 
 -- with k free nodes
 abbrev pub headOf : Numbers → ℕ → Head
 headOf s k = record { numbers = s; height = height (s .splitters); «free_count» = k }
 
 abbrev pub coreOf : State → List ℕ → ℕ → Core
-coreOf s ws k = record { head = headOf (numbersOf s) k; deques = s .deques; frames = s .frames; pool = ws }
+coreOf s ws k = record { head = headOf (numbersOf s) k; totals = totalsOf s; deques = s .deques; frames = s .frames; pool = ws }
 
 abbrev pub stateOf : Core → State
-stateOf c = record { numbers = numberWords (c .head .numbers); deques = c .deques; frames = c .frames }
+stateOf c = record { numbers = numberWords (c .head .numbers) ++ c .totals; deques = c .deques; frames = c .frames }
 
 -- soundness of a state with the pool ws, the check's answer with the work slice ks, and the nodes on the free chain
 abbrev pub isSound : State → List ℕ → Bool
-isSound s ws = sound (numbersOf s) (s .deques) (s .frames) ws
+isSound s ws = sound (numbersOf s) (totalsOf s) (s .deques) (s .frames) ws
 
 abbrev pub checkedState : State → List ℕ → List ℕ → Checked
-checkedState s ws ks = checked (numbersOf s) (s .deques) (s .frames) ws ks
+checkedState s ws ks = checked (numbersOf s) (totalsOf s) (s .deques) (s .frames) ws ks
 
 abbrev pub chainFree : State → List ℕ → ℕ
 chainFree s ws = freeCount (numbersOf s) ws
@@ -65,7 +68,7 @@ chainFree s ws = freeCount (numbersOf s) ws
 
 -- "a refused start hands out a state of zeros"
 abbrev pub zeros : State
-zeros = record { numbers = replicate 5 0; deques = replicate dequeWords 0; frames = replicate frameWords 0 }
+zeros = record { numbers = replicate numberCount 0; deques = replicate dequeWords 0; frames = replicate frameWords 0 }
 
 -- what a start leaves: the state and the pool's words; and its result, 0 or a refusal
 pub record StartResult : Type 0 where
@@ -83,7 +86,7 @@ firstNumbers workers n nodes free = record { workers = workers; splitters = n; n
 
 abbrev pub firstState : ℕ → ℕ → ℕ → ℕ → State
 firstState workers n nodes free =
-    record { numbers = numberWords (firstNumbers workers n nodes free); deques = initDeques (replicate dequeWords 0); frames = initFrames (replicate frameWords 0) }
+    record { numbers = numberWords (firstNumbers workers n nodes free) ++ replicate totalCount 0; deques = initDeques (replicate dequeWords 0); frames = initFrames (replicate frameWords 0) }
 
 abbrev pub startAccepted : ℕ → List ℕ → List ℕ → StartResult
 startAccepted workers vs ws =

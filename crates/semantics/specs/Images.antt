@@ -1,17 +1,15 @@
--- Saving and reading an image: document 02's R-1, as R-3 changes it. What each returns and leaves, on all inputs. Definitions only.
+-- Saving and reading an image: document 02's R-1, as R-3 and R-5 change it. What each returns and leaves, on all inputs. Definitions only.
 use mathlib.Core.Bool.{cond}
-use mathlib.Core.List.{List, [], _++_}
-use Prim.Native.Nat.{ℕ, zero, suc, _*_}
-use lib.ListN.{length, take, drop, replicate}
+use mathlib.Core.List.{List, _++_}
+use Prim.Native.Nat.{ℕ, _*_}
+use lib.ListN.{length, drop, replicate}
 use lib.Dec.{leb, ltb}
-use Rattle.frames.specs.Widths.{places, recordWords}
 use Rattle.soundness.specs.declared.Checked.{Checked}
 use Rattle.soundness.specs.declared.Checked.the-variants.{NoRoom, Sound}
 use Rattle.soundness.specs.Soundness.{cleared}
 use Rattle.image.specs.declared.ImageCheck.{ImageCheck}
 use Rattle.image.specs.declared.ImageCheck.the-variants.{WrongLength, WrongCheck, Good}
-use Rattle.image.specs.Widths.{nodeWords, oldRecordWords}
-use Rattle.image.specs.Image.{asBlocks, imageOf, imageBytes, imageCheck, nodesIn, numberWordsIn, dequesIn, framesIn, poolIn, stored}
+use Rattle.image.specs.Image.{imageOf, imageBytes, imageCheck, nodesIn, numberWordsIn, dequesIn, framesIn, poolIn, stored}
 use Rattle.semantics.specs.declared.Refusal.{Refusal}
 use Rattle.semantics.specs.declared.Refusal.the-variants.{Work, Lengths, Blocks, BlockCheck, Target}
 use Rattle.semantics.specs.Answers.{refusalNumber}
@@ -47,17 +45,6 @@ saveWith s ws work target = saveChecked (checkedState s ws work) s ws work targe
 
 unfoldable pub saveOn : State → List ℕ → List ℕ → List ℕ → SaveResult
 saveOn s ws work target = cond (fits s) (saveWith s ws work target) (saveRefused work target Lengths)
-
--- ---- images from before
-
--- n frame records as R-1 had them: without R-3's word, the last
-unfoldable pub narrowed : ℕ → List ℕ → List ℕ
-narrowed zero fs = []
-narrowed (suc n) fs = take oldRecordWords fs ++ narrowed n (drop recordWords fs)
-
--- what R-1 wrote of a state, R-3's "image from before": the first word as it is, and frame records of six words
-abbrev pub imageBefore : State → List ℕ → List ℕ
-imageBefore s ws = asBlocks (s .numbers ++ s .deques ++ narrowed places (s .frames) ++ take (nodeWords * numbersOf s .nodes) ws)
 
 -- ---- reading
 

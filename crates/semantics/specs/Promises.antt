@@ -5,6 +5,7 @@ use mathlib.Core.List.{List}
 use Prim.Native.Nat.{ℕ}
 use lib.ListN.{length}
 use Rattle.frames.specs.Widths.{frameWords, dequeWords}
+use Rattle.soundness.specs.Numbers.{numberCount}
 use Rattle.semantics.specs.Entries.{State, StartResult, OutsideResult, TapeResult}
 use Rattle.semantics.specs.Images.{SaveResult, LoadResult}
 
@@ -14,7 +15,7 @@ parts ns ds fs = record { numbers = ns; deques = ds; frames = fs }
 
 -- each part has its length
 pub record Fits (s : State) : Type 0 where
-  pub numbers : length (s .numbers) ≡ 5
+  pub numbers : length (s .numbers) ≡ numberCount
   pub deques : length (s .deques) ≡ dequeWords
   pub frames : length (s .frames) ≡ frameWords
 

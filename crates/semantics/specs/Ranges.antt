@@ -1,7 +1,7 @@
 -- What the functions below the entries ask of the core: that it is sound, and the ranges that soundness gives to code which indexes
 -- without a test. The entries ask nothing: the check shows it. Definitions only.
 use mathlib.Core.Path.{_≡_}
-use mathlib.Core.Logic.{_⊎_}
+use mathlib.Core.Logic.{_≢_, _⊎_}
 use mathlib.Core.Bool.{true}
 use Prim.Native.Nat.{ℕ, zero, suc, _≤_, _<_}
 use lib.ListN.{length}
@@ -14,14 +14,16 @@ use Rattle.frames.specs.Deques.{size, place, bottom}
 use Rattle.frames.specs.Frames.{frameAt}
 use Rattle.frames.specs.Steps.{endsToo}
 use Rattle.frames.specs.Ranges.{ParentOf, ParentCounts, EndsIn}
+use Rattle.soundness.specs.Numbers.{totalCount}
 use Rattle.soundness.specs.Soundness.{sound, freeCount}
 use Rattle.semantics.specs.Core.{Core, actingIn, popped, endAt}
 
 -- a sound core: what every step keeps
 pub record Kept (c : Core) : Type 0 where
-  pub is-sound : sound (c .head .numbers) (c .deques) (c .frames) (c .pool) ≡ true
+  pub is-sound : sound (c .head .numbers) (c .totals) (c .deques) (c .frames) (c .pool) ≡ true
   pub counted : c .head .«free_count» ≡ freeCount (c .head .numbers) (c .pool)
   pub height-is : c .head .height ≡ height (c .head .numbers .splitters)
+  pub long-totals : length (c .totals) ≡ totalCount
   pub long-deques : length (c .deques) ≡ dequeWords
   pub long-frames : length (c .frames) ≡ frameWords
 
@@ -58,6 +60,8 @@ pub record Ready (c : Core) : Type 0 where
   pub root : (w : ℕ) → w < maxWorkers → 0 < size (c .deques) w → actingIn c w .root < c .head .numbers .nodes
   pub parent : (w : ℕ) → w < maxWorkers → 0 < size (c .deques) w → ParentOf (bottom (c .deques) w) (actingIn c w)
   pub counts : (w : ℕ) → w < maxWorkers → 0 < size (c .deques) w → ParentCounts (c .frames) (actingIn c w)
+  -- a bottom frame that is not the top has its parent above it
+  pub below : (w : ℕ) → w < maxWorkers → 1 < size (c .deques) w → actingIn c w .parent ≢ none
   pub upward : (w : ℕ) → w < maxWorkers → 0 < size (c .deques) w → actingIn c w .outstanding ≡ 0
       → EndsUpward (actingIn c w .depth) (endAt (popped c w) (bottom (c .deques) w)) (actingIn c w .parent)
   pub path : (w x : ℕ) → w < maxWorkers → 0 < size (c .deques) w → x < c .head .numbers .splitters → PathIn (c .head .numbers .nodes) (c .pool) (c .head .height) (actingIn c w .root) x

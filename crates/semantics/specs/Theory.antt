@@ -5,6 +5,9 @@ pub mod Relation
 pub mod Places
 -- more about the relation
 pub mod RelationFacts
+-- R-5: the links between siblings where no frame begins or ends; only views and links are stored
+pub mod LinksKept
+pub mod AlikeTables
 -- one live frame's record stored anew
 pub mod Stored
 pub mod SimRead
@@ -16,6 +19,21 @@ pub mod Resumed
 pub mod EndedFrame
 pub mod SimSync
 pub mod SimSpawn
+pub mod SimFold
+-- R-5: the views beside the plain machine and the engine's words
+pub mod Viewed
+pub mod LinksSpawn
+pub mod LinksEnd
+pub mod EndsInTurn
+-- the views after each kind of step; each keeps the relation
+pub mod ViewsAfter
+pub mod ViewsLeft
+pub mod ViewedKept
+pub mod ViewedFold
+pub mod ViewedSpawn
+pub mod NextFrame
+pub mod ViewedEnd
+pub mod ViewedTurns
 pub mod SimReturn
 -- what a return answers
 pub mod Returning
@@ -25,7 +43,7 @@ pub mod EndsUpward
 pub mod Refusals
 -- the numbers that no step changes
 pub mod NumbersKept
--- all six kinds
+-- all seven kinds
 pub mod Simulation
 -- ---- pools, soundness
 -- the two predicates on pools
@@ -52,14 +70,14 @@ pub mod TapeWords
 -- when a start is accepted
 pub mod Starts
 pub mod StartRelates
+-- R-5: the links and the views at a start
+pub mod ViewedStart
 -- what a refused call leaves; the work slice and the answer words after any call
 pub mod RefusedCalls
 -- a step of a sound core
 pub mod SoundSteps
 -- the same nodes in another pool
 pub mod Elsewhere
--- frame records as R-1 had them
-pub mod OldRecords
 -- saves and readings, call by call
 pub mod Images
 -- calls, tapes
@@ -68,6 +86,8 @@ pub mod Runs
 pub mod WholeRuns
 -- the plain machine fed records, and fed the steps among them
 pub mod ValidRecords
+-- R-5: the words of the totals
+pub mod TotalWords
 -- the relation of a run from a start; demands 2 and 3
 pub mod StartedRuns
 -- demand 2 for sound states, however obtained

@@ -22,9 +22,10 @@ pub enum Done {
     Value(u32),
     // the free nodes left
     Written(u32),
+    Folded,
 }
 
-// Document 01's refusals, 1 to 16 without 14, which no longer occurs (R-3), document 02's, 17 to 19, and the entries' own, 99.
+// Document 01's refusals, 1 to 16 without 14, which no longer occurs (R-3), document 02's, 17 to 20, and the entries' own, 99.
 pub enum Refusal {
     Values,
     Workers,
@@ -45,6 +46,8 @@ pub enum Refusal {
     Blocks,
     BlockCheck,
     Target,
+    // 20: no such reducer
+    NoReducer,
     // a lent part of the state has not the length that it must have
     Lengths,
 }

@@ -5,28 +5,31 @@ use mathlib.Core.Logic.{inl, inr}
 use mathlib.Core.List.{List, [], _∷_}
 use Prim.Native.Nat.{ℕ, zero, suc, _+_, _/_, _≤_, _<_}
 use native.Mathlib.Omega.{arith}
-use lib.ListN.{length, getD}
+use lib.ListN.{length, getD, replicate}
 use lib.Dec.{eqb, ltb}
+use Rattle.words.specs.Basics.{none}
 use Rattle.words.specs.Tests.{decided}
-use Rattle.words.specs.Below.{Words, Bytes, words-set}
+use Rattle.words.specs.Below.{Words, Bytes, below-append, below-drop, words-set, words-zeros}
 use Rattle.pool.specs.Theory.Words.{words-retain, words-release, words-write, words-initPool}
+use Rattle.reducers.specs.Law.{ViewWord}
+use Rattle.frames.specs.declared.Frame.{Frame}
 use Rattle.frames.specs.Widths.{frameWords, dequeWords}
 use Rattle.frames.specs.Frames.{frameAt, withRoot}
 use Rattle.frames.specs.Deques.{size, bottom}
 use Rattle.frames.specs.Steps.{Table, endsToo}
-use Rattle.frames.specs.Theory.Words.{words-frameAt, words-setFrame, words-root, TableWords, words-acting, words-spawn, words-waiting, bottom-word, words-endFrame, words-goOn, words-steal, words-sync, words-initFrames, words-initDeques}
+use Rattle.frames.specs.Theory.Words.{words-view, words-frameAt, words-setFrame, words-root, TableWords, words-acting, words-spawn, words-waiting, bottom-word, words-endFrame, words-goOn, words-steal, words-sync, words-fold, words-initFrames, words-initDeques}
 use Rattle.soundness.specs.declared.Numbers.{Numbers}
 use Rattle.soundness.specs.declared.Checked.{Checked}
 use Rattle.soundness.specs.declared.Checked.the-variants.{NoRoom, Sound}
-use Rattle.soundness.specs.Numbers.{numberWords, setFreePlace}
+use Rattle.soundness.specs.Numbers.{headCount, totalCount, numberWords, setFreePlace}
 use Rattle.model.specs.declared.Step.{Step}
-use Rattle.model.specs.declared.Step.the-variants.{Spawn, Return, Steal, Sync, Read, Write}
+use Rattle.model.specs.declared.Step.the-variants.{Spawn, Return, Steal, Sync, Read, Write, Fold}
 use Rattle.model.specs.declared.Decoded.{Decoded}
 use Rattle.model.specs.declared.Decoded.the-variants.{Valid, Invalid}
 use Rattle.model.specs.Record.{little, validIf, recordOf, decodeAt}
 use Rattle.semantics.specs.declared.Refusal.{Refusal}
-use Rattle.semantics.specs.Core.{Core, StepResult, tableOf, actingIn, withTable, judged, spawnOn, endAt, upward, popped, endBottom, returnOn, stealOn, syncOn, readOn, writeOn, testsOf, doneBy, stepOn}
-use Rattle.semantics.specs.Entries.{State, fits, coreOf, stateOf, checkedState, wholeNodes, startAccepted, StartResult, recordOn, outsideChecked, outsideWith, outsideOn, recordsFrom, recordsOf, recordsResult, runOn, unfitTape, tapeChecked, tapeWith, tapeOn}
+use Rattle.semantics.specs.Core.{Core, StepResult, tableOf, actingIn, withTable, judged, spawnOn, totalsAfter, endAt, upward, popped, endBottom, returnOn, stealOn, syncOn, readOn, writeOn, foldOn, testsOf, doneBy, stepOn}
+use Rattle.semantics.specs.Entries.{State, fits, coreOf, stateOf, checkedState, wholeNodes, firstNumbers, startAccepted, StartResult, recordOn, outsideChecked, outsideWith, outsideOn, recordsFrom, recordsOf, recordsResult, runOn, unfitTape, tapeChecked, tapeWith, tapeOn}
 use Rattle.semantics.specs.Calls.{Start, afterStart, startResult, HostCall, outside, tape, StateAndPool, afterCall}
 use Rattle.semantics.specs.Demands.{StateWords, HostWords}
 use Rattle.semantics.specs.Theory.Starts.{started-fit}
@@ -35,6 +38,7 @@ use Rattle.semantics.specs.Theory.Starts.{started-fit}
 
 pub record CoreWords (c : Core) : Type 0 where
   pub numbers : Words (numberWords (c .head .numbers))
+  pub totals : Words (c .totals)
   pub deques : Words (c .deques)
   pub frames : Words (c .frames)
   pub pool : Words (c .pool)
@@ -48,11 +52,18 @@ number-words s a b c d e (suc (suc (suc (suc zero)))) = e
 number-words s a b c d e (suc (suc (suc (suc (suc i))))) = omega arith
 
 pub state-words : (c : Core) → CoreWords c → StateWords (stateOf c) (c .pool)
-state-words c C = record { numbers = C .numbers; deques = C .deques; frames = C .frames; pool = C .pool }
+state-words c C =
+    record { numbers = below-append 4294967296 (numberWords (c .head .numbers)) (c .totals) (C .numbers) (C .totals); deques = C .deques; frames = C .frames; pool = C .pool }
 
 pub core-words : (s : State) (ws : List ℕ) (k : ℕ) → StateWords s ws → CoreWords (coreOf s ws k)
 core-words s ws k S =
-    record { numbers = number-words _ (S .numbers 0) (S .numbers 1) (S .numbers 2) (S .numbers 3) (S .numbers 4); deques = S .deques; frames = S .frames; pool = S .pool }
+    record {
+      numbers = number-words _ (S .numbers 0) (S .numbers 1) (S .numbers 2) (S .numbers 3) (S .numbers 4);
+      totals = below-drop 4294967296 headCount (s .numbers) (S .numbers);
+      deques = S .deques;
+      frames = S .frames;
+      pool = S .pool;
+    }
 
 -- ---- a record: what it stores is a word
 
@@ -63,6 +74,7 @@ RecordWords (Valid (Steal w v)) = Unit {0}
 RecordWords (Valid (Sync w)) = Unit {0}
 RecordWords (Valid (Read w x)) = Unit {0}
 RecordWords (Valid (Write w x v)) = v < 4294967296
+RecordWords (Valid (Fold w r v)) = Unit {0}
 RecordWords Invalid = Unit {0}
 
 -- each of these
@@ -86,7 +98,8 @@ outside-words kind worker field value h =
     (either-words (eqb kind 3) _ _ (valid-words (eqb value 0) (Steal worker field) tt)
     (either-words (eqb kind 4) _ _ (valid-words (eqb field 0 && eqb value 0) (Sync worker) tt)
     (either-words (eqb kind 5) _ _ (valid-words (eqb value 0) (Read worker field) tt)
-    (either-words (eqb kind 6) (Valid (Write worker field value)) Invalid h tt)))))
+    (either-words (eqb kind 6) (Valid (Write worker field value)) _ h
+    (either-words (eqb kind 7) (Valid (Fold worker field value)) Invalid tt tt))))))
 
 decoded-words : (bytes : List ℕ) (at : ℕ) → Bytes bytes → RecordWords (decodeAt bytes at)
 unfolding decodeAt
@@ -107,14 +120,18 @@ table-words c C = record { deques = C .deques; frames = C .frames; place = C .nu
 
 -- another table
 table-kept : (c : Core) (t : Table) → CoreWords c → TableWords t → CoreWords (withTable c t)
-table-kept c t C T = record { numbers = words-set (numberWords (c .head .numbers)) 4 _ (C .numbers) (T .place); deques = T .deques; frames = T .frames; pool = C .pool }
+table-kept c t C T = record { numbers = words-set (numberWords (c .head .numbers)) 4 _ (C .numbers) (T .place); totals = C .totals; deques = T .deques; frames = T .frames; pool = C .pool }
 
 -- the one result or the other
 either-result : (b : Bool) (x y : StepResult) → CoreWords (x .core) → CoreWords (y .core) → CoreWords (cond b x y .core)
 either-result b x y h k = elim (decided b) [ inl e ↦ rw e h | inr e ↦ rw e k ]
 
 popped-words : (c : Core) (w : ℕ) → CoreWords c → CoreWords (popped c w)
-popped-words c w C = record { numbers = C .numbers; deques = words-waiting (tableOf c) w (table-words c C) .deques; frames = C .frames; pool = C .pool }
+popped-words c w C = record { numbers = C .numbers; totals = C .totals; deques = words-waiting (tableOf c) w (table-words c C) .deques; frames = C .frames; pool = C .pool }
+
+-- R-5: the words of the totals are Main's view, at its end
+totals-words : (c : Core) (f : Frame) → ViewWord (f .view) → CoreWords c → Words (totalsAfter c f)
+totals-words c f h C = elim (decided (eqb (f .parent) none)) [ inl e ↦ rw e (words-view (f .view) h) | inr e ↦ rw e (C .totals) ]
 
 endAt-words : (c : Core) (p : ℕ) → p < 4294967296 → CoreWords c → CoreWords (endAt c p)
 unfolding endAt
@@ -123,6 +140,7 @@ endAt-words c p h C =
     let P = words-release (c .head .height) (c .pool) (c .head .numbers .«free_node») (c .head .«free_count») (frameAt (c .frames) p .root) (C .pool) (C .numbers 3) (f .root) in
     record {
       numbers = words-set (numberWords (setFreePlace (c .head .numbers) p)) 3 _ (words-set (numberWords (c .head .numbers)) 4 p (C .numbers) h) (P .free);
+      totals = totals-words c (frameAt (c .frames) p) (f .view) C;
       deques = C .deques;
       frames = words-endFrame (c .frames) (c .head .numbers .«free_place») p (C .numbers 4) (C .frames);
       pool = P .words;
@@ -159,26 +177,37 @@ module _ (c : Core) (C : CoreWords c) where
   done-words (Spawn w) h =
       let T = words-spawn (tableOf c) w (table-words c C) in
       unfold spawnOn in
-      record { numbers = words-set (numberWords (c .head .numbers)) 4 _ (C .numbers) (T .place); deques = T .deques; frames = T .frames; pool = words-retain (c .pool) _ (C .pool) }
+      record {
+        numbers = words-set (numberWords (c .head .numbers)) 4 _ (C .numbers) (T .place);
+        totals = C .totals;
+        deques = T .deques;
+        frames = T .frames;
+        pool = words-retain (c .pool) _ (C .pool);
+      }
   done-words (Return w) h = return-words c w C
   done-words (Steal w v) h =
       let T = words-steal (tableOf c) w v (table-words c C) in
       unfold stealOn in
-      record { numbers = C .numbers; deques = T .deques; frames = C .frames; pool = C .pool }
+      record { numbers = C .numbers; totals = C .totals; deques = T .deques; frames = C .frames; pool = C .pool }
   done-words (Sync w) h =
       let T = words-sync (tableOf c) w (table-words c C) in
       unfold syncOn in
-      record { numbers = C .numbers; deques = T .deques; frames = T .frames; pool = C .pool }
+      record { numbers = C .numbers; totals = C .totals; deques = T .deques; frames = T .frames; pool = C .pool }
   done-words (Read w x) h = unfold readOn in C
   done-words (Write w x v) h =
       let P = words-write (c .head .height) (c .pool) (c .head .numbers .«free_node») (c .head .«free_count») (actingIn c w .root) x v (C .pool) (C .numbers 3) (root-word w) h in
       unfold writeOn in
       record {
         numbers = words-set (numberWords (c .head .numbers)) 3 _ (C .numbers) (P .free);
+        totals = C .totals;
         deques = C .deques;
         frames = words-setFrame (c .frames) (bottom (c .deques) w) (withRoot (actingIn c w) _) (C .frames) (words-root (actingIn c w) (words-acting (tableOf c) w (table-words c C)) _ (P .root));
         pool = P .words;
       }
+  done-words (Fold w r v) h =
+      let T = words-fold (tableOf c) w (table-words c C) r v in
+      unfold foldOn in
+      record { numbers = C .numbers; totals = C .totals; deques = C .deques; frames = T .frames; pool = C .pool }
 
   judged-words : (ts : List (Bool × Refusal)) (d : StepResult) → CoreWords (d .core) → CoreWords (judged ts c d .core)
   judged-words [] d D = D
@@ -202,7 +231,13 @@ run-words (d ∷ ds) c answers k C h = run-words ds (recordOn c d .core) _ (k + 
 pub start-words : (workers : ℕ) (vs ws : List ℕ) → workers < 4294967296 → Words vs → Words ws → length vs ≤ 256 → wholeNodes ws ≤ 16384 → StateWords (startAccepted workers vs ws .state) (startAccepted workers vs ws .pool)
 start-words workers vs ws a h k l m =
     let P = words-initPool ws (length vs) (wholeNodes ws) vs k h in
-    record { numbers = number-words _ a (omega arith) (omega arith) (P .1) (omega arith); deques = words-initDeques dequeWords; frames = words-initFrames frameWords; pool = P .0 }
+    let s : Numbers = firstNumbers workers (length vs) (wholeNodes ws) _ in
+    record {
+      numbers = below-append 4294967296 (numberWords s) (replicate totalCount 0) (number-words s a (omega arith) (omega arith) (P .1) (omega arith)) (words-zeros totalCount);
+      deques = words-initDeques dequeWords;
+      frames = words-initFrames frameWords;
+      pool = P .0;
+    }
 
 -- an accepted start, whatever the lent parts hold
 pub started-words : (b : Start) → startResult b .result ≡ 0 → Words (b .values) → Words (b .pool) → StateWords (afterStart b .state) (afterStart b .pool)

@@ -18,7 +18,7 @@ use Rattle.semantics.specs.Theory.SoundSteps.{Carried}
 
 -- the core with another pool
 abbrev pub withPool : Core → List ℕ → Core
-withPool c ws = record { head = c .head; deques = c .deques; frames = c .frames; pool = ws }
+withPool c ws = record { head = c .head; totals = c .totals; deques = c .deques; frames = c .frames; pool = ws }
 
 -- the predicate P holds there too, and the frames read what they read here
 abbrev pub Elsewhere : ℕ → ℕ → Trees → Type 0
@@ -34,7 +34,8 @@ module _ (N n : ℕ) (most : N ≤ 16384) where
   pub good-trees : Elsewhere N n (GoodTrees N n)
   good-trees ws ws' free k Fs G S = (good-elsewhere N n most G S, live-trees ws ws' free k Fs (good-live G) S .1)
 
-pub relates-elsewhere : {N : ℕ} {P : Trees} {M : Machine} {c : Core} (ws' : List ℕ) → Elsewhere N (M .splitters) P → Relates P M c → SameNodes N (c .pool) ws' → Relates P M (withPool c ws')
+-- the frames keep their places, so that the links and the views beside the relation stand as they are
+unfoldable pub relates-elsewhere : {N : ℕ} {P : Trees} {M : Machine} {c : Core} (ws' : List ℕ) → Elsewhere N (M .splitters) P → Relates P M c → SameNodes N (c .pool) ws' → Relates P M (withPool c ws')
 relates-elsewhere {M = M} {c} ws' E r S =
     let T = E (c .pool) ws' _ _ _ (r .trees) S in
     record {
@@ -47,13 +48,16 @@ relates-elsewhere {M = M} {c} ws' E r S =
       waiting = r .waiting;
       once = r .once;
       vacant = r .vacant;
+      totals = r .totals;
       trees = T .0;
       values = λ f m x b. T .1 (treeOf (c .frames) (r .at) f) (In-map (treeOf (c .frames) (r .at)) m) x b ∙ r .values f m x b;
     }
 
 pub carried-elsewhere : (M : Machine) (c : Core) (ws' : List ℕ) → Carried M c → SameNodes (c .head .numbers .nodes) (c .pool) ws' → Carried M (withPool c ws')
+unfolding relates-elsewhere
 carried-elsewhere M c ws' K S = record {
   related = relates-elsewhere ws' (live-trees (c .head .numbers .nodes) (M .splitters) (K .related .numbers .nodes-le)) (K .related) S;
+  links = K .links;
   tree = K .tree;
   deques = K .deques;
   marks = K .marks;

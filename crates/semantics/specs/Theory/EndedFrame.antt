@@ -5,11 +5,12 @@ use mathlib.Core.Logic.{_≢_, inl, inr}
 use mathlib.Core.Bool.{cond}
 use mathlib.Core.List.{List·Memᴰ as In, List·Memᴰ·head as here, List·Memᴰ·tail as there, List·Memᴰ·cases-cons as In-cons, Memᴰ·map as In-map}
 use mathlib.Core.List.{List, [], _∷_, List·Permᴰ, Permᴰ·symm, Permᴰ·map}
+use borrow.Author.Tests.{eq-eqb, ne-eqb}
 use Prim.Native.Nat.{ℕ, _+_, _<_}
 use native.Mathlib.Omega.{arith}
 use native.Mathlib.Decide.{ℕ-discrete}
 use lib.ListN.{length, getD}
-use Rattle.words.specs.Basics.{joined, same}
+use Rattle.words.specs.Basics.{none, joined, same}
 use Rattle.words.specs.Tests.{decided}
 use Rattle.words.specs.Lists.{In-perm}
 use Rattle.words.specs.Distinct.{same-eq, same-ne, same-refl, same-differ}
@@ -20,16 +21,20 @@ use Rattle.frames.specs.Widths.{places, frameWords}
 use Rattle.frames.specs.Deques.{dequeList}
 use Rattle.frames.specs.declared.Frame.{Frame as FrameWords}
 use Rattle.frames.specs.Frames.{frameAt, withoutChild, freePlace}
-use Rattle.frames.specs.Steps.{endFrame}
+use Rattle.frames.specs.Siblings.{nextAfter}
+use Rattle.frames.specs.Steps.{removeFrame, endFrame}
+use Rattle.frames.specs.Theory.Alike.{Alike, alike-refl}
+use Rattle.frames.specs.Theory.Ends.{end-last, end-alike}
 use Rattle.frames.specs.Theory.Cells.{Shaped}
 use Rattle.frames.specs.Theory.Places.{FreePlaces}
 use Rattle.frames.specs.Theory.Summary.{Ends, end-main, end-child}
 use Rattle.model.specs.Machine.{Name, Frame, Machine, live, withFrames, isChild}
 use Rattle.model.specs.Theory.LiveRun.{disjoint-perm}
 use Rattle.model.specs.Theory.FrameTree.{FrameTree, names-apart}
-use Rattle.semantics.specs.Core.{Core, tableOf, endAt}
-use Rattle.semantics.specs.Theory.Relation.{Trees, TreeLaws, Kept, parentPlace, childCount, placesOf, rootOf, rootsOf, Recorded, Relates}
+use Rattle.semantics.specs.Core.{Core, tableOf, withFreePlace, withFreeNodes, totalsAfter, endAt}
+use Rattle.semantics.specs.Theory.Relation.{Trees, TreeLaws, Kept, parentPlace, childCount, placesOf, rootOf, rootsOf, Recorded, TotalsKept, Relates}
 use Rattle.semantics.specs.Theory.Places.{count-perm, childCount-perm, map-cong, PlacedOnce, treeOf, same-numbers, recorded, recorded-as, recorded-kept, placed-inside, placed-taken, placed-apart}
+use Rattle.semantics.specs.Theory.AlikeTables.{relates-alike}
 
 -- the frame table after the end of g, the others being R
 pub record FramesAfter {P : Trees} {M : Machine} {c : Core} (r : Relates P M c) (g : Frame) (R : List Frame) (fs′ : List ℕ) : Type 0 where
@@ -45,7 +50,7 @@ module _ {P : Trees} {M : Machine} {c : Core} (r : Relates P M c) (tree : FrameT
   own = r .at (g .name)
 
   abbrev fs′ : List ℕ
-  fs′ = endFrame (c .frames) (c .head .numbers .«free_place») own
+  fs′ = removeFrame (c .frames) (c .head .numbers .«free_place») own
 
   old : (f : Frame) → In f (g ∷ R) → In f (live M)
   old f m = In-perm (Permᴰ·symm before) m
@@ -162,6 +167,12 @@ module _ {P : Trees} {M : Machine} {c : Core} (r : Relates P M c) (tree : FrameT
       by-name [] z = main-after z
       by-name (k ∷ p) z = let h = parent-lives k p z in child-after k p z (h .0) (h .1) (h .2)
 
+-- ---- the next frame in the order of the live frames
+
+-- the next one after g, which is not Main, is one of the others, R
+abbrev pub NextIn : {P : Trees} {M : Machine} {c : Core} (r : Relates P M c) (g : Frame) (R : List Frame) → Type 0
+NextIn {c = c} r g R = (k : ℕ) (p : Name) → g .name ≡ k ∷ p → (n : Frame) × In n R × (nextAfter (c .frames) (r .at (g .name)) ≡ r .at (n .name))
+
 -- ---- the whole: ds and ss are the deques and the suspended frames afterwards, dsw the words of the deques
 
 pub record Left {P : Trees} {M : Machine} {c : Core} (r : Relates P M c) (R : List Frame) (ds : List (List Frame)) (ss : List Frame) (dsw : List ℕ) : Type 0 where
@@ -174,7 +185,7 @@ pub record Left {P : Trees} {M : Machine} {c : Core} (r : Relates P M c) (R : Li
 
 -- the core with other deques
 abbrev pub withDeques : Core → List ℕ → Core
-withDeques c ds = record { head = c .head; deques = ds; frames = c .frames; pool = c .pool }
+withDeques c ds = record { head = c .head; totals = c .totals; deques = ds; frames = c .frames; pool = c .pool }
 
 module _ {P : Trees} {M : Machine} {c : Core} (r : Relates P M c) (tree : FrameTree M) (g : Frame) (R : List Frame) (before : List·Permᴰ (live M) (g ∷ R))
     (ds : List (List Frame)) (ss : List Frame) (dsw : List ℕ) (X : Left r R ds ss dsw) where
@@ -231,23 +242,70 @@ module _ {P : Trees} {M : Machine} {c : Core} (r : Relates P M c) (tree : FrameT
         ∙ pool-left .1 (treeOf (c .frames) (r .at) f) (In-map (treeOf (c .frames) (r .at)) i) x b
         ∙ r .values f (In-perm (Permᴰ·symm before) (there i)) x b
 
-    relates-left : Relates P (withFrames M ds ss) (endAt (withDeques c dsw) (r .at (g .name)))
-    unfolding endAt
+    -- the core with the frame removed, its view not yet handed on
+    abbrev removed : Core
+    removed = record {
+      head = withFreeNodes (withFreePlace (c .head) (r .at (g .name))) (pool′ .1) (pool′ .2);
+      totals = totalsAfter c (frameAt (c .frames) (r .at (g .name)));
+      deques = dsw;
+      frames = after-words;
+      pool = pool′ .0;
+    }
+
+    own-parent : frameAt (c .frames) (r .at (g .name)) .parent ≡ parentPlace (r .at) (g .name)
+    own-parent = own-record r tree g R before .1 .parent
+
+    is-main : g .name ≡ [] → frameAt (c .frames) (r .at (g .name)) .parent ≡ none
+    is-main z = own-parent ∙ ap (parentPlace (r .at)) z
+
+    -- its parent is at a place
+    not-main : (k : ℕ) (p : Name) → g .name ≡ k ∷ p → frameAt (c .frames) (r .at (g .name)) .parent ≢ none
+    not-main k p z m =
+        let h = parent-lives r tree g R before k p z in
+        omega (arith, m, own-parent ∙ ap (parentPlace (r .at)) z, ap (r .at) (h .2), placed-inside r (h .0) (old r tree g R before (h .0) (there (h .1))))
+
+    totals-left : TotalsKept (removed .totals) (live M′)
+    totals-left = by-name (g .name) refl
+      where
+        by-name : (n : Name) → g .name ≡ n → TotalsKept (removed .totals) (live M′)
+        by-name [] z = rw (eq-eqb (frameAt (c .frames) (r .at (g .name)) .parent) none (is-main z))
+            (record { long = refl; zero = λ f m y. absurd (apart r tree g R before f (In-perm (X .frames) m) (y ∙ sym z)) })
+        by-name (k ∷ p) z = rw (ne-eqb (frameAt (c .frames) (r .at (g .name)) .parent) none (not-main k p z))
+            (record { long = r .totals .long; zero = λ f m y. r .totals .zero f (old r tree g R before f (there (In-perm (X .frames) m))) y })
+
+    abbrev relates-left : Relates P (withFrames M ds ss) removed
     relates-left = record {
       at = r .at;
       gs = r .at (g .name) ∷ r .gs;
-      numbers = same-numbers M c (endAt (withDeques c dsw) (r .at (g .name))) ds ss (X .workers) (r .numbers) refl refl refl refl;
+      numbers = same-numbers M c removed ds ss (X .workers) (r .numbers) refl refl refl refl;
       formed = record { shaped = X .shaped; long = A .long; places = A .places };
       deques = X .deques;
       running = λ f m. (let x = X .running f m in A .kept (live M′) (X .frames) f (x .0) 0 (r .running f (x .1)));
       waiting = λ f m. (let x = X .waiting f m in A .kept (live M′) (X .frames) f (x .0) 1 (r .waiting f (x .1)));
       once = once-left;
       vacant = vacant-left;
+      totals = totals-left;
       trees = trees-left;
       values = values-left;
     }
 
+    -- the frame table afterwards
+    abbrev ended-words : List ℕ
+    ended-words = endFrame (c .frames) (c .head .numbers .«free_place») (r .at (g .name))
+
+    alike : NextIn r g R → Alike after-words ended-words
+    alike next = by-name (g .name) refl
+      where
+        by-name : (n : Name) → g .name ≡ n → Alike after-words ended-words
+        by-name [] z = rw (end-last (c .frames) (c .head .numbers .«free_place») (r .at (g .name)) (is-main z)) (alike-refl after-words)
+        by-name (k ∷ p) z =
+            let x = next k p z in
+            let i = In-perm (Permᴰ·symm before) (there (x .1)) in
+            let W = A .kept (live M′) (X .frames) (x .0) (x .1) (recorded r (x .0) i .0) (recorded r (x .0) i .1) in
+            end-alike (c .frames) (c .head .numbers .«free_place») (r .at (g .name)) (r .formed .long) (not-main k p z)
+            (subst (λ (y : ℕ). y < places) (sym (x .2)) (W .inside)) (subst (λ (y : ℕ). frameAt after-words y .live ≡ 1) (sym (x .2)) (W .live))
+
     -- the frames that are left keep their places
-    pub end-relates : (r′ : Relates P (withFrames M ds ss) (endAt (withDeques c dsw) (r .at (g .name)))) × (r′ .at ≡ r .at)
-    unfolding relates-left
-    end-relates = (relates-left, refl)
+    pub end-relates : NextIn r g R → (r′ : Relates P (withFrames M ds ss) (endAt (withDeques c dsw) (r .at (g .name)))) × (r′ .at ≡ r .at)
+    unfolding endAt
+    end-relates next = (relates-alike relates-left ended-words (alike next), refl)

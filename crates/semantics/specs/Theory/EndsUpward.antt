@@ -26,7 +26,7 @@ use Rattle.model.specs.Theory.Effects.{there-is-worker}
 use Rattle.model.specs.Theory.FrameTree.{FrameTree}
 use Rattle.semantics.specs.Core.{Core, actingIn, popped, endAt}
 use Rattle.semantics.specs.Ranges.{EndsAt, EndsUpward}
-use Rattle.semantics.specs.Theory.Relation.{Trees, TreeLaws, parentPlace, rootsOf, Recorded, Relates}
+use Rattle.semantics.specs.Theory.Relation.{Trees, TreeLaws, parentPlace, rootsOf, Recorded, Relates, Links}
 use Rattle.semantics.specs.Theory.Places.{treeOf, recorded, placed-inside, placed-apart, acting-place, acting-frame, acting-record}
 use Rattle.semantics.specs.Theory.RelationFacts.{parent-count}
 use Rattle.semantics.specs.Theory.SimReturn.{ends-by}
@@ -104,7 +104,7 @@ module _ (N n : ℕ) (most : N ≤ 16384) (some : 1 ≤ n) where
 
   -- ---- after the end of worker w's bottom frame
 
-  module _ (M : Machine) (c : Core) (r : Relates P M c) (laws : TreeLaws (c .head .numbers .nodes) (M .splitters) P) (tree : FrameTree M) (e : c .head .numbers .nodes ≡ N)
+  module _ (M : Machine) (c : Core) (r : Relates P M c) (laws : TreeLaws (c .head .numbers .nodes) (M .splitters) P) (tree : FrameTree M) (K : Links (c .frames) (r .at) (live M)) (e : c .head .numbers .nodes ≡ N)
       (w : ℕ) (busy : 0 < size (c .deques) w) (free : actingIn c w .outstanding ≡ 0) where
     by-deque : (l : List Frame) → deque M w ≡ l → EndsUpward (actingIn c w .depth) (endAt (popped c w) (bottom (c .deques) w)) (actingIn c w .parent)
     by-deque [] z = absurd (omega (arith, busy, size-same r w, ap length z))
@@ -117,7 +117,7 @@ module _ (N n : ℕ) (most : N ≤ 16384) (some : 1 ≤ n) where
           | inl t ↦ absurd (parent-count (q .name) (live M) t (sym (own .outstanding) ∙ sym (ap (λ (f : FrameWords). f .outstanding) is) ∙ free))
           | inr t ↦ t
         ] in
-        rw (is, acting-place r w q d lt z, own .depth, own .parent) (ends-by P Rising (λ x y u. tt) turn M c r laws tree w q d lt z childless (same-nodes (popped c w) (r .at (q .name)) e))
+        rw (is, acting-place r w q d lt z, own .depth, own .parent) (ends-by P Rising (λ x y u. tt) turn M c r laws tree K w q d lt z childless (same-nodes (popped c w) (r .at (q .name)) e))
 
     pub ends-upward : EndsUpward (actingIn c w .depth) (endAt (popped c w) (bottom (c .deques) w)) (actingIn c w .parent)
     ends-upward = by-deque (deque M w) refl

@@ -8,12 +8,13 @@ use Prim.Native.Nat.{ℕ, zero, suc, _+_, _≤_, _<_}
 use native.Mathlib.Omega.{arith}
 use native.Mathlib.Decide.{ℕ-discrete, decLt}
 use lib.ListN.{length}
-use lib.Dec.{eqb, ltb}
+use lib.Dec.{eqb}
 use borrow.Author.Tests.{eqb-true, eq-eqb, ne-eqb}
 use Rattle.words.specs.Basics.{sum, joined, below, δ, count}
-use Rattle.words.specs.Tests.{decided, both, lt-of, ltb-of}
-use Rattle.words.specs.Counting.{δ-same, δ-other, count-nil, count-cons, count-append, sum-cong, sum-upd, sum-zero, sum-pos, sum-first, hit, miss, range, when, when-zero, when-pos}
+use Rattle.words.specs.Tests.{decided, both, ltb-of}
+use Rattle.words.specs.Counting.{δ-same, δ-other, count-nil, count-cons, count-append, sum-cong, sum-pos, sum-first, hit, miss, range, when, when-zero, when-pos}
 use Rattle.words.specs.Tallies.{and-of}
+pub use Rattle.words.specs.Tallies.{total, total-sum}
 use Rattle.frames.specs.Widths.{places}
 use Rattle.frames.specs.Frames.{frameAt}
 use Rattle.frames.specs.Deques.{size, place, dequeList, placesTo}
@@ -39,26 +40,6 @@ count-In p (x ∷ L) h = elim (ℕ-discrete p x) [ yes e ↦ here e | no e ↦ t
 pub below-of : (N : ℕ) (L : List ℕ) → ((p : ℕ) → In p L → p < N) → below N L ≡ true
 below-of N [] h = refl
 below-of N (x ∷ L) h = and-of (ltb-of (h x (here refl))) (below-of N L (λ p m. h p (there m)))
-
--- ---- a sum over a list of places, each there once
-
-abbrev pub total : (ℕ → ℕ) → List ℕ → ℕ
-total g [] = 0
-total g (x ∷ xs) = g x + total g xs
-
-pub total-sum : (N : ℕ) (g : ℕ → ℕ) (L : List ℕ) → below N L ≡ true → ((p : ℕ) → p < N → count p L ≤ 1) → total g L ≡ sum N (λ p. when (count p L) (g p))
-total-sum N g [] b h = sym (sum-zero N (λ p. when (count p []) (g p)) (λ p c. when-zero (count p []) (g p) (count-nil p)))
-total-sum N g (x ∷ L) b h =
-    let r = both (ltb x N) (below N L) b in
-    let z : count x L ≡ 0 = omega (arith, h x (lt-of (r .0)), count-cons x x L, δ-same x) in
-    omega (
-      arith,
-      total-sum N g L (r .1) (λ p c. omega (arith, h p c, count-cons p x L)),
-      sum-upd N x (λ p. when (count p (x ∷ L)) (g p)) (λ p. when (count p L) (g p)) (lt-of (r .0))
-          (λ p c d. ap (λ k. when k (g p)) (count-cons p x L ∙ omega (arith, δ-other p x d))),
-      when-zero (count x L) (g x) z,
-      when-pos (count x (x ∷ L)) (g x) (omega (arith, count-cons x x L, δ-same x)),
-    )
 
 -- ---- deques
 

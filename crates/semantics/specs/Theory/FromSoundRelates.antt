@@ -2,7 +2,7 @@
 use mathlib.Core.Path.{_≡_, refl, sym, ap, _∙_, subst}
 use mathlib.Core.Logic.{_⊎_, inl, inr}
 use mathlib.Core.List.{List·Memᴰ as In, List·Memᴰ·head as here, List·Memᴰ·not-nil as not-in-nil, List·Memᴰ·eq-of-singleton as In-one, Memᴰ·map as In-map, Memᴰ·of-map as In-unmap}
-use mathlib.Core.List.{List, [], _∷_, _++_, map}
+use mathlib.Core.List.{List, [], _∷_, _++_, map, cons≢nil}
 use mathlib.Core.Bool.{true, false}
 use Prim.Native.Nat.{ℕ, zero, suc, _+_, _≤_, _<_}
 use native.Mathlib.Omega.{arith}
@@ -17,6 +17,8 @@ use Rattle.pool.specs.Pool.{readAt}
 use Rattle.pool.specs.Theory.Sharing.{rootsOf as treeRoots}
 use Rattle.frames.specs.Widths.{places, frameWords, dequeWords}
 use Rattle.frames.specs.Deques.{dequeList}
+use Rattle.frames.specs.Siblings.{younger, Children}
+use Rattle.soundness.specs.Numbers.{totalCount}
 use Rattle.frames.specs.Frames.{frameAt}
 use Rattle.frames.specs.Theory.Lists.{list-empty}
 use Rattle.soundness.specs.declared.Numbers.{Numbers}
@@ -30,12 +32,12 @@ use Rattle.model.specs.Theory.Histories.{inUse-within, inUse-none}
 use Rattle.model.specs.Theory.PoolBound.{inUse-main}
 use Rattle.semantics.specs.Core.{Core}
 use Rattle.semantics.specs.Entries.{headOf}
-use Rattle.semantics.specs.Theory.Relation.{childCount, rootsOf, placesOf, bit, Recorded, Relates}
+use Rattle.semantics.specs.Theory.Relation.{childCount, rootsOf, placesOf, bit, Recorded, Relates, Links, TotalsKept}
 use Rattle.semantics.specs.Theory.Places.{in-deque}
 use Rattle.semantics.specs.Theory.Pools.{LiveTrees}
 use Rattle.soundness.specs.Theory.Sentences.{Lives, FramesFacts, SoundFacts, sound-facts}
 use Rattle.semantics.specs.Theory.PoolSentences.{pool-live}
-use Rattle.semantics.specs.SoundMachine.{nameOf, placeOf, frameOf, framesOf, waitingPlaces, runningPlaces, livePlaces, machineOf}
+use Rattle.semantics.specs.SoundMachine.{nameOf, placeOf, frameOf, framesOf, waitingPlaces, runningPlaces, livePlaces, machineOf, nameFrom}
 use Rattle.semantics.specs.Theory.FromSoundNames.{Rooted, rooted-facts, length-name, place-name, parent-name}
 use Rattle.semantics.specs.Theory.FromSoundPlaces.{deque-live, running-of, waiting-of, live-of, of-live, live-one, live-none, live-once, live-short, live-roots, live-children}
 use Rattle.semantics.specs.Theory.FromSoundTree.{AllLive, places-frames, roots-frames, children-frames, disjoint-frames, rooted-frames, waits-frames, shape-frames}
@@ -69,8 +71,17 @@ word-bit x (inr e) = e ∙ ap bit (sym (eq-eqb x 1 e))
 
 -- ---- the core of numbers and words, with the free nodes counted
 
-abbrev pub countedCore : Numbers → List ℕ → List ℕ → List ℕ → Core
-countedCore s ds fs ws = record { head = headOf s (freeCount s ws); deques = ds; frames = fs; pool = ws }
+abbrev pub countedCore : Numbers → List ℕ → List ℕ → List ℕ → List ℕ → Core
+countedCore s ts ds fs ws = record { head = headOf s (freeCount s ws); totals = ts; deques = ds; frames = fs; pool = ws }
+
+-- a frame without a name's number is of depth 0
+flat-from : (d : ℕ) (fs : List ℕ) (p : ℕ) → nameFrom d fs p ≡ [] → d ≡ 0
+unfolding nameFrom
+flat-from zero fs p e = refl
+flat-from (suc d) fs p e = absurd (cons≢nil e)
+
+flat : (fs : List ℕ) (p : ℕ) → nameOf fs p ≡ [] → frameAt fs p .depth ≡ 0
+flat fs p e = flat-from (frameAt fs p .depth) fs p e
 
 -- ---- the machine's lists
 
@@ -100,7 +111,7 @@ module _ (s : Numbers) (ds fs ws : List ℕ) where
 
   -- ---- what soundness gives
 
-  module _ (S : SoundFacts s ds fs ws) where
+  module _ (ts : List ℕ) (S : SoundFacts s ts ds fs ws) where
     abbrev F : FramesFacts (s .workers) (s .«free_place») ds fs
     F = S .frames
 
@@ -172,8 +183,18 @@ module _ (s : Numbers) (ds fs ws : List ℕ) where
         subst (λ (g : Frame). readAt (height (s .splitters)) ws (frameAt fs (at (g .name)) .root) x ≡ getD (g .values) x 0) (y .2)
         (ap (λ q. readAt (height (s .splitters)) ws (frameAt fs q .root) x) (place-name fs R (y .0) (l .0) (l .1)) ∙ sym (getD-range read 0 (s .splitters) 0 x b ∙ ap read e))
 
-    relates-there : length ds ≡ dequeWords → length fs ≡ frameWords → Relates (LiveTrees (s .nodes) (s .splitters)) M (countedCore s ds fs ws)
-    relates-there dlen flen = record {
+    -- the totals are zero while a frame lives
+    totals-there : length ts ≡ totalCount → TotalsKept ts (live M)
+    totals-there tlen = record {
+      long = tlen;
+      zero = λ f m e.
+          let x = In-unmap framed L (subst (In f) live-frames m) in
+          let l = live-there (x .0) (x .1) in
+          S .totals (x .0) (l .0) (l .1);
+    }
+
+    relates-there : length ts ≡ totalCount → length ds ≡ dequeWords → length fs ≡ frameWords → Relates (LiveTrees (s .nodes) (s .splitters)) M (countedCore s ts ds fs ws)
+    relates-there tlen dlen flen = record {
       at = at;
       gs = F .places .gs;
       numbers = record {
@@ -193,8 +214,24 @@ module _ (s : Numbers) (ds fs ws : List ℕ) where
       waiting = waiting-recorded;
       once = once-there;
       vacant = λ p b h. elim (F .places .each p b) [ inl r ↦ absurd (omega (arith, r .1)) | inr r ↦ r .0 ];
+      totals = totals-there tlen;
       trees = trees-there;
       values = values-there;
+    }
+
+    -- R-5: the links chain the live children of each frame
+    links-there : Links fs at (live M)
+    links-there = record {
+      children = λ f m.
+          let x = In-unmap framed L (subst (In f) live-frames m) in
+          let l = live-there (x .0) (x .1) in
+          let C = F .siblings (x .0) (l .0) (l .1) in
+          (C .0, subst (λ (q : ℕ). Children fs q (C .0)) (sym (ap (λ (g : Frame). at (g .name)) (sym (x .2)) ∙ place-name fs R (x .0) (l .0) (l .1))) (C .1));
+      main-link = λ f m e.
+          let x = In-unmap framed L (subst (In f) live-frames m) in
+          let l = live-there (x .0) (x .1) in
+          let there : at (f .name) ≡ x .0 = ap (λ (g : Frame). at (g .name)) (sym (x .2)) ∙ place-name fs R (x .0) (l .0) (l .1) in
+          ap (younger fs) there ∙ F .main-link (x .0) (l .0) (l .1) (flat fs (x .0) (ap (λ (g : Frame). g .name) (x .2) ∙ e));
     }
 
     tree-there : FrameTree M
@@ -247,17 +284,18 @@ module _ (s : Numbers) (ds fs ws : List ℕ) where
 
 -- ---- the theorem
 
-pub from-sound : (s : Numbers) (ds fs ws : List ℕ) → sound s ds fs ws ≡ true → length ds ≡ dequeWords → length fs ≡ frameWords
+pub from-sound : (s : Numbers) (ts ds fs ws : List ℕ) → sound s ts ds fs ws ≡ true → length ts ≡ totalCount → length ds ≡ dequeWords → length fs ≡ frameWords
     → let M : Machine = machineOf s ds fs ws in
-    let c : Core = countedCore s ds fs ws in
-    Relates (LiveTrees (s .nodes) (s .splitters)) M c × FrameTree M × DequeInvariant M × MarkInvariant (live M) × Bounded (M .splitters) (live M) × (c .head .«free_count» ≡ freeNodes M)
-from-sound s ds fs ws e dlen flen =
-    let S = sound-facts s ds fs ws e in
-    (relates-there s ds fs ws S dlen flen, tree-there s ds fs ws S, deques-there s ds fs ws S, marks-there s ds fs ws S, bounds-there s ds fs ws S, free-count-there s ds fs ws S)
+    let c : Core = countedCore s ts ds fs ws in
+    (r : Relates (LiveTrees (s .nodes) (s .splitters)) M c) × Links fs (r .at) (live M) × FrameTree M × DequeInvariant M × MarkInvariant (live M) × Bounded (M .splitters) (live M) × (c .head .«free_count» ≡ freeNodes M)
+unfolding relates-there
+from-sound s ts ds fs ws e tlen dlen flen =
+    let S = sound-facts s ts ds fs ws e in
+    (relates-there s ds fs ws ts S tlen dlen flen, links-there s ds fs ws ts S, tree-there s ds fs ws ts S, deques-there s ds fs ws ts S, marks-there s ds fs ws ts S, bounds-there s ds fs ws ts S, free-count-there s ds fs ws ts S)
 
 -- ---- the machine's nodes: a tree's worth while a frame lives, and those on the free chain
 
-module _ (s : Numbers) (ds fs ws : List ℕ) (S : SoundFacts s ds fs ws) where
+module _ (s : Numbers) (ts ds fs ws : List ℕ) (S : SoundFacts s ts ds fs ws) where
   framed-history : (L : List ℕ) (f : Frame) → In f (framesOf (s .splitters) fs ws L) → f .history ≡ []
   framed-history L f m = (let x = In-unmap (frameOf (s .splitters) fs ws) L m in ap (λ (g : Frame). g .history) (sym (x .2)))
 

@@ -2,40 +2,36 @@
 use mathlib.Core.Path.{_≡_, refl, sym, ap, _∙_, subst}
 use mathlib.Core.Logic.{_≢_, _⊎_, inl, inr}
 use mathlib.Core.Bool.{Bool, true, false, cond}
-use mathlib.Core.List.{List, [], _∷_, _++_}
+use mathlib.Core.List.{List, [], _++_}
 use Prim.Native.Nat.{ℕ, _+_, _*_, _≤_, _<_}
 use native.Mathlib.Omega.{arith}
-use lib.ListN.{length, getD, take, drop, replicate, length-append, length-drop, List·getD-append}
+use lib.ListN.{length, take, drop, length-append, length-drop, List·getD-append}
 use lib.Seq.{take-at, drop-at, length-take-le, getD-take}
 use lib.Dec.{eqb, leb, ltb}
 use borrow.Author.Tests.{eqb-false, leb-true, le-leb, le-ltb, ltb-false}
 use Rattle.words.specs.Tests.{decided, both, true≢false}
-use Rattle.words.specs.Below.{Words, Bytes, below-take, below-drop, below-append}
-use Rattle.frames.specs.Widths.{places}
+use Rattle.words.specs.Below.{Words, below-take, below-drop, below-append}
 use Rattle.soundness.specs.declared.Checked.{Checked}
-use Rattle.soundness.specs.declared.Checked.the-variants.{NoRoom, Sound}
+use Rattle.soundness.specs.declared.Checked.the-variants.{NoRoom}
 use Rattle.soundness.specs.Soundness.{numbersSound, sound, checked, cleared}
 use Rattle.soundness.specs.Theory.Sentences.{numbers-facts}
 use Rattle.image.specs.declared.ImageCheck.{ImageCheck}
 use Rattle.image.specs.declared.ImageCheck.the-variants.{WrongLength, WrongCheck, Good}
-use Rattle.image.specs.Widths.{version}
-use Rattle.image.specs.Image.{Lengths, imageOf, imageBytes, imageCheck, nodesIn, poolIn, stored, IsRead}
-use Rattle.image.specs.Theory.Promises.{Says, image-length, saved-front, saved-rest, says-what-was-written, says-what-was-before, parts-lengths, same-nodes, pool-length, saved-again, read-before, none-waiting}
-use Rattle.image.specs.Theory.Old.{oldImageOf}
+use Rattle.image.specs.Widths.{versionStep}
+use Rattle.image.specs.Image.{Lengths, imageBytes, imageCheck, nodesIn, poolIn, stored, IsRead}
+use Rattle.image.specs.Theory.Promises.{Says, image-length, saved-front, saved-rest, says-what-was-written, parts-lengths, same-nodes, pool-length, saved-again}
 use Rattle.pool.specs.Theory.Elsewhere.{SameNodes}
-use Rattle.model.specs.Record.{recordOf}
 use Rattle.semantics.specs.declared.Refusal.{Refusal}
 use Rattle.semantics.specs.declared.Refusal.the-variants.{Work, Blocks, BlockCheck}
 use Rattle.semantics.specs.Answers.{refusalNumber}
 use Rattle.semantics.specs.Core.{Core}
-use Rattle.semantics.specs.Entries.{State, fits, zeros, numbersOf, wholeNodes, stateOf, isSound, checkedState, outsideWith, outsideOn, tapeWith, tapeOn, unfitTape}
-use Rattle.semantics.specs.Images.{SaveResult, savedImage, saveWith, saveOn, narrowed, imageBefore, LoadResult, stateIn, poolWith, nodesZero, loadRefused, loadWith, loadOn}
+use Rattle.semantics.specs.Entries.{State, fits, zeros, numbersOf, stateOf, isSound, checkedState, outsideWith, outsideOn, tapeWith, tapeOn, unfitTape}
+use Rattle.semantics.specs.Images.{savedImage, saveWith, saveOn, LoadResult, stateIn, poolWith, nodesZero, loadRefused, loadWith, loadOn}
 use Rattle.semantics.specs.Calls.{HostCall, outside, tape, StateAndPool, afterCall, exchangesOf, saveResult}
-use Rattle.semantics.specs.Demands.{AcceptedSave, RefusedLoad, NoneWaiting, AcceptedLoad, beforeCheck, WorkAfterSave, WorkAfterLoad, StateWords}
+use Rattle.semantics.specs.Demands.{AcceptedSave, RefusedLoad, AcceptedLoad, beforeCheck, WorkAfterSave, WorkAfterLoad, StateWords}
 use Rattle.semantics.specs.Promises.{Fits}
 use Rattle.semantics.specs.Theory.Pools.{Beyond}
 use Rattle.semantics.specs.Theory.Fitting.{fits-true, true-fits}
-use Rattle.semantics.specs.Theory.OldRecords.{length-narrowed, words-narrowed, narrowed-read, none-widened}
 
 -- ---- a state that every step, tape and save refuses: a part has another length, or it is not sound
 
@@ -113,8 +109,8 @@ pub sound-room : (s : State) (ws : List ℕ) → isSound s ws ≡ true → 4 * n
 unfolding sound
 sound-room s ws e = numbers-facts (numbersOf s) ws (both (numbersSound (numbersOf s) ws) _ e .0) .room
 
--- its workers leave R-3's version room in the first word
-pub sound-few : (s : State) (ws : List ℕ) → isSound s ws ≡ true → numbersOf s .workers < version
+-- its workers leave the version room in the image's first word
+pub sound-few : (s : State) (ws : List ℕ) → isSound s ws ≡ true → numbersOf s .workers < versionStep
 unfolding sound
 sound-few s ws e = omega (arith, numbers-facts (numbersOf s) ws (both (numbersSound (numbersOf s) ws) _ e .0) .workers-le)
 
@@ -284,12 +280,7 @@ accepted-load s ws work image e =
     record {
       state = state;
       sound = ap (isSound (stateIn image)) (ap (λ (o : LoadResult). o .pool) (T .is)) ∙ T .sound-read;
-      again = λ o h. ap (λ (t : State). savedImage t (loadOn s ws work image .pool)) state ∙ saved-again image (T .good) o h _ _ _ ws (loadOn s ws work image .pool) read;
-      none-waiting = λ o. subst NoneWaiting (sym state) (none-waiting image (T .good) o);
-      again-before = λ o h.
-          ap (λ (t : State). imageBefore t (loadOn s ws work image .pool)) state
-          ∙ ap (λ (fs : List ℕ). oldImageOf (stateIn image .numbers) (stateIn image .deques) fs (loadOn s ws work image .pool)) (narrowed-read image (T .good) o)
-          ∙ read-before image (T .good) o h _ _ _ ws (loadOn s ws work image .pool) read .0;
+      again = λ h. ap (λ (t : State). savedImage t (loadOn s ws work image .pool)) state ∙ saved-again image (T .good) h _ _ _ ws (loadOn s ws work image .pool) read;
       same-length = ap length pool ∙ stored-long (poolIn image) ws (omega (arith, long, load-room s ws work image T));
       beyond = ap (drop (4 * nodesIn image)) pool ∙ drop-at (poolIn image) (drop (length (poolIn image)) ws) (4 * nodesIn image) long ∙ ap (λ (k : ℕ). drop k ws) long;
     }
@@ -342,14 +333,6 @@ pub saved-says : (c : Core) → StateWords (stateOf c) (c .pool) → Fits (state
 saved-says c W F e =
     says-what-was-written (stateOf c .numbers) (c .deques) (c .frames) (c .pool) (lengths-of (stateOf c) F) (sound-room (stateOf c) (c .pool) e)
     (record { numbers = W .numbers; deques = W .deques; frames = W .frames; pool = W .pool }) (sound-few (stateOf c) (c .pool) e)
-
--- what R-1 wrote of it says the same, if none waits
-pub before-says : (c : Core) → NoneWaiting (stateOf c) → StateWords (stateOf c) (c .pool) → Fits (stateOf c) → isSound (stateOf c) (c .pool) ≡ true → SaysCore (imageBefore (stateOf c) (c .pool)) c
-before-says c z W F e =
-    let fs = narrowed places (c .frames) in
-    subst (λ (l : List ℕ). Says (imageBefore (stateOf c) (c .pool)) (stateOf c .numbers) (c .deques) l (c .pool)) (none-widened (stateOf c) (F .frames) z)
-    (says-what-was-before (stateOf c .numbers) (c .deques) fs (c .pool) (record { numbers = F .numbers; deques = F .deques; frames = length-narrowed places (c .frames) (F .frames) }) (sound-room (stateOf c) (c .pool) e)
-    (record { numbers = W .numbers; deques = W .deques; frames = words-narrowed places (c .frames) (W .frames); pool = W .pool }) (sound-few (stateOf c) (c .pool) e))
 
 -- parts that fit and a work slice that is long enough: nothing is refused, if state and nodes are sound there
 pub load-takes : (image : List ℕ) (c : Core) → SaysCore image c → (s : State) (ws work : List ℕ) → fits s ≡ true → c .head .numbers .nodes ≤ length work → isSound (stateIn image) (poolWith ws image) ≡ true → LoadTaken s ws work image

@@ -11,6 +11,7 @@ use Rattle.frames.specs.Widths.{frameWords, dequeWords}
 use Rattle.soundness.specs.declared.Numbers.{Numbers}
 use Rattle.soundness.specs.declared.Checked.{Checked}
 use Rattle.soundness.specs.declared.Checked.the-variants.{NoRoom, Sound}
+use Rattle.soundness.specs.Numbers.{totalCount}
 use Rattle.soundness.specs.Soundness.{sound, freeCount, checked}
 use Rattle.model.specs.declared.Step.{Step}
 use Rattle.model.specs.declared.Decoded.{Decoded}
@@ -35,33 +36,35 @@ sound-answer false p free k e = absurd (let z : _≡_ {A = ℕ} 0 1 = cc in omeg
 sound-answer true false free k e = absurd (let z : _≡_ {A = ℕ} 0 1 = cc in omega arith)
 sound-answer true true free k e = (refl, ap freeOf e)
 
-pub kept-start : (s : Numbers) (ds fs ws ks : List ℕ) (free : ℕ) → length ds ≡ dequeWords → length fs ≡ frameWords → Sound free ≡ checked s ds fs ws ks
-    → Kept (record { head = headOf s free; deques = ds; frames = fs; pool = ws })
+pub kept-start : (s : Numbers) (ts ds fs ws ks : List ℕ) (free : ℕ) → length ts ≡ totalCount → length ds ≡ dequeWords → length fs ≡ frameWords → Sound free ≡ checked s ts ds fs ws ks
+    → Kept (record { head = headOf s free; totals = ts; deques = ds; frames = fs; pool = ws })
 unfolding checked
-kept-start s ds fs ws ks free dlen flen e =
-    let r = sound-answer (leb (s .nodes) (length ks)) (sound s ds fs ws) free (freeCount s ws) e in
-    record { is-sound = r .0; counted = r .1; height-is = refl; long-deques = dlen; long-frames = flen }
+kept-start s ts ds fs ws ks free tlen dlen flen e =
+    let r = sound-answer (leb (s .nodes) (length ks)) (sound s ts ds fs ws) free (freeCount s ws) e in
+    record { is-sound = r .0; counted = r .1; height-is = refl; long-totals = tlen; long-deques = dlen; long-frames = flen }
 
 -- ---- every step keeps it
 
 -- the core is that of its numbers and words, with the free nodes counted
-pub core-counted : (c : Core) → Kept c → countedCore (c .head .numbers) (c .deques) (c .frames) (c .pool) ≡ c
+pub core-counted : (c : Core) → Kept c → countedCore (c .head .numbers) (c .totals) (c .deques) (c .frames) (c .pool) ≡ c
 core-counted c K = ap₂ at (sym (K .height-is)) (sym (K .counted))
   where
     at : ℕ → ℕ → Core
-    at h k = record { head = record { numbers = c .head .numbers; height = h; «free_count» = k }; deques = c .deques; frames = c .frames; pool = c .pool }
+    at h k = record { head = record { numbers = c .head .numbers; height = h; «free_count» = k }; totals = c .totals; deques = c .deques; frames = c .frames; pool = c .pool }
 
 pub kept-step : (c : Core) → Kept c → (st : Step) → Kept (stepOn c st .core)
 kept-step c K st =
     let s = c .head .numbers in
-    let c₀ = countedCore s (c .deques) (c .frames) (c .pool) in
-    let C = step-carried (machineOf s (c .deques) (c .frames) (c .pool)) c₀ st (sound-carried s (c .deques) (c .frames) (c .pool) (K .long-deques) (K .long-frames) (K .is-sound)) in
+    let c₀ = countedCore s (c .totals) (c .deques) (c .frames) (c .pool) in
+    let C₀ = sound-carried s (c .totals) (c .deques) (c .frames) (c .pool) (K .long-totals) (K .long-deques) (K .long-frames) (K .is-sound) in
+    let C = step-carried (machineOf s (c .deques) (c .frames) (c .pool)) c₀ st C₀ in
     let n = numbers-kept c₀ st in
     subst (λ (d : Core). Kept (stepOn d st .core)) (core-counted c K)
     (record {
       is-sound = is-sound C .0;
       counted = sym (is-sound C .1);
       height-is = n .height ∙ ap height (sym (n .splitters));
+      long-totals = C .related .totals .long;
       long-deques = C .related .formed .shaped .long;
       long-frames = C .related .formed .long;
     })

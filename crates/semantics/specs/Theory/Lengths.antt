@@ -1,9 +1,10 @@
 -- Every entry leaves a state whose parts have their lengths, if it had one.
-use mathlib.Core.Path.{_≡_, refl, _∙_}
+use mathlib.Core.Path.{_≡_, refl, ap, _∙_}
 use mathlib.Core.Bool.{Bool, cond, _||_}
 use mathlib.Core.Logic.{inl, inr}
 use mathlib.Core.List.{List, [], _∷_}
 use Prim.Native.Nat.{ℕ, zero, suc, _+_, _-_}
+use native.Mathlib.Omega.{arith}
 use lib.ListN.{length, replicate, length-replicate}
 use lib.Dec.{eqb, ltb}
 use Rattle.words.specs.Basics.{none, plus}
@@ -13,25 +14,29 @@ use Rattle.pool.specs.Pool.{refcount, left, right, freed, release}
 use Rattle.pool.specs.Theory.Nodes.{length-setNode, length-setRefcount}
 use Rattle.frames.specs.declared.Frame.{Frame}
 use Rattle.frames.specs.Widths.{frameWords, dequeWords}
-use Rattle.frames.specs.Frames.{frameAt, setFrame, freePlace}
+use Rattle.frames.specs.Frames.{frameAt, setFrame}
 use Rattle.frames.specs.Deques.{size, setPlace, bottom, push, pop, shiftUp, dropTop, initDeques}
-use Rattle.frames.specs.Steps.{Table, acting, spawn, suspend, endFrame, endsToo, resumes, goOn, steal, sync}
+use Rattle.frames.specs.Steps.{Table, acting, linkChild, addChild, withFrames, spawn, suspend, endsToo, resumes, goOn, steal, sync, fold}
 use Rattle.frames.specs.Theory.Records.{length-setFrame}
+use Rattle.frames.specs.Theory.Links.{length-link}
+use Rattle.frames.specs.Theory.Ends.{length-end}
 use Rattle.frames.specs.Theory.Cells.{length-setSize, length-setPlace}
 use Rattle.frames.specs.Theory.Start.{length-init}
 use Rattle.soundness.specs.declared.Checked.{Checked}
 use Rattle.soundness.specs.declared.Checked.the-variants.{NoRoom, Sound}
+use Rattle.soundness.specs.Numbers.{totalCount}
 use Rattle.model.specs.declared.Step.{Step}
-use Rattle.model.specs.declared.Step.the-variants.{Spawn, Return, Steal, Sync, Read, Write}
+use Rattle.model.specs.declared.Step.the-variants.{Spawn, Return, Steal, Sync, Read, Write, Fold}
 use Rattle.model.specs.declared.Decoded.{Decoded}
 use Rattle.model.specs.declared.Decoded.the-variants.{Valid, Invalid}
 use Rattle.model.specs.Record.{recordOf}
 use Rattle.semantics.specs.declared.Refusal.{Refusal}
-use Rattle.semantics.specs.Core.{Core, StepResult, tableOf, actingIn, withTable, judged, testsOf, spawnOn, endAt, upward, popped, endBottom, returnOn, stealOn, syncOn, readOn, writeOn, doneBy, stepOn}
+use Rattle.semantics.specs.Core.{Core, StepResult, tableOf, actingIn, withTable, judged, testsOf, spawnOn, totalsAfter, endAt, upward, popped, endBottom, returnOn, stealOn, syncOn, readOn, writeOn, foldOn, doneBy, stepOn}
 use Rattle.semantics.specs.Entries.{State, coreOf, stateOf, checkedState, zeros, StartResult, wholeNodes, firstState, startWith, startOn, outsideChecked, outsideWith, outsideOn, recordOn, recordsResult, runOn, recordsOf, unfitTape, tapeChecked, tapeWith, tapeOn}
 use Rattle.semantics.specs.Promises.{Fits}
 use Rattle.semantics.specs.Calls.{HostCall, outside, tape, StateAndPool, afterCall}
 pub use Rattle.semantics.specs.Theory.Fitting.{fits-true, true-fits, state-back}
+use Rattle.semantics.specs.Theory.Fitting.{totals-long}
 
 -- ---- the deques
 
@@ -72,9 +77,9 @@ either : (b : Bool) {t u v : Table} → AsLong t u → AsLong t v → AsLong t (
 either b a c = elim (decided b) [ inl e ↦ rw e a | inr e ↦ rw e c ]
 
 module _ (t : Table) (w : ℕ) where
-  spawn-long : AsLong t (spawn t w)
-  unfolding spawn
-  spawn-long = record {
+  add-long : AsLong t (addChild t w)
+  unfolding addChild
+  add-long = record {
     deques = length-push (t .deques) w (t .«free_place»);
     frames = length-setFrame (setFrame (t .frames) (bottom (t .deques) w) _) (t .«free_place») _ ∙ length-setFrame (t .frames) (bottom (t .deques) w) _;
   }
@@ -91,17 +96,22 @@ module _ (t : Table) (w : ℕ) where
   unfolding steal
   steal-long v = record { deques = length-push (dropTop (t .deques) v) w _ ∙ length-dropTop (t .deques) v; frames = refl }
 
+  fold-long : (r v : ℕ) → AsLong t (fold t w r v)
+  unfolding fold
+  fold-long r v = record { deques = refl; frames = length-setFrame (t .frames) (bottom (t .deques) w) _ }
+
   sync-long : AsLong t (sync t w)
   unfolding sync
   sync-long =
       either (eqb (acting t w .outstanding) 0) (as-long-refl t) (suspend-long _)
 
-pub length-endFrame : (fs : List ℕ) (free p : ℕ) → length (endFrame fs free p) ≡ length fs
-unfolding endFrame
-length-endFrame fs free p = elim (decided (eqb (frameAt fs p .parent) none)) [
-  | inl e ↦ rw e (length-setFrame fs p (freePlace free))
-  | inr e ↦ rw e (length-setFrame (setFrame fs p (freePlace free)) (frameAt fs p .parent) _ ∙ length-setFrame fs p (freePlace free))
-]
+spawn-long : (t : Table) (w : ℕ) → AsLong t (spawn t w)
+unfolding spawn
+spawn-long t w =
+    let p : ℕ = bottom (t .deques) w in
+    let t′ : Table = withFrames t (linkChild (t .frames) p (t .«free_place»)) in
+    let linked : AsLong t t′ = record { deques = refl; frames = length-link (t .frames) p (t .«free_place») } in
+    as-long-trans linked (add-long t′ w)
 
 length-release : (l : ℕ) (ws : List ℕ) (free k i : ℕ) → length (release l ws free k i .0) ≡ length ws
 unfolding release
@@ -126,13 +136,14 @@ length-release (suc l) ws free k i =
 
 -- ---- a return
 
--- a core's table and pool are as long as before
+-- a core's table and pool are as long as before, and its totals have their length if they had it
 record CoreAsLong (c c′ : Core) : Type 0 where
   table : AsLong (tableOf c) (tableOf c′)
+  totals : length (c .totals) ≡ totalCount → length (c′ .totals) ≡ totalCount
   pool : length (c′ .pool) ≡ length (c .pool)
 
 core-long-trans : {c d e : Core} → CoreAsLong c d → CoreAsLong d e → CoreAsLong c e
-core-long-trans a b = record { table = as-long-trans (a .table) (b .table); pool = b .pool ∙ a .pool }
+core-long-trans a b = record { table = as-long-trans (a .table) (b .table); totals = λ h. b .totals (a .totals h); pool = b .pool ∙ a .pool }
 
 -- the one result or the other
 either-result : (b : Bool) (c : Core) (x y : StepResult) → CoreAsLong c (x .core) → CoreAsLong c (y .core) → CoreAsLong c (cond b x y .core)
@@ -140,18 +151,23 @@ either-result b c x y h k = elim (decided b) [ inl e ↦ rw e h | inr e ↦ rw e
 
 -- another table
 table-long : (c : Core) (t : Table) → AsLong (tableOf c) t → CoreAsLong c (withTable c t)
-table-long c t h = record { table = record { deques = h .deques; frames = h .frames }; pool = refl }
+table-long c t h = record { table = record { deques = h .deques; frames = h .frames }; totals = λ k. k; pool = refl }
+
+-- Main's view has as many words as there are totals
+after-long : (c : Core) (f : Frame) → length (c .totals) ≡ totalCount → length (totalsAfter c f) ≡ totalCount
+after-long c f h = elim (decided (eqb (f .parent) none)) [ inl e ↦ rw e | inr e ↦ rw e h ]
 
 endAt-long : (c : Core) (p : ℕ) → CoreAsLong c (endAt c p)
 unfolding endAt
 endAt-long c p = record {
-  table = record { deques = refl; frames = length-endFrame (c .frames) (c .head .numbers .«free_place») p };
+  table = record { deques = refl; frames = length-end (c .frames) (c .head .numbers .«free_place») p };
+  totals = after-long c (frameAt (c .frames) p);
   pool = length-release (c .head .height) (c .pool) (c .head .numbers .«free_node») (c .head .«free_count») (frameAt (c .frames) p .root);
 }
 
 upward-long : (d : ℕ) (c : Core) (w q : ℕ) → CoreAsLong c (upward d c w q .core)
 unfolding upward
-upward-long zero c w q = record { table = as-long-refl (tableOf c); pool = refl }
+upward-long zero c w q = record { table = as-long-refl (tableOf c); totals = λ h. h; pool = refl }
 upward-long (suc d) c w q =
     either-result (endsToo (frameAt (c .frames) q)) c _ _ (core-long-trans (endAt-long c q) (upward-long d (endAt c q) w (frameAt (c .frames) q .parent)))
     (table-long c _ (goOn-long (tableOf c) w q))
@@ -161,7 +177,7 @@ unfolding endBottom
 endBottom-long c w =
     let p : ℕ = bottom (c .deques) w in
     let c′ : Core = endAt (popped c w) p in
-    let P : CoreAsLong c (popped c w) = record { table = record { deques = length-pop (c .deques) w; frames = refl }; pool = refl } in
+    let P : CoreAsLong c (popped c w) = record { table = record { deques = length-pop (c .deques) w; frames = refl }; totals = λ h. h; pool = refl } in
     let E : CoreAsLong c c′ = core-long-trans P (endAt-long (popped c w) p) in
     either-result (eqb (size (c′ .deques) w) 0) c _ _ (core-long-trans E (upward-long (actingIn c w .depth) c′ w (actingIn c w .parent))) E
 
@@ -176,17 +192,27 @@ return-pool c w = return-long c w .pool
 
 -- ---- a step
 
-done-long : (c : Core) (st : Step) → AsLong (tableOf c) (tableOf (doneBy c st .core))
-done-long c (Spawn w) = let L = spawn-long (tableOf c) w in unfold spawnOn in record { deques = L .deques; frames = L .frames }
-done-long c (Return w) = return-long c w .table
-done-long c (Steal w v) = unfold stealOn in record { deques = steal-long (tableOf c) w v .deques; frames = refl }
-done-long c (Sync w) = let L = sync-long (tableOf c) w in unfold syncOn in record { deques = L .deques; frames = L .frames }
-done-long c (Read w x) = unfold readOn in record { deques = refl; frames = refl }
-done-long c (Write w x v) = unfold writeOn in record { deques = refl; frames = length-setFrame (c .frames) (bottom (c .deques) w) _ }
+-- of a core: its totals and the parts of its table
+core-fits : (c : Core) → length (c .totals) ≡ totalCount → length (c .deques) ≡ dequeWords → length (c .frames) ≡ frameWords → Fits (stateOf c)
+core-fits c t d f = record { numbers = omega (arith, t); deques = d; frames = f }
 
--- a core's numbers are always five words
-core-fits : (c : Core) → length (c .deques) ≡ dequeWords → length (c .frames) ≡ frameWords → Fits (stateOf c)
-core-fits c d f = record { numbers = refl; deques = d; frames = f }
+fits-totals : (c : Core) → Fits (stateOf c) → length (c .totals) ≡ totalCount
+fits-totals c f = omega (arith, f .numbers)
+
+-- the totals stay, and the table is as long as before
+table-fits : (c c′ : Core) → c′ .totals ≡ c .totals → AsLong (tableOf c) (tableOf c′) → Fits (stateOf c) → Fits (stateOf c′)
+table-fits c c′ t L f = core-fits c′ (ap length t ∙ fits-totals c f) (L .deques ∙ f .deques) (L .frames ∙ f .frames)
+
+done-fits : (c : Core) (st : Step) → Fits (stateOf c) → Fits (stateOf (doneBy c st .core))
+done-fits c (Spawn w) f = let L = spawn-long (tableOf c) w in unfold spawnOn in table-fits c (spawnOn c w .core) refl (record { deques = L .deques; frames = L .frames }) f
+done-fits c (Return w) f =
+    let L = return-long c w in
+    core-fits (returnOn c w .core) (L .totals (fits-totals c f)) (L .table .deques ∙ f .deques) (L .table .frames ∙ f .frames)
+done-fits c (Steal w v) f = let L = steal-long (tableOf c) w v in unfold stealOn in table-fits c (stealOn c w v .core) refl (record { deques = L .deques; frames = refl }) f
+done-fits c (Sync w) f = let L = sync-long (tableOf c) w in unfold syncOn in table-fits c (syncOn c w .core) refl (record { deques = L .deques; frames = L .frames }) f
+done-fits c (Read w x) f = unfold readOn in f
+done-fits c (Write w x v) f = unfold writeOn in table-fits c (writeOn c w x v .core) refl (record { deques = refl; frames = length-setFrame (c .frames) (bottom (c .deques) w) _ }) f
+done-fits c (Fold w r v) f = let L = fold-long (tableOf c) w r v in unfold foldOn in table-fits c (foldOn c w r v .core) refl (record { deques = refl; frames = L .frames }) f
 
 judged-fits : (ts : List (Bool × Refusal)) (c : Core) (d : StepResult) → Fits (stateOf c) → Fits (stateOf (d .core)) → Fits (stateOf (judged ts c d .core))
 judged-fits [] c d f g = g
@@ -194,9 +220,7 @@ judged-fits (t ∷ ts) c d f g = elim (decided (t .0)) [ inl e ↦ rw e f | inr 
 
 step-fits : (c : Core) (st : Step) → Fits (stateOf c) → Fits (stateOf (stepOn c st .core))
 unfolding stepOn
-step-fits c st f =
-    let L = done-long c st in
-    judged-fits (testsOf c st) c (doneBy c st) f (core-fits (doneBy c st .core) (L .deques ∙ f .deques) (L .frames ∙ f .frames))
+step-fits c st f = judged-fits (testsOf c st) c (doneBy c st) f (done-fits c st f)
 
 pub record-fits : (c : Core) (d : Decoded) → Fits (stateOf c) → Fits (stateOf (recordOn c d .core))
 record-fits c (Valid st) f = step-fits c st f
@@ -238,7 +262,7 @@ module _ (s : State) (f : Fits s) where
     outside-checked-fits : (k : Checked) (d : Decoded) → Fits (outsideChecked k s ws work d .state)
     outside-checked-fits NoRoom d = f
     outside-checked-fits Checked.Unsound d = f
-    outside-checked-fits (Sound n) d = record-fits (coreOf s ws n) d (core-fits (coreOf s ws n) (f .deques) (f .frames))
+    outside-checked-fits (Sound n) d = record-fits (coreOf s ws n) d (core-fits (coreOf s ws n) (totals-long s f) (f .deques) (f .frames))
 
     pub outside-fits : (d : Decoded) → Fits (outsideOn s ws work d .state)
     unfolding outsideOn outsideWith
@@ -248,7 +272,7 @@ module _ (s : State) (f : Fits s) where
       tape-checked-fits : (k : Checked) → Fits (tapeChecked k s ws work bytes rs .state)
       tape-checked-fits NoRoom = f
       tape-checked-fits Checked.Unsound = f
-      tape-checked-fits (Sound n) = run-fits (recordsOf bytes) (coreOf s ws n) rs 0 (core-fits (coreOf s ws n) (f .deques) (f .frames))
+      tape-checked-fits (Sound n) = run-fits (recordsOf bytes) (coreOf s ws n) rs 0 (core-fits (coreOf s ws n) (totals-long s f) (f .deques) (f .frames))
 
       pub tape-fits : Fits (tapeOn s ws work bytes rs .state)
       unfolding tapeOn tapeWith

@@ -1,6 +1,6 @@
 -- What a sound core gives to code that indexes the deques, the frame table and the pool without a test.
 use mathlib.Core.Path.{_≡_, refl, sym, ap, _∙_, subst}
-use mathlib.Core.Logic.{inl, inr}
+use mathlib.Core.Logic.{_≢_, inl, inr}
 use mathlib.Core.Bool.{Bool, true, false, cond}
 use mathlib.Core.List.{List, [], _∷_}
 use Prim.Native.Nat.{ℕ, zero, suc, _-_, _≤_, _<_}
@@ -92,6 +92,16 @@ module _ {workers first : ℕ} {ds fs : List ℕ} (F : FramesFacts workers first
   unfolding bottom
   bottom-lives w b h = F .hold-live w b (size ds w - 1) (omega arith)
 
+  -- it is a child of the one above it
+  bottom-below : (w : ℕ) → w < 8 → 1 < size ds w → frameAt fs (bottom ds w) .parent ≢ none
+  unfolding bottom
+  bottom-below w b h e =
+      let k : ℕ = size ds w - 2 in
+      let i : size ds w - 1 ≡ suc k = omega arith in
+      let above : frameAt fs (place ds w (size ds w - 1)) .parent ≡ place ds w k = ap (λ (j : ℕ). frameAt fs (place ds w j) .parent) i ∙ F .child-of-above w b k (omega arith) in
+      let inside : place ds w k < places = F .hold-live w b k (omega arith) .0 in
+      omega (arith, e, above, inside)
+
   live-parent : (p : ℕ) → p < places → Lives fs p → ParentOf p (frameAt fs p)
   live-parent p b l = elim (ℕ-discrete (frameAt fs p .depth) 0) [
     | yes e ↦ elim (F .one-main) [ inl h ↦ absurd (h .0 p b l) | inr m ↦ inr (e, ap (λ q. frameAt fs q .parent) (m .only p b l e) ∙ m .orphan) ]
@@ -126,8 +136,8 @@ roots-few fs (suc c) = omega (arith, length-append (rootsBelow fs c) (cond (live
 -- ---- the whole
 
 module _ (c : Core) (K : Kept c) where
-  S : SoundFacts (numbersOf (stateOf c)) (c .deques) (c .frames) (c .pool)
-  S = sound-facts (numbersOf (stateOf c)) (c .deques) (c .frames) (c .pool) (K .is-sound)
+  S : SoundFacts (numbersOf (stateOf c)) (c .totals) (c .deques) (c .frames) (c .pool)
+  S = sound-facts (numbersOf (stateOf c)) (c .totals) (c .deques) (c .frames) (c .pool) (K .is-sound)
 
   small : c .head .numbers .nodes ≤ none
   small = omega (arith, S .numbers .nodes-le)
@@ -147,11 +157,11 @@ module _ (c : Core) (K : Kept c) where
   upward-ready =
       let s = c .head .numbers in
       let M = machineOf s (c .deques) (c .frames) (c .pool) in
-      let c₀ = countedCore s (c .deques) (c .frames) (c .pool) in
-      let C = sound-carried s (c .deques) (c .frames) (c .pool) (K .long-deques) (K .long-frames) (K .is-sound) in
+      let c₀ = countedCore s (c .totals) (c .deques) (c .frames) (c .pool) in
+      let C = sound-carried s (c .totals) (c .deques) (c .frames) (c .pool) (K .long-totals) (K .long-deques) (K .long-frames) (K .is-sound) in
       let N = C .related .numbers in
       subst (λ (x : Core). (w : ℕ) → 0 < size (x .deques) w → actingIn x w .outstanding ≡ 0 → EndsUpward (actingIn x w .depth) (endAt (popped x w) (bottom (x .deques) w)) (actingIn x w .parent)) (core-counted c K)
-      (λ w h z. ends-upward (s .nodes) (M .splitters) (N .nodes-le) (N .splitters-positive) M c₀ (C .related) (live-laws (s .nodes) (M .splitters) (N .nodes-le) (N .splitters-positive)) (C .tree) refl w h z)
+      (λ w h z. ends-upward (s .nodes) (M .splitters) (N .nodes-le) (N .splitters-positive) M c₀ (C .related) (live-laws (s .nodes) (M .splitters) (N .nodes-le) (N .splitters-positive)) (C .tree) (C .links) refl w h z)
 
   pub kept-ready : Ready c
   kept-ready =
@@ -176,6 +186,7 @@ module _ (c : Core) (K : Kept c) where
         root = λ w b h. trees .roots (actingIn c w .root) (acting-root w b h) .inside;
         parent = λ w b h. (let r = bottom-lives F few w b h in live-parent F few (bottom (c .deques) w) (r .0) (r .1));
         counts = λ w b h. (let r = bottom-lives F few w b h in live-counts F few (bottom (c .deques) w) (r .0) (r .1));
+        below = λ w b h. bottom-below F few w b h;
         upward = λ w b h z. upward-ready w h z;
         path = λ w x b h i.
             subst (λ (t : ℕ). PathIn N (c .pool) t (actingIn c w .root) x) (sym (K .height-is))

@@ -21,9 +21,9 @@ use Rattle.frames.specs.Deques.{size}
 use Rattle.frames.specs.Theory.Lists.{list-length}
 use Rattle.frames.specs.Theory.Places.{FreePlaces}
 use Rattle.model.specs.declared.Step.{Step}
-use Rattle.model.specs.declared.Step.the-variants.{Spawn, Return, Steal, Sync, Read, Write}
+use Rattle.model.specs.declared.Step.the-variants.{Spawn, Return, Steal, Sync, Read, Write, Fold}
 use Rattle.model.specs.Machine.{Frame, Machine, live, deque, isEmpty, inUse}
-use Rattle.model.specs.Steps.{Action, spawn, return, sync, read, write, acting, turnOf, written, afterWrite, firstTrue, notBelow, actionTests, turnTests, refusal}
+use Rattle.model.specs.Steps.{Action, spawn, return, sync, read, write, fold, acting, turnOf, written, afterWrite, firstTrue, notBelow, actionTests, turnTests, refusal}
 use Rattle.model.specs.Steps.{noWorker as missing}
 use Rattle.model.specs.Theory.Children.{hasChild-In}
 use Rattle.model.specs.Theory.FrameTree.{FrameTree}
@@ -31,7 +31,7 @@ use Rattle.model.specs.Theory.DequeShape.{DequeInvariant}
 use Rattle.model.specs.Theory.Effects.{Passes, acts, live-with, isEmpty-nil, there-is-worker}
 use Rattle.model.specs.Theory.Histories.{inUse-perm}
 use Rattle.semantics.specs.declared.Refusal.{Refusal}
-use Rattle.semantics.specs.declared.Refusal.the-variants.{Values, Workers, Nodes, Tape, Work, Unsound, Record, NoWorker, MainReturned, WorkerIdle, ThiefBusy, NoVictim, FramesFull, NoSplitter, PoolFull, Blocks, BlockCheck, Target, Lengths}
+use Rattle.semantics.specs.declared.Refusal.the-variants.{Values, Workers, Nodes, Tape, Work, Unsound, Record, NoWorker, MainReturned, WorkerIdle, ThiefBusy, NoVictim, FramesFull, NoSplitter, PoolFull, Blocks, BlockCheck, Target, NoReducer, Lengths}
 use Rattle.semantics.specs.declared.Answer.the-variants.{Refused}
 use Rattle.semantics.specs.Answers.{refusalNumber}
 use Rattle.semantics.specs.Core.{Core, StepResult, actingIn, idle, noWorker, allIdle, judged, actingTests, stepOn, testsOf, doneBy, kindTests}
@@ -54,13 +54,14 @@ SameRoom M c (Return w) = Unit {0}
 SameRoom M c (Steal w v) = Unit {0}
 SameRoom M c (Sync w) = Unit {0}
 SameRoom M c (Read w x) = Unit {0}
+SameRoom M c (Fold w x v) = Unit {0}
 SameRoom M c (Write w x v) = (q : Frame) (d : List Frame) → w < length (M .deques) → deque M w ≡ q ∷ d → x < M .splitters →
     ltb (c .head .«free_count») (rest (c .head .height) (c .pool) (actingIn c w .root) x) ≡ ltb (M .nodes) (inUse (M .splitters) (live (afterWrite M w q d x v)))
 
 abbrev pub refusedBy : Core → Refusal → StepResult
 refusedBy c r = record { core = c; answer = Refused r }
 
--- the numbers are 1 to 19, and 99
+-- the numbers are 1 to 20, and 99
 pub number-range : (r : Refusal) → (0 < refusalNumber r) × (refusalNumber r ≤ 99)
 number-range Values = omega arith
 number-range Workers = omega arith
@@ -80,6 +81,7 @@ number-range PoolFull = omega arith
 number-range Blocks = omega arith
 number-range BlockCheck = omega arith
 number-range Target = omega arith
+number-range NoReducer = omega arith
 number-range Lengths = omega arith
 
 judged-passes : (ts : List (Bool × Refusal)) (us : List (Bool × ℕ)) (c : Core) (d : StepResult) → Alike ts us → firstTrue 0 us ≡ 0 → judged ts c d ≡ d
@@ -232,6 +234,7 @@ module _ {P : Trees} {M : Machine} {c : Core} (r : Relates P M c) (tree : FrameT
   alike (Write w x v) same =
       acting-alike r tree shape w (write x v) (kindTests c (Write w x v))
       (λ q d lt e. (splitter-same r x, refl, λ y. (same q d lt e (lt-of (not-false _ y)), refl, λ z. tt)))
+  alike (Fold w i x) same = acting-alike r tree shape w (fold i x) (kindTests c (Fold w i x)) (λ q d lt e. (refl, refl, λ y. tt))
 
   pub refused-alike : (st : Step) → SameRoom M c st
       → (refusal M st ≡ 0 → stepOn c st ≡ doneBy c st)

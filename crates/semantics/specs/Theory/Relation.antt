@@ -14,9 +14,12 @@ use Rattle.pool.specs.Pool.{readAt, retain, release, rest, write}
 use Rattle.frames.specs.Widths.{places}
 use Rattle.frames.specs.Deques.{dequeList}
 use Rattle.frames.specs.Frames.{frameAt, freePlace}
+use Rattle.frames.specs.Siblings.{younger, Children}
+use Rattle.soundness.specs.Numbers.{totalCount}
 use Rattle.frames.specs.Theory.Tables.{Formed}
 use Rattle.model.specs.History.{Mark, Event, History}
 use Rattle.model.specs.Machine.{Name, Frame, Machine, live, deque, isChild}
+use Rattle.model.specs.Machine.{live as lives}
 use Rattle.semantics.specs.Core.{Core, tableOf}
 
 -- ---- the pool of live frames
@@ -87,6 +90,11 @@ pub record Recorded (fs : List ℕ) (at : Name → ℕ) (L : List Frame) (s : �
   pub suspended : frameAt fs (at (f .name)) .suspended ≡ s
   pub returning : frameAt fs (at (f .name)) .returning ≡ bit (f .returning)
 
+-- the totals: four words, "zero while Main lives"
+pub record TotalsKept (ts : List ℕ) (L : List Frame) : Type 0 where
+  pub long : length ts ≡ totalCount
+  pub zero : (f : Frame) → In f L → f .name ≡ [] → (i : ℕ) → i < totalCount → getD ts i 0 ≡ 0
+
 -- the numbers that no step changes
 pub record SameNumbers (M : Machine) (c : Core) : Type 0 where
   pub workers : c .head .numbers .workers ≡ length (M .deques)
@@ -111,5 +119,25 @@ pub record Relates (P : Trees) (M : Machine) (c : Core) : Type 0 where
   -- each place is free or some live frame's, and only one's
   pub once : (p : ℕ) → p < places → count p gs + count p (placesOf at (live M)) ≡ 1
   pub vacant : (p : ℕ) → p < places → 0 < count p gs → (q : ℕ) × (frameAt (c .frames) p ≡ freePlace q)
+  pub totals : TotalsKept (c .totals) (live M)
   pub trees : P (c .pool) (c .head .numbers .«free_node») (c .head .«free_count») (rootsOf (c .frames) at (live M))
   pub values : (f : Frame) → In f (live M) → (x : ℕ) → x < M .splitters → readAt (height (M .splitters)) (c .pool) (rootOf (c .frames) at f) x ≡ getD (f .values) x 0
+
+-- ---- beside it: the links between siblings
+
+-- R-5: "these links chain the live children of each frame, each once, Main's being none"
+pub record Links (fs : List ℕ) (at : Name → ℕ) (L : List Frame) : Type 0 where
+  pub children : (f : Frame) → In f L → (cs : List ℕ) × Children fs (at (f .name)) cs
+  pub main-link : (f : Frame) → In f L → f .name ≡ [] → younger fs (at (f .name)) ≡ none
+
+-- R-5: from c to c′ no frame begins, ends or folds: the frames keep their places, links and views
+pub record Keeps {P : Trees} {M M′ : Machine} {c c′ : Core} (r : Relates P M c) (r′ : Relates P M′ c′) : Type 0 where
+  pub places : (n : Name) → r′ .at n ≡ r .at n
+  pub live : (p : ℕ) → frameAt (c′ .frames) p .live ≡ frameAt (c .frames) p .live
+  pub parent : (p : ℕ) → frameAt (c′ .frames) p .parent ≡ frameAt (c .frames) p .parent
+  pub view : (p : ℕ) → frameAt (c′ .frames) p .view ≡ frameAt (c .frames) p .view
+  pub link : (p : ℕ) → younger (c′ .frames) p ≡ younger (c .frames) p
+  -- the same names
+  pub from : (f : Frame) → In f (lives M′) → (g : Frame) × In g (lives M) × (g .name ≡ f .name)
+  pub to : (f : Frame) → In f (lives M) → (g : Frame) × In g (lives M′) × (g .name ≡ f .name)
+  pub totals : c′ .totals ≡ c .totals

@@ -58,7 +58,7 @@ parent-count p L h e = true≢false (sym (eq-eqb (childCount p L) 0 e) ∙ child
 
 -- a record stored anew but for its suspension, its tree and whether it is returning
 abbrev pub stored : Words → ℕ → ℕ → ℕ → Words
-stored F s t b = record { live = F .live; parent = F .parent; depth = F .depth; outstanding = F .outstanding; suspended = s; root = t; returning = b }
+stored F s t b = record { live = F .live; parent = F .parent; depth = F .depth; outstanding = F .outstanding; suspended = s; root = t; returning = b; view = F .view; younger = F .younger }
 
 -- f became g, of the same name
 pub recorded-stored : {fs : List ℕ} (fs′ : List ℕ) {at : Name → ℕ} {L : List Frame} (L′ : List Frame) {s : ℕ} (s′ t b : ℕ) {f : Frame} (g : Frame) → g .name ≡ f .name

@@ -17,10 +17,10 @@ use Rattle.model.specs.Steps.{waitsAtSync, resume}
 use Rattle.model.specs.Theory.Effects.{perm-those, resume-live}
 use Rattle.model.specs.Theory.DequeShape.{in-others}
 use Rattle.semantics.specs.Core.{Core, tableOf, withTable}
-use Rattle.semantics.specs.Theory.Relation.{Trees, TreeLaws, placesOf, rootOf, Recorded, Relates}
+use Rattle.semantics.specs.Theory.Relation.{Trees, TreeLaws, placesOf, rootOf, Recorded, Relates, Keeps}
 use Rattle.semantics.specs.Theory.Places.{placed-taken, same-numbers}
 use Rattle.semantics.specs.Theory.RelationFacts.{trees-perm, in-rest, lists-with, workers-le}
-use Rattle.semantics.specs.Theory.Stored.{Carried, carried}
+use Rattle.semantics.specs.Theory.Stored.{Carried, carried, keeps-stored}
 
 -- g is the one suspended frame of the name p that waits at its sync
 module _ {P : Trees} {M : Machine} {c : Core} (r : Relates P M c) (w : ℕ) (lt : w < length (M .deques)) (idle : deque M w ≡ []) (g : Frame) (m : In g (M .suspended))
@@ -75,6 +75,11 @@ module _ {P : Trees} {M : Machine} {c : Core} (r : Relates P M c) (w : ℕ) (lt 
     waiting = λ f i. carries .other-record 1 f (In-left (joined (M .deques)) i) (r .waiting f (in-others (waitsAtSync p) (M .suspended) f i .0));
     once = carries .once;
     vacant = carries .vacant;
+    totals = carries .totals;
     trees = trees-perm (table .frames) (r .at) laws afterwards (rw (carries .other-roots, carries .own-root) (trees-perm (c .frames) (r .at) laws before (r .trees)));
     values = λ f i x h. (let k = In-perm (Permᴰ·symm afterwards) i in rw (same-root f k) (r .values f (In-perm (Permᴰ·symm before) k) x h));
   }
+
+  pub resumes-keeps : (laws : TreeLaws (c .head .numbers .nodes) (M .splitters) P) → Keeps r (resumes-frame laws)
+  unfolding resumes-frame
+  resumes-keeps laws = keeps-stored r (resumes-frame laws) (λ n. refl) refl carries

@@ -22,7 +22,7 @@ use Rattle.model.specs.Theory.FrameTree.{FrameTree}
 use Rattle.semantics.specs.declared.Done.the-variants.{Ended}
 use Rattle.semantics.specs.declared.Answer.the-variants.{Accepted}
 use Rattle.semantics.specs.Core.{Core, tableOf, actingIn, upward, endAt, popped, endBottom, returnOn}
-use Rattle.semantics.specs.Theory.Relation.{Trees, TreeLaws, parentPlace, childCount, rootOf, rootsOf, Relates}
+use Rattle.semantics.specs.Theory.Relation.{Trees, TreeLaws, parentPlace, childCount, rootOf, rootsOf, Relates, Links}
 use Rattle.semantics.specs.Theory.Places.{treeOf, childless-count, recorded, acting-place, acting-frame, acting-record}
 use Rattle.semantics.specs.Theory.RelationFacts.{trees-perm, parent-count, bottom-lives}
 use Rattle.semantics.specs.Theory.SimReturn.{ends-by}
@@ -90,11 +90,11 @@ module _ (N n : ℕ) (most : N ≤ 16384) (some : 1 ≤ n) where
   turn M c r laws tree g m next e w =
       let F = frameAt (c .frames) (r .at (g .name)) in
       elim (decided (endsToo F)) [
-        | inl t ↦ (let x = end-beyond M c r e g m in let y = next t e w in rw (t, recorded r g m .1 .parent) (y .0 ∙ x .0, y .1 ∙ x .1))
+        | inl t ↦ (let x = end-beyond M c r e g m in let y = next t e w in rw t (subst (λ (z : ℕ). Beyond N (c .pool) (upward (length (g .name)) (endAt c (r .at (g .name))) w z .core .pool)) (sym (recorded r g m .1 .parent)) (y .0 ∙ x .0, y .1 ∙ x .1)))
         | inr t ↦ rw t (refl, refl)
       ]
 
-  module _ (M : Machine) (c : Core) (r : Relates P M c) (laws : TreeLaws (c .head .numbers .nodes) (M .splitters) P) (tree : FrameTree M) (e : c .head .height ≡ height n)
+  module _ (M : Machine) (c : Core) (r : Relates P M c) (laws : TreeLaws (c .head .numbers .nodes) (M .splitters) P) (tree : FrameTree M) (K : Links (c .frames) (r .at) (live M)) (e : c .head .height ≡ height n)
       (w : ℕ) (q : Frame) (d : List Frame) (lt : w < length (M .deques)) (at : deque M w ≡ q ∷ d) where
     abbrev c₁ : Core
     c₁ = endAt (popped c w) (r .at (q .name))
@@ -108,8 +108,9 @@ module _ (N n : ℕ) (most : N ≤ 16384) (some : 1 ≤ n) where
     ends-beyond h =
         let own = acting-record r w q d lt at in
         elim (decided (eqb (size (pop (c .deques) w) w) 0)) [
-          | inl t ↦ (let y = ends-by P Rest stop turn M c r laws tree w q d lt at h e w in
-              rw (t, acting-place r w q d lt at, own .depth, own .parent) (y .0 ∙ first-beyond .0, y .1 ∙ first-beyond .1))
+          | inl t ↦ (let y = ends-by P Rest stop turn M c r laws tree K w q d lt at h e w in
+              rw (t, acting-place r w q d lt at, own .depth)
+              (subst (λ (z : ℕ). Beyond N (c .pool) (upward (length (q .name)) c₁ w z .core .pool)) (sym (own .parent)) (y .0 ∙ first-beyond .0, y .1 ∙ first-beyond .1)))
           | inr t ↦ rw (t, acting-place r w q d lt at) first-beyond
         ]
 

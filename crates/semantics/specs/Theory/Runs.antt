@@ -1,4 +1,4 @@
--- Calls, over any relation `Follows M c` that each record keeps: answers, state and pool follow the machine that is fed the same
+-- Calls, over any relation `Follows P c` that each record keeps: answers, state and pool follow the machine that is fed the same
 -- records, through refused calls, refused records and tapes.
 use mathlib.Core.Path.{_≡_, refl, sym, ap, ap₂, _∙_, subst}
 use mathlib.Core.Bool.{Bool, true, false, cond, not}
@@ -25,7 +25,7 @@ use Rattle.semantics.specs.Answers.{answerWords, wordsIn}
 use Rattle.semantics.specs.Core.{Core}
 use Rattle.semantics.specs.Entries.{numbersOf, coreOf, stateOf, checkedState, recordOn, OutsideResult, outsideDone, outsideChecked, outsideWith, outsideOn, recordsOf, putAnswer, RecordsResult, recordsResult, runOn, TapeResult, tapeDone, tapeRefused, tapeChecked, unfitTape, tapeWith, tapeOn}
 use Rattle.semantics.specs.Calls.{HostCall, outside, tape, StateAndPool, afterCall, Exchange, refusedWhole, exchangesFrom, exchangesOf, recordsIn, answersIn, PoolAt, poolAt, poolsAt, coreIn}
-use Rattle.semantics.specs.Demands.{Specification, answersBy, machineBy}
+use Rattle.semantics.specs.Demands.{Plain, Specification, answersBy, machineBy}
 use Rattle.semantics.specs.Promises.{Fits}
 use Rattle.semantics.specs.Theory.Pools.{Beyond}
 use Rattle.semantics.specs.Theory.FromSoundRelates.{map-append}
@@ -36,35 +36,35 @@ use Rattle.semantics.specs.Theory.Fitting.{fits-true}
 use Rattle.semantics.specs.Theory.Words.{words-low, words-back, not-whole}
 use Rattle.semantics.specs.Theory.TapeWords.{length-records, records-from, put-long, put-before, put-first, put-second}
 
--- ---- a core that the machine M follows
+-- ---- a core that the machine P, with the views beside it, follows
 
 -- the host has the core's state and pool
 abbrev pub stateAndPool : Core → StateAndPool
 stateAndPool c = record { state = stateOf c; pool = c .pool }
 
 -- what a relation has to do: each record keeps it, and is answered as S says; the same nodes in another pool keep it
-pub record Laws (S : Specification) (Follows : Machine → Core → Type 0) : Type 0 where
-  pub carried : (M : Machine) (c : Core) → Follows M c → Carried M c
-  pub keeps : (M : Machine) (c : Core) (d : Decoded) → Follows M c → Follows (S .after M d (poolAt c d)) (recordOn c d .core)
-  pub alike : (M : Machine) (c : Core) (d : Decoded) → Follows M c → answerWords (recordOn c d .answer) ≡ S .answers M d (poolAt c d)
-  pub elsewhere : (M : Machine) (c : Core) (ws' : List ℕ) → Follows M c → SameNodes (c .head .numbers .nodes) (c .pool) ws' → Follows M (withPool c ws')
+pub record Laws (S : Specification) (Follows : Plain → Core → Type 0) : Type 0 where
+  pub carried : (P : Plain) (c : Core) → Follows P c → Carried (P .machine) c
+  pub keeps : (P : Plain) (c : Core) (d : Decoded) → Follows P c → Follows (S .after P d (poolAt c d)) (recordOn c d .core)
+  pub alike : (P : Plain) (c : Core) (d : Decoded) → Follows P c → answerWords (recordOn c d .answer) ≡ S .answers P d (poolAt c d)
+  pub elsewhere : (P : Plain) (c : Core) (ws' : List ℕ) → Follows P c → SameNodes (c .head .numbers .nodes) (c .pool) ws' → Follows P (withPool c ws')
 
--- the host's state and pool are those of a core that M follows
-pub record KeptBy (Follows : Machine → Core → Type 0) (h : StateAndPool) (M : Machine) : Type 0 where
+-- the host's state and pool are those of a core that P follows
+pub record KeptBy (Follows : Plain → Core → Type 0) (h : StateAndPool) (P : Plain) : Type 0 where
   pub core : Core
   pub held : h ≡ stateAndPool core
-  pub follows : Follows M core
+  pub follows : Follows P core
 
 module _ {M : Machine} {c : Core} (K : Carried M c) where
   pub core-fits : Fits (stateOf c)
-  core-fits = record { numbers = refl; deques = K .related .formed .shaped .long; frames = K .related .formed .long }
+  core-fits = record { numbers = omega (arith, K .related .totals .long); deques = K .related .formed .shaped .long; frames = K .related .formed .long }
 
   -- the engine's words, with the free nodes counted, are the core
   core-back : coreOf (stateOf c) (c .pool) (c .head .«free_count») ≡ c
   core-back = ap withHeight (sym (K .related .numbers .height-is ∙ ap height (sym (K .related .numbers .splitters))))
     where
       withHeight : ℕ → Core
-      withHeight q = record { head = record { numbers = c .head .numbers; height = q; «free_count» = c .head .«free_count» }; deques = c .deques; frames = c .frames; pool = c .pool }
+      withHeight q = record { head = record { numbers = c .head .numbers; height = q; «free_count» = c .head .«free_count» }; totals = c .totals; deques = c .deques; frames = c .frames; pool = c .pool }
 
   pub core-counted : coreIn (stateAndPool c) ≡ c
   core-counted = ap (coreOf (stateOf c) (c .pool)) (is-sound K .1) ∙ core-back
@@ -157,99 +157,99 @@ beyond-then N a b c x y = (y .0 ∙ x .0, y .1 ∙ x .1)
 
 module _ (S : Specification) where
   -- a list of records with as many pools, and another
-  answers-append : (ds : List Decoded) (ks : List PoolAt) (M : Machine) (ds′ : List Decoded) (ks′ : List PoolAt) → length ks ≡ length ds
-      → answersBy S M (ds ++ ds′) (ks ++ ks′) ≡ answersBy S M ds ks ++ answersBy S (machineBy S M ds ks) ds′ ks′
-  answers-append [] [] M ds′ ks′ l = refl
-  answers-append [] (k ∷ ks) M ds′ ks′ l = absurd (omega arith)
-  answers-append (d ∷ ds) [] M ds′ ks′ l = absurd (omega arith)
-  answers-append (d ∷ ds) (k ∷ ks) M ds′ ks′ l = ap (λ z. S .answers M d k ∷ z) (answers-append ds ks (S .after M d k) ds′ ks′ (omega arith))
+  answers-append : (ds : List Decoded) (ks : List PoolAt) (P : Plain) (ds′ : List Decoded) (ks′ : List PoolAt) → length ks ≡ length ds
+      → answersBy S P (ds ++ ds′) (ks ++ ks′) ≡ answersBy S P ds ks ++ answersBy S (machineBy S P ds ks) ds′ ks′
+  answers-append [] [] P ds′ ks′ l = refl
+  answers-append [] (k ∷ ks) P ds′ ks′ l = absurd (omega arith)
+  answers-append (d ∷ ds) [] P ds′ ks′ l = absurd (omega arith)
+  answers-append (d ∷ ds) (k ∷ ks) P ds′ ks′ l = ap (λ z. S .answers P d k ∷ z) (answers-append ds ks (S .after P d k) ds′ ks′ (omega arith))
 
-  machine-append : (ds : List Decoded) (ks : List PoolAt) (M : Machine) (ds′ : List Decoded) (ks′ : List PoolAt) → length ks ≡ length ds
-      → machineBy S M (ds ++ ds′) (ks ++ ks′) ≡ machineBy S (machineBy S M ds ks) ds′ ks′
-  machine-append [] [] M ds′ ks′ l = refl
-  machine-append [] (k ∷ ks) M ds′ ks′ l = absurd (omega arith)
-  machine-append (d ∷ ds) [] M ds′ ks′ l = absurd (omega arith)
-  machine-append (d ∷ ds) (k ∷ ks) M ds′ ks′ l = machine-append ds ks (S .after M d k) ds′ ks′ (omega arith)
+  machine-append : (ds : List Decoded) (ks : List PoolAt) (P : Plain) (ds′ : List Decoded) (ks′ : List PoolAt) → length ks ≡ length ds
+      → machineBy S P (ds ++ ds′) (ks ++ ks′) ≡ machineBy S (machineBy S P ds ks) ds′ ks′
+  machine-append [] [] P ds′ ks′ l = refl
+  machine-append [] (k ∷ ks) P ds′ ks′ l = absurd (omega arith)
+  machine-append (d ∷ ds) [] P ds′ ks′ l = absurd (omega arith)
+  machine-append (d ∷ ds) (k ∷ ks) P ds′ ks′ l = machine-append ds ks (S .after P d k) ds′ ks′ (omega arith)
 
 -- ---- calls one after the other
 
 -- to h, with the exchanges es and the pools ks
-pub record Fed (S : Specification) (Follows : Machine → Core → Type 0) (M : Machine) (h : StateAndPool) (es : List Exchange) (ks : List PoolAt) : Type 0 where
+pub record Fed (S : Specification) (Follows : Plain → Core → Type 0) (P : Plain) (h : StateAndPool) (es : List Exchange) (ks : List PoolAt) : Type 0 where
   pub long : length ks ≡ length (recordsIn es)
-  pub kept : KeptBy Follows h (machineBy S M (recordsIn es) ks)
-  pub same : answersIn es ≡ answersBy S M (recordsIn es) ks
+  pub kept : KeptBy Follows h (machineBy S P (recordsIn es) ks)
+  pub same : answersIn es ≡ answersBy S P (recordsIn es) ks
 
 -- a call from h to h′
-pub record Ran (S : Specification) (Follows : Machine → Core → Type 0) (M : Machine) (h h′ : StateAndPool) (es : List Exchange) (ks : List PoolAt) : Type 0 where
-  pub fed : Fed S Follows M h′ es ks
+pub record Ran (S : Specification) (Follows : Plain → Core → Type 0) (P : Plain) (h h′ : StateAndPool) (es : List Exchange) (ks : List PoolAt) : Type 0 where
+  pub fed : Fed S Follows P h′ es ks
   pub nodes : numbersOf (h′ .state) .nodes ≡ numbersOf (h .state) .nodes
   pub beyond : Beyond (numbersOf (h .state) .nodes) (h .pool) (h′ .pool)
 
-module _ (S : Specification) (Follows : Machine → Core → Type 0) (L : Laws S Follows) where
-  pub fed-then : (M : Machine) (h₁ h₂ : StateAndPool) (es es₁ : List Exchange) (ks ks₁ : List PoolAt) → Fed S Follows M h₁ es ks → Fed S Follows (machineBy S M (recordsIn es) ks) h₂ es₁ ks₁
-      → Fed S Follows M h₂ (es ++ es₁) (ks ++ ks₁)
-  fed-then M h₁ h₂ es es₁ ks ks₁ A B =
+module _ (S : Specification) (Follows : Plain → Core → Type 0) (L : Laws S Follows) where
+  pub fed-then : (P : Plain) (h₁ h₂ : StateAndPool) (es es₁ : List Exchange) (ks ks₁ : List PoolAt) → Fed S Follows P h₁ es ks → Fed S Follows (machineBy S P (recordsIn es) ks) h₂ es₁ ks₁
+      → Fed S Follows P h₂ (es ++ es₁) (ks ++ ks₁)
+  fed-then P h₁ h₂ es es₁ ks ks₁ A B =
       let e : recordsIn (es ++ es₁) ≡ recordsIn es ++ recordsIn es₁ = map-append (λ (t : Exchange). t .0) es es₁ in
       record {
         long = omega (arith, length-append ks ks₁, ap length e, length-append (recordsIn es) (recordsIn es₁), A .long, B .long);
-        kept = subst (KeptBy Follows h₂) (sym (ap (λ z. machineBy S M z (ks ++ ks₁)) e ∙ machine-append S (recordsIn es) ks M (recordsIn es₁) ks₁ (A .long))) (B .kept);
-        same = map-append (λ (t : Exchange). t .1) es es₁ ∙ ap₂ _++_ (A .same) (B .same) ∙ sym (ap (λ z. answersBy S M z (ks ++ ks₁)) e ∙ answers-append S (recordsIn es) ks M (recordsIn es₁) ks₁ (A .long));
+        kept = subst (KeptBy Follows h₂) (sym (ap (λ z. machineBy S P z (ks ++ ks₁)) e ∙ machine-append S (recordsIn es) ks P (recordsIn es₁) ks₁ (A .long))) (B .kept);
+        same = map-append (λ (t : Exchange). t .1) es es₁ ∙ ap₂ _++_ (A .same) (B .same) ∙ sym (ap (λ z. answersBy S P z (ks ++ ks₁)) e ∙ answers-append S (recordsIn es) ks P (recordsIn es₁) ks₁ (A .long));
       }
 
   -- ---- the records of a tape
 
-  record RanOn (M : Machine) (c : Core) (as′ : List ℕ) (k : ℕ) (ds : List Decoded) (r : RecordsResult) : Type 0 where
-    follows : Follows (machineBy S M ds (poolsAt c ds)) (r .core)
+  record RanOn (P : Plain) (c : Core) (as′ : List ℕ) (k : ℕ) (ds : List Decoded) (r : RecordsResult) : Type 0 where
+    follows : Follows (machineBy S P ds (poolsAt c ds)) (r .core)
     before : (j : ℕ) → j < k → getD (r .answers) j 0 ≡ getD as′ j 0
-    same : answersIn (exchangesFrom (r .answers) k ds) ≡ answersBy S M ds (poolsAt c ds)
+    same : answersIn (exchangesFrom (r .answers) k ds) ≡ answersBy S P ds (poolsAt c ds)
     nodes : r .core .head .numbers .nodes ≡ c .head .numbers .nodes
     beyond : Beyond (c .head .numbers .nodes) (c .pool) (r .core .pool)
 
-  runs-on : (ds : List Decoded) (M : Machine) (c : Core) (as′ : List ℕ) (k : ℕ) → Follows M c → k + 2 * length ds ≤ length as′ → RanOn M c as′ k ds (runOn (recordsResult c as′) k ds)
+  runs-on : (ds : List Decoded) (P : Plain) (c : Core) (as′ : List ℕ) (k : ℕ) → Follows P c → k + 2 * length ds ≤ length as′ → RanOn P c as′ k ds (runOn (recordsResult c as′) k ds)
   unfolding runOn
-  runs-on [] M c as′ k f h = record { follows = f; before = λ j b. refl; same = refl; nodes = refl; beyond = (refl, refl) }
-  runs-on (d ∷ ds) M c as′ k f h =
+  runs-on [] P c as′ k f h = record { follows = f; before = λ j b. refl; same = refl; nodes = refl; beyond = (refl, refl) }
+  runs-on (d ∷ ds) P c as′ k f h =
       let a = recordOn c d .answer in
       let c₁ = recordOn c d .core in
-      let R = runs-on ds (S .after M d (poolAt c d)) c₁ (putAnswer as′ k a) (k + 2) (L .keeps M c d f) (omega (arith, put-long as′ k a)) in
-      let fst = R .before k (omega arith) ∙ put-first as′ k a (omega arith) ∙ ap (λ p. p .0) (L .alike M c d f) in
-      let snd = R .before (suc k) (omega arith) ∙ put-second as′ k a (omega arith) ∙ ap (λ p. p .1) (L .alike M c d f) in
+      let R = runs-on ds (S .after P d (poolAt c d)) c₁ (putAnswer as′ k a) (k + 2) (L .keeps P c d f) (omega (arith, put-long as′ k a)) in
+      let fst = R .before k (omega arith) ∙ put-first as′ k a (omega arith) ∙ ap (λ p. p .0) (L .alike P c d f) in
+      let snd = R .before (suc k) (omega arith) ∙ put-second as′ k a (omega arith) ∙ ap (λ p. p .1) (L .alike P c d f) in
       record {
         follows = R .follows;
         before = λ j b. R .before j (omega arith) ∙ put-before as′ k j a b;
         same = λ i. (fst i, snd i) ∷ R .same i;
         nodes = R .nodes ∙ record-nodes c d;
-        beyond = beyond-then (c .head .numbers .nodes) (c .pool) (c₁ .pool) (runOn (recordsResult c₁ (putAnswer as′ k a)) (k + 2) ds .core .pool) (record-beyond (L .carried M c f) d)
+        beyond = beyond-then (c .head .numbers .nodes) (c .pool) (c₁ .pool) (runOn (recordsResult c₁ (putAnswer as′ k a)) (k + 2) ds .core .pool) (record-beyond (L .carried P c f) d)
             (subst (λ N. Beyond N (c₁ .pool) (runOn (recordsResult c₁ (putAnswer as′ k a)) (k + 2) ds .core .pool)) (record-nodes c d) (R .beyond));
       }
 
   -- ---- a call, and calls
 
-  module _ (M : Machine) (c : Core) (f : Follows M c) where
+  module _ (P : Plain) (c : Core) (f : Follows P c) where
     -- what a call leaves and tells, from the core c
     abbrev RanFrom : StateAndPool × List Exchange → Type 0
-    RanFrom p = Ran S Follows M (stateAndPool c) (p .0) (p .1) (poolsAt c (recordsIn (p .1)))
+    RanFrom p = Ran S Follows P (stateAndPool c) (p .0) (p .1) (poolsAt c (recordsIn (p .1)))
 
     still : RanFrom (stateAndPool c, [])
     still = record { fed = record { long = refl; kept = record { core = c; held = refl; follows = f }; same = refl }; nodes = refl; beyond = (refl, refl) }
 
     one : (d : Decoded) → RanFrom (stateAndPool (recordOn c d .core), (d, answerWords (recordOn c d .answer)) ∷ [])
     one d = record {
-      fed = record { long = refl; kept = record { core = recordOn c d .core; held = refl; follows = L .keeps M c d f }; same = ap (λ (w : ℕ × ℕ). w ∷ []) (L .alike M c d f) };
+      fed = record { long = refl; kept = record { core = recordOn c d .core; held = refl; follows = L .keeps P c d f }; same = ap (λ (w : ℕ × ℕ). w ∷ []) (L .alike P c d f) };
       nodes = record-nodes c d;
-      beyond = record-beyond (L .carried M c f) d;
+      beyond = record-beyond (L .carried P c f) d;
     }
 
     all-records : (ds : List Decoded) (as′ : List ℕ) → 2 * length ds ≤ length as′ → let r = runOn (recordsResult c as′) 0 ds in RanFrom (stateAndPool (r .core), exchangesFrom (r .answers) 0 ds)
     all-records ds as′ room =
         let r = runOn (recordsResult c as′) 0 ds in
-        let R = runs-on ds M c as′ 0 f (omega (arith, room)) in
+        let R = runs-on ds P c as′ 0 f (omega (arith, room)) in
         let v = sym (records-from (r .answers) 0 ds) in
         record {
           fed = record {
             long = length-free (recordsIn (exchangesFrom (r .answers) 0 ds)) c;
-            kept = record { core = r .core; held = refl; follows = subst (λ z. Follows (machineBy S M z (poolsAt c z)) (r .core)) v (R .follows) };
-            same = R .same ∙ ap (λ z. answersBy S M z (poolsAt c z)) v;
+            kept = record { core = r .core; held = refl; follows = subst (λ z. Follows (machineBy S P z (poolsAt c z)) (r .core)) v (R .follows) };
+            same = R .same ∙ ap (λ z. answersBy S P z (poolsAt c z)) v;
           };
           nodes = R .nodes;
           beyond = R .beyond;
@@ -257,22 +257,22 @@ module _ (S : Specification) (Follows : Machine → Core → Type 0) (L : Laws S
 
     call-at : (k : HostCall) → RanFrom (called (stateAndPool c) k)
     call-at (outside kind worker field value work) = elim (decided (leb (c .head .numbers .nodes) (length work))) [
-      | inl e ↦ subst RanFrom (sym (outside-long (L .carried M c f) kind worker field value work e)) (one (recordOf kind worker field value))
-      | inr e ↦ subst RanFrom (sym (outside-short (L .carried M c f) kind worker field value work e)) still
+      | inl e ↦ subst RanFrom (sym (outside-long (L .carried P c f) kind worker field value work e)) (one (recordOf kind worker field value))
+      | inr e ↦ subst RanFrom (sym (outside-short (L .carried P c f) kind worker field value work e)) still
     ]
     call-at (tape bytes work as′) = elim (decided (unfitTape bytes as′)) [
-      | inl t ↦ subst RanFrom (sym (tape-not (L .carried M c f) bytes work as′ t)) still
+      | inl t ↦ subst RanFrom (sym (tape-not (L .carried P c f) bytes work as′ t)) still
       | inr t ↦ elim (decided (leb (c .head .numbers .nodes) (length work))) [
         | inl e ↦
             let room = ltb-false (length as′) (2 * (length bytes / 8)) (neither (not (eqb (length bytes % 8) 0)) (ltb (length as′) (2 * (length bytes / 8))) t .1) in
-            subst RanFrom (sym (tape-long (L .carried M c f) bytes work as′ t e)) (all-records (recordsOf bytes) as′ (omega (arith, room, length-records (length bytes / 8) bytes 0)))
-        | inr e ↦ subst RanFrom (sym (tape-short (L .carried M c f) bytes work as′ t e)) still
+            subst RanFrom (sym (tape-long (L .carried P c f) bytes work as′ t e)) (all-records (recordsOf bytes) as′ (omega (arith, room, length-records (length bytes / 8) bytes 0)))
+        | inr e ↦ subst RanFrom (sym (tape-short (L .carried P c f) bytes work as′ t e)) still
       ]
     ]
 
-  pub call-follows : (M : Machine) (h : StateAndPool) (k : HostCall) → KeptBy Follows h M → Ran S Follows M h (afterCall h k) (exchangesOf h k) (poolsAt (coreIn h) (recordsIn (exchangesOf h k)))
-  call-follows M h k K =
+  pub call-follows : (P : Plain) (h : StateAndPool) (k : HostCall) → KeptBy Follows h P → Ran S Follows P h (afterCall h k) (exchangesOf h k) (poolsAt (coreIn h) (recordsIn (exchangesOf h k)))
+  call-follows P h k K =
       let c = K .core in
-      subst (λ q. Ran S Follows M q (afterCall q k) (exchangesOf q k) (poolsAt (coreIn q) (recordsIn (exchangesOf q k)))) (sym (K .held))
-      (subst (λ b. Ran S Follows M (stateAndPool c) (afterCall (stateAndPool c) k) (exchangesOf (stateAndPool c) k) (poolsAt b (recordsIn (exchangesOf (stateAndPool c) k)))) (sym (core-counted (L .carried M c (K .follows))))
-      (call-at M c (K .follows) k))
+      subst (λ q. Ran S Follows P q (afterCall q k) (exchangesOf q k) (poolsAt (coreIn q) (recordsIn (exchangesOf q k)))) (sym (K .held))
+      (subst (λ b. Ran S Follows P (stateAndPool c) (afterCall (stateAndPool c) k) (exchangesOf (stateAndPool c) k) (poolsAt b (recordsIn (exchangesOf (stateAndPool c) k)))) (sym (core-counted (L .carried P c (K .follows))))
+      (call-at P c (K .follows) k))

@@ -23,7 +23,7 @@ use Rattle.frames.specs.Steps.{waitsNoMore, endsToo, goOn, wentOn}
 use Rattle.frames.specs.Steps.{resume as resumeTable}
 use Rattle.frames.specs.Theory.Lists.{list-length, list-elsewhere, pop-elsewhere, pop-shaped, pop-list}
 use Rattle.model.specs.Machine.{Name, Frame, Machine, live, deque, withDeque, isEmpty, hasChild, hasFrame, those, others}
-use Rattle.model.specs.Steps.{return, acting, waitsInReturn, waitsAtSync, leave, upward, afterEnd, afterAction, afterTurn, endOutcome, actionAnswer, turnAnswer}
+use Rattle.model.specs.Steps.{return, acting, waitsInReturn, waitsAtSync, leave, resume, upward, afterEnd, afterAction, afterTurn, endOutcome, actionAnswer, turnAnswer}
 use Rattle.model.specs.Theory.LiveRun.{Disjoint, disjoint-perm}
 use Rattle.model.specs.Theory.Children.{hasChild-perm}
 use Rattle.model.specs.Theory.Effects.{Passes, acts, rest, live-at, live-with, perm-those}
@@ -34,12 +34,16 @@ use Rattle.model.specs.Theory.Outcomes.{outcomeUpward, Above, main-there, roote
 use Rattle.semantics.specs.Answers.{answerWords}
 use Rattle.semantics.specs.Core.{Core, StepResult, tableOf, withTable, actingIn, returned, endAt, popped, endBottom, returnOn}
 use Rattle.semantics.specs.Core.{upward as upwardOn}
-use Rattle.semantics.specs.Theory.Relation.{Trees, TreeLaws, bit, parentPlace, childCount, placesOf, Recorded, Relates}
+use Rattle.semantics.specs.Theory.Relation.{Trees, TreeLaws, bit, parentPlace, childCount, placesOf, Recorded, Relates, Links}
 use Rattle.semantics.specs.Theory.Places.{childCount-test, childless-count, those-none, those-one, others-all, recorded, worker-few, acting-deque, acting-place, acting-frame, acting-record}
 use Rattle.semantics.specs.Theory.RelationFacts.{in-rest, lists-with, parent-count, above-runs}
-use Rattle.semantics.specs.Theory.Suspended.{suspends}
-use Rattle.semantics.specs.Theory.Resumed.{resumes-frame}
+use Rattle.semantics.specs.Theory.LinksKept.{keeps-same}
+use Rattle.semantics.specs.Theory.Suspended.{suspends, suspends-keeps}
+use Rattle.semantics.specs.Theory.Resumed.{resumes-frame, resumes-keeps}
 use Rattle.semantics.specs.Theory.EndedFrame.{Left, end-relates}
+use Rattle.semantics.specs.Theory.Viewed.{Ended}
+use Rattle.semantics.specs.Theory.LinksEnd.{next-in, links-end}
+use Rattle.semantics.specs.Theory.EndsInTurn.{EndsInTurn, stops, ends-then}
 
 -- ---- one turn of the ends upward, by what the parent's record says
 
@@ -66,20 +70,26 @@ end-laws c q laws = laws
 
 -- ---- the ends upward
 
--- a frame of the name n has ended on worker w, whose deque is empty
-pub record Went (P : Trees) (M : Machine) (w : ℕ) (n : Name) (s : StepResult) : Type 0 where
-  pub related : Relates P (upward M w n) (s .core)
-  pub answered : answerWords (s .answer) ≡ (102, outcomeUpward M n)
+-- from a core related to M by r further ends led to M′ and the result s, with the outcome o
+pub record Went {P : Trees} {M : Machine} {c : Core} (r : Relates P M c) (M′ : Machine) (o : ℕ) (s : StepResult) : Type 0 where
+  pub related : Relates P M′ (s .core)
+  pub ends : EndsInTurn r related
+  pub answered : answerWords (s .answer) ≡ (102, o)
+
+went-as : {P : Trees} {M : Machine} {c : Core} (r : Relates P M c) {M₁ M₂ : Machine} {o₁ o₂ : ℕ} {s₁ s₂ : StepResult} → M₂ ≡ M₁ → o₂ ≡ o₁ → s₂ ≡ s₁ → Went r M₁ o₁ s₁ → Went r M₂ o₂ s₂
+went-as r {M₁} {M₂} {o₁} {o₂} {s₁} {s₂} m o s W =
+    subst (λ (N : Machine). Went r N o₂ s₂) (sym m) (subst (λ (n : ℕ). Went r M₁ n s₂) (sym o) (subst (λ (t : StepResult). Went r M₁ o₁ t) (sym s) W))
 
 -- g has ended, a frame that waited in its return
 record Leaves {P : Trees} {M : Machine} {c : Core} (r : Relates P M c) (g : Frame) : Type 0 where
   some : isEmpty (those (waitsInReturn (g .name)) (M .suspended)) ≡ false
   related : Relates P (leave M (g .name)) (endAt c (r .at (g .name)))
   same-places : related .at ≡ r .at
+  ended : Ended r related g (live (leave M (g .name)))
   tree : FrameTree (leave M (g .name))
   above : Above (live (leave M (g .name))) (g .name)
 
-module _ {P : Trees} {M : Machine} {c : Core} (r : Relates P M c) (laws : TreeLaws (c .head .numbers .nodes) (M .splitters) P) (tree : FrameTree M) (g : Frame) (lives : In g (live M)) where
+module _ {P : Trees} {M : Machine} {c : Core} (r : Relates P M c) (laws : TreeLaws (c .head .numbers .nodes) (M .splitters) P) (tree : FrameTree M) (K : Links (c .frames) (r .at) (live M)) (g : Frame) (lives : In g (live M)) where
   abbrev p : Name
   p = g .name
 
@@ -119,14 +129,18 @@ module _ {P : Trees} {M : Machine} {c : Core} (r : Relates P M c) (laws : TreeLa
         waiting = λ f m. (In-left (joined (M .deques)) m, in-others (waitsInReturn p) (M .suspended) f m .0);
       }
 
+      gone : (r′ : Relates P (leave M p) (endAt c (r .at p))) × (r′ .at ≡ r .at)
+      gone = end-relates r tree g (live (leave M p)) with-it (M .deques) (others (waitsInReturn p) (M .suspended)) (c .deques) left-of laws (next-in r tree K g (live (leave M p)) with-it)
+
       leaves : Leaves r g
+      unfolding endAt
       leaves =
-          let E = end-relates r tree g (live (leave M p)) with-it (M .deques) (others (waitsInReturn p) (M .suspended)) (c .deques) left-of laws in
           let some : isEmpty (those (waitsInReturn p) (M .suspended)) ≡ false = ap isEmpty one-leaves in
           record {
             some = some;
-            related = E .0;
-            same-places = E .1;
+            related = gone .0;
+            same-places = gone .1;
+            ended = record { before = with-it; after = Permᴰ·refl (live (leave M p)); places = λ n. ap (λ (at : Name → ℕ). at n) (gone .1); frames = refl; totals = refl };
             tree = record { disjoint = disjoint-right (those (waitsInReturn p) (M .suspended)) (live (leave M p)) (disjoint-perm split (tree .disjoint)); rooted = rooted-leave M p (tree .rooted) (tree .disjoint) h };
             above = above-leave M p (tree .rooted) (tree .disjoint) h some (In-hasFrame p (live M) g lives refl);
           }
@@ -148,10 +162,13 @@ module _ {P : Trees} {M : Machine} {c : Core} (r : Relates P M c) (laws : TreeLa
     abbrev result : StepResult
     result = upwardOn (suc (length p)) c w (r .at p)
 
-    stays : waitsNoMore F ≡ false → upward M w (k ∷ p) ≡ M → outcomeUpward M (k ∷ p) ≡ 1 → Went P M w (k ∷ p) result
-    stays e m o = record { related = rw (m, up-stays (length p) c w (r .at p) e) r; answered = rw (o, up-stays (length p) c w (r .at p) e) }
+    abbrev Done : Type 0
+    Done = Went r (upward M w (k ∷ p)) (outcomeUpward M (k ∷ p)) result
 
-    with-child : hasChild p (live M) ≡ true → Went P M w (k ∷ p) result
+    stays : waitsNoMore F ≡ false → upward M w (k ∷ p) ≡ M → outcomeUpward M (k ∷ p) ≡ 1 → Done
+    stays e m o = went-as r m o (up-stays (length p) c w (r .at p) e) (record { related = r; ends = stops (keeps-same r); answered = refl })
+
+    with-child : hasChild p (live M) ≡ true → Done
     with-child h = stays (rw (childless, h) (and-false (eqb (F .suspended) 1))) (rw h) (rw h)
       where
         and-false : (b : Bool) → (b && false) ≡ false
@@ -159,7 +176,7 @@ module _ {P : Trees} {M : Machine} {c : Core} (r : Relates P M c) (laws : TreeLa
         and-false false = refl
 
     -- it runs
-    runs : hasChild p (live M) ≡ false → In g (joined (M .deques)) → Went P M w (k ∷ p) result
+    runs : hasChild p (live M) ≡ false → In g (joined (M .deques)) → Done
     runs h i =
         let a = those-none (waitsInReturn p) (M .suspended) (none (waitsInReturn p) (λ f s. same-eq (f .name) p (both _ _ s .0))) in
         let b = those-none (waitsAtSync p) (M .suspended) (none (waitsAtSync p) (λ f s. same-eq (f .name) p (both _ _ s .0))) in
@@ -171,50 +188,50 @@ module _ {P : Trees} {M : Machine} {c : Core} (r : Relates P M c) (laws : TreeLa
         none t n f m = elim (decided (t f)) [ inl s ↦ absurd (disjoint-apart (M .suspended) (joined (M .deques)) (tree .disjoint) f g m i (n f s)) | inr s ↦ s ]
 
     -- it waits at its sync
-    at-sync : (h : hasChild p (live M) ≡ false) (i : In g (M .suspended)) → g .returning ≡ false → Went P M w (k ∷ p) result
+    at-sync : (h : hasChild p (live M) ≡ false) (i : In g (M .suspended)) → g .returning ≡ false → Done
     at-sync h i n =
         let one = those-one (waitsAtSync p) (M .suspended) g disjoint-waiting i (rw (same-refl p, n)) (λ f s. same-eq (f .name) p (both _ _ s .0)) in
         let a = those-none (waitsInReturn p) (M .suspended) (not-returning h i n) in
         let e = up-resumes (length p) c w (r .at p) (waits-no-more h i) (ne-eqb (F .returning) 1 (λ z. omega (arith, z, r .waiting g i .returning, ap bit n))) in
-        record {
-          related = rw (h, a, e) (resumes-frame r w lt idle g i one laws);
-          answered = rw (h, a, one, e);
-        }
+        let away : upward M w (k ∷ p) ≡ resume M w p = rw (h, a) in
+        let two : outcomeUpward M (k ∷ p) ≡ 2 = rw (h, a, one) in
+        went-as r away two e (record { related = resumes-frame r w lt idle g i one laws; ends = stops (resumes-keeps r w lt idle g i one laws); answered = refl })
 
     -- it waits in its return, and ends
     in-return : (h : hasChild p (live M) ≡ false) (i : In g (M .suspended)) → g .returning ≡ true
-        → ((M′ : Machine) (c′ : Core) (r′ : Relates P M′ c′) → TreeLaws (c′ .head .numbers .nodes) (M′ .splitters) P → FrameTree M′ → w < length (M′ .deques) → deque M′ w ≡ [] → Above (live M′) p
-        → Went P M′ w p (upwardOn (length p) c′ w (parentPlace (r′ .at) p)))
-        → Went P M w (k ∷ p) result
+        → ((M′ : Machine) (c′ : Core) (r′ : Relates P M′ c′) → TreeLaws (c′ .head .numbers .nodes) (M′ .splitters) P → FrameTree M′ → Links (c′ .frames) (r′ .at) (live M′) → w < length (M′ .deques) → deque M′ w ≡ [] → Above (live M′) p
+        → Went r′ (upward M′ w p) (outcomeUpward M′ p) (upwardOn (length p) c′ w (parentPlace (r′ .at) p)))
+        → Done
     in-return h i n next =
         let L = leaves h i n in
         let some = L .some in
-        let W : Went P (leave M p) w p (upwardOn (length p) (endAt c (r .at p)) w (parentPlace (L .related .at) p)) =
-        next (leave M p) (endAt c (r .at p)) (L .related) (end-laws c (r .at p) laws) (L .tree) lt idle (L .above) in
-        let W′ = subst (λ (at : Name → ℕ). Went P (leave M p) w p (upwardOn (length p) (endAt c (r .at p)) w (parentPlace at p))) (L .same-places) W in
-        let e = up-ends (length p) c w (r .at p) (ends-test h i n) in
-        let up : F .parent ≡ parentPlace (r .at) p = r .waiting g i .parent in
-        record { related = rw (h, some, e, up) (W′ .related); answered = rw (h, some, e, up) (W′ .answered) }
+        let W : Went (L .related) (upward (leave M p) w p) (outcomeUpward (leave M p) p) (upwardOn (length p) (endAt c (r .at p)) w (parentPlace (L .related .at) p)) =
+        next (leave M p) (endAt c (r .at p)) (L .related) (end-laws c (r .at p) laws) (L .tree) (links-end r tree K g (live (leave M p)) (L .ended .before) (L .related) (L .ended) h) lt idle (L .above) in
+        let up : F .parent ≡ parentPlace (L .related .at) p = r .waiting g i .parent ∙ ap (λ (at : Name → ℕ). parentPlace at p) (sym (L .same-places)) in
+        let is : result ≡ upwardOn (length p) (endAt c (r .at p)) w (parentPlace (L .related .at) p) = up-ends (length p) c w (r .at p) (ends-test h i n) ∙ ap (upwardOn (length p) (endAt c (r .at p)) w) up in
+        let away : upward M w (k ∷ p) ≡ upward (leave M p) w p = rw (h, some) in
+        let told : outcomeUpward M (k ∷ p) ≡ outcomeUpward (leave M p) p = rw (h, some) in
+        went-as r away told is (record { related = W .related; ends = ends-then g (live (leave M p)) tree h (L .ended) (W .ends); answered = W .answered })
 
-pub upward-relates : (P : Trees) (n : Name) (M : Machine) (c : Core) (r : Relates P M c) → TreeLaws (c .head .numbers .nodes) (M .splitters) P → FrameTree M → (w : ℕ) → w < length (M .deques) → deque M w ≡ []
-    → Above (live M) n → Went P M w n (upwardOn (length n) c w (parentPlace (r .at) n))
+pub upward-relates : (P : Trees) (n : Name) (M : Machine) (c : Core) (r : Relates P M c) → TreeLaws (c .head .numbers .nodes) (M .splitters) P → FrameTree M → Links (c .frames) (r .at) (live M)
+    → (w : ℕ) → w < length (M .deques) → deque M w ≡ [] → Above (live M) n → Went r (upward M w n) (outcomeUpward M n) (upwardOn (length n) c w (parentPlace (r .at) n))
 unfolding upwardOn
-upward-relates P [] M c r laws tree w lt idle a = record { related = r; answered = refl }
-upward-relates P (k ∷ p) M c r laws tree w lt idle a =
+upward-relates P [] M c r laws tree K w lt idle a = record { related = r; ends = stops (keeps-same r); answered = refl }
+upward-relates P (k ∷ p) M c r laws tree K w lt idle a =
     let x = hasFrame-In p (live M) a in
     let g = x .0 in
-    subst (λ (z : Name). Went P M w (k ∷ z) (upwardOn (suc (length z)) c w (r .at z))) (x .2)
+    subst (λ (z : Name). Went r (upward M w (k ∷ z)) (outcomeUpward M (k ∷ z)) (upwardOn (suc (length z)) c w (r .at z))) (x .2)
     (elim (decided (hasChild (g .name) (live M))) [
-      | inl h ↦ with-child r laws tree g (x .1) w lt idle k h
+      | inl h ↦ with-child r laws tree K g (x .1) w lt idle k h
       | inr h ↦ elim (In-cases (M .suspended) (x .1)) [
         | inl i ↦ elim (decided (g .returning)) [
-          | inl n ↦ in-return r laws tree g (x .1) w lt idle k h i n
-              (subst (λ (z : Name). (M′ : Machine) (c′ : Core) (r′ : Relates P M′ c′) → TreeLaws (c′ .head .numbers .nodes) (M′ .splitters) P → FrameTree M′ → w < length (M′ .deques) → deque M′ w ≡ [] → Above (live M′) z
-              → Went P M′ w z (upwardOn (length z) c′ w (parentPlace (r′ .at) z))) (sym (x .2))
-              (λ M′ c′ r′ laws′ tree′ lt′ idle′ a′. upward-relates P p M′ c′ r′ laws′ tree′ w lt′ idle′ a′))
-          | inr n ↦ at-sync r laws tree g (x .1) w lt idle k h i n
+          | inl n ↦ in-return r laws tree K g (x .1) w lt idle k h i n
+              (subst (λ (z : Name). (M′ : Machine) (c′ : Core) (r′ : Relates P M′ c′) → TreeLaws (c′ .head .numbers .nodes) (M′ .splitters) P → FrameTree M′ → Links (c′ .frames) (r′ .at) (live M′) → w < length (M′ .deques) → deque M′ w ≡ []
+              → Above (live M′) z → Went r′ (upward M′ w z) (outcomeUpward M′ z) (upwardOn (length z) c′ w (parentPlace (r′ .at) z))) (sym (x .2))
+              (λ M′ c′ r′ laws′ tree′ K′ lt′ idle′ a′. upward-relates P p M′ c′ r′ laws′ tree′ K′ w lt′ idle′ a′))
+          | inr n ↦ at-sync r laws tree K g (x .1) w lt idle k h i n
         ]
-        | inr i ↦ runs r laws tree g (x .1) w lt idle k h i
+        | inr i ↦ runs r laws tree K g (x .1) w lt idle k h i
       ]
     ])
 
@@ -249,23 +266,24 @@ module _ (P : Trees) (T : ℕ → Core → ℕ → Type 0) (stop : (c : Core) (q
     (turn : (M : Machine) (c : Core) (r : Relates P M c) → TreeLaws (c .head .numbers .nodes) (M .splitters) P → FrameTree M → (g : Frame) → In g (live M)
     → (endsToo (frameAt (c .frames) (r .at (g .name))) ≡ true → T (length (g .name)) (endAt c (r .at (g .name))) (parentPlace (r .at) (g .name)))
     → T (suc (length (g .name))) c (r .at (g .name))) where
-  pub upward-by : (n : Name) (M : Machine) (c : Core) (r : Relates P M c) → TreeLaws (c .head .numbers .nodes) (M .splitters) P → FrameTree M → Above (live M) n → T (length n) c (parentPlace (r .at) n)
-  upward-by [] M c r laws tree a = stop c (parentPlace (r .at) [])
-  upward-by (k ∷ p) M c r laws tree a =
+  pub upward-by : (n : Name) (M : Machine) (c : Core) (r : Relates P M c) → TreeLaws (c .head .numbers .nodes) (M .splitters) P → FrameTree M → Links (c .frames) (r .at) (live M) → Above (live M) n → T (length n) c (parentPlace (r .at) n)
+  upward-by [] M c r laws tree K a = stop c (parentPlace (r .at) [])
+  upward-by (k ∷ p) M c r laws tree K a =
       let x = hasFrame-In p (live M) a in
       let g = x .0 in
       subst (λ (z : Name). T (suc (length z)) c (r .at z)) (x .2)
       (turn M c r laws tree g (x .1) (λ e.
       let y = ends-facts r g (x .1) e in
-      let L = leaves r laws tree g (x .1) (y .0) (y .1) (y .2) in
+      let L = leaves r laws tree K g (x .1) (y .0) (y .1) (y .2) in
       subst (λ (at : Name → ℕ). T (length (g .name)) (endAt c (r .at (g .name))) (parentPlace at (g .name))) (L .same-places)
-      (subst (λ (z : Name). (M′ : Machine) (c′ : Core) (r′ : Relates P M′ c′) → TreeLaws (c′ .head .numbers .nodes) (M′ .splitters) P → FrameTree M′ → Above (live M′) z → T (length z) c′ (parentPlace (r′ .at) z)) (sym (x .2))
-      (λ M′ c′ r′ l′ t′ a′. upward-by p M′ c′ r′ l′ t′ a′)
-      (leave M (g .name)) (endAt c (r .at (g .name))) (L .related) (end-laws c (r .at (g .name)) laws) (L .tree) (L .above))))
+      (subst (λ (z : Name). (M′ : Machine) (c′ : Core) (r′ : Relates P M′ c′) → TreeLaws (c′ .head .numbers .nodes) (M′ .splitters) P → FrameTree M′ → Links (c′ .frames) (r′ .at) (live M′) → Above (live M′) z → T (length z) c′ (parentPlace (r′ .at) z)) (sym (x .2))
+      (λ M′ c′ r′ l′ t′ K′ a′. upward-by p M′ c′ r′ l′ t′ K′ a′)
+      (leave M (g .name)) (endAt c (r .at (g .name))) (L .related) (end-laws c (r .at (g .name)) laws) (L .tree)
+      (links-end r tree K g (live (leave M (g .name))) (L .ended .before) (L .related) (L .ended) (y .0)) (L .above))))
 
 -- ---- the bottom frame q of worker w returns; above it is d
 
-module _ {P : Trees} {M : Machine} {c : Core} (r : Relates P M c) (laws : TreeLaws (c .head .numbers .nodes) (M .splitters) P) (tree : FrameTree M)
+module _ {P : Trees} {M : Machine} {c : Core} (r : Relates P M c) (laws : TreeLaws (c .head .numbers .nodes) (M .splitters) P) (tree : FrameTree M) (K : Links (c .frames) (r .at) (live M))
     (w : ℕ) (q : Frame) (d : List Frame) (lt : w < length (M .deques)) (e : deque M w ≡ q ∷ d) where
   own : Recorded (c .frames) (r .at) (live M) 0 q
   own = acting-record r w q d lt e
@@ -277,7 +295,7 @@ module _ {P : Trees} {M : Machine} {c : Core} (r : Relates P M c) (laws : TreeLa
   before = live-at M w (q ∷ d) lt e
 
   abbrev Returns : StepResult → Type 0
-  Returns s = Relates P (afterAction M w (q ∷ d) return) (s .core) × (answerWords (s .answer) ≡ actionAnswer M w (q ∷ d) return)
+  Returns s = (r′ : Relates P (afterAction M w (q ∷ d) return) (s .core)) × EndsInTurn r r′ × (answerWords (s .answer) ≡ actionAnswer M w (q ∷ d) return)
 
   outstanding-is : actingIn c w .outstanding ≡ childCount (q .name) (live M)
   outstanding-is = ap (λ (f : FrameWords). f .outstanding) (acting-frame r w q d lt e) ∙ own .outstanding
@@ -287,7 +305,7 @@ module _ {P : Trees} {M : Machine} {c : Core} (r : Relates P M c) (laws : TreeLa
   unfolding returnOn
   waits h =
       let t = ne-eqb (actingIn c w .outstanding) 0 (λ z. parent-count (q .name) (live M) h (sym outstanding-is ∙ z)) in
-      rw (h, t, acting-frame r w q d lt e) (suspends r w q d lt e true laws, refl)
+      rw (h, t, acting-frame r w q d lt e) (suspends r w q d lt e true laws, stops (suspends-keeps r w q d lt e true laws), refl)
 
   -- ---- it ends
 
@@ -316,7 +334,14 @@ module _ {P : Trees} {M : Machine} {c : Core} (r : Relates P M c) (laws : TreeLa
         }
 
     E : (r′ : Relates P M₁ c₁) × (r′ .at ≡ r .at)
-    E = end-relates r tree q R before (set (M .deques) w d) (M .suspended) (pop (c .deques) w) left laws
+    E = end-relates r tree q R before (set (M .deques) w d) (M .suspended) (pop (c .deques) w) left laws (next-in r tree K q R before)
+
+    ended : Ended r (E .0) q R
+    unfolding endAt
+    ended = record { before = before; after = live-with M w d lt; places = λ n. ap (λ (at : Name → ℕ). at n) (E .1); frames = refl; totals = refl }
+
+    links-left : Links (c₁ .frames) (E .0 .at) (live M₁)
+    links-left = links-end r tree K q R before (E .0) ended h
 
     live-left : List·Permᴰ (live M₁) R
     live-left = live-with M w d lt
@@ -376,26 +401,27 @@ module _ {P : Trees} {M : Machine} {c : Core} (r : Relates P M c) (laws : TreeLa
     laws-left = laws
 
     -- the result of the end is the return's
-    as-return : (s : StepResult) → returnOn c w ≡ s → Relates P (afterEnd M w q d) (s .core) → answerWords (s .answer) ≡ (102, endOutcome (afterEnd M w q d) w d) → Returns (returnOn c w)
-    as-return s e R a = rw (h, e) (R, a)
+    as-return : {N : Machine} {s : StepResult} → afterEnd M w q d ≡ N → returnOn c w ≡ s → (r′ : Relates P N (s .core)) → EndsInTurn (E .0) r′ → answerWords (s .answer) ≡ (102, endOutcome (afterEnd M w q d) w d) → Returns (returnOn c w)
+    as-return {N} {s} is e r′ T a =
+        let back : (r″ : Relates P (afterEnd M w q d) (s .core)) × EndsInTurn r r″ = subst (λ (O : Machine). (r″ : Relates P O (s .core)) × EndsInTurn r r″) (sym is) (r′, ends-then q R tree h ended T) in
+        rw (h, e) (back .0, back .1, a)
 
     on-empty : d ≡ [] → Returns (returnOn c w)
     on-empty z =
         let idle : deque M₁ w ≡ [] = getD-set-same (M .deques) w d [] lt ∙ z in
         let lt₁ : w < length (M₁ .deques) = omega (arith, lt, length-set (M .deques) w d) in
-        let W = subst (λ (at : Name → ℕ). Went P M₁ w (q .name) (upwardOn (length (q .name)) c₁ w (parentPlace at (q .name)))) (E .1)
-        (upward-relates P (q .name) M₁ c₁ (E .0) laws-left tree-left w lt₁ idle above-left) in
+        let W = subst (λ (at : Name → ℕ). Went (E .0) (upward M₁ w (q .name)) (outcomeUpward M₁ (q .name)) (upwardOn (length (q .name)) c₁ w (parentPlace at (q .name)))) (E .1)
+        (upward-relates P (q .name) M₁ c₁ (E .0) laws-left tree-left links-left w lt₁ idle above-left) in
         let o = outcome-upward M₁ w (q .name) lt₁ idle (tree-left .rooted) (tree-left .disjoint) above-left in
         let is : afterEnd M w q d ≡ upward M₁ w (q .name) = ended-empty z in
-        as-return (upwardOn (length (q .name)) c₁ w (parentPlace (r .at) (q .name))) (ends-is ∙ bottom-is (ap length z))
-        (rw is (W .related)) (W .answered ∙ ap (λ (x : ℕ). (102, x)) (sym o ∙ sym (ap₂ (λ (N : Machine) (l : List Frame). endOutcome N w l) is z)))
+        as-return is (ends-is ∙ bottom-is (ap length z)) (W .related) (W .ends) (W .answered ∙ ap (λ (x : ℕ). (102, x)) (sym o ∙ sym (ap₂ (λ (N : Machine) (l : List Frame). endOutcome N w l) is z)))
 
     on-rest : (x : Frame) (l : List Frame) → d ≡ x ∷ l → Returns (returnOn c w)
     on-rest x l z =
         let is : afterEnd M w q d ≡ M₁ = ended-rest x l z in
         let m : In x (live M₁) = In-perm (Permᴰ·symm live-left) (In-left (rest M w) (subst (λ (y : List Frame). In x y) (sym z) (here refl))) in
         let main = main-there (live M₁) (tree-left .rooted) (x .name) (In-hasFrame (x .name) (live M₁) x m refl) in
-        as-return (returned c₁ Continued) (ends-is ∙ above-is (λ y. omega (arith, y, ap length z))) (rw is (E .0))
+        as-return is (ends-is ∙ above-is (λ y. omega (arith, y, ap length z))) (E .0) (stops (keeps-same (E .0)))
         (ap (λ (y : ℕ). (102, y)) (sym (ap₂ (λ (N : Machine) (y : List Frame). endOutcome N w y) is z ∙ rw main)))
 
     returns-left : Returns (returnOn c w)
@@ -410,21 +436,21 @@ pub ends-by : (P : Trees) (T : ℕ → Core → ℕ → Type 0) → ((c : Core) 
     → ((M : Machine) (c : Core) (r : Relates P M c) → TreeLaws (c .head .numbers .nodes) (M .splitters) P → FrameTree M → (g : Frame) → In g (live M)
     → (endsToo (frameAt (c .frames) (r .at (g .name))) ≡ true → T (length (g .name)) (endAt c (r .at (g .name))) (parentPlace (r .at) (g .name)))
     → T (suc (length (g .name))) c (r .at (g .name)))
-    → (M : Machine) (c : Core) (r : Relates P M c) → TreeLaws (c .head .numbers .nodes) (M .splitters) P → FrameTree M
+    → (M : Machine) (c : Core) (r : Relates P M c) → TreeLaws (c .head .numbers .nodes) (M .splitters) P → FrameTree M → Links (c .frames) (r .at) (live M)
     → (w : ℕ) (q : Frame) (d : List Frame) (lt : w < length (M .deques)) (e : deque M w ≡ q ∷ d) → hasChild (q .name) (live M) ≡ false
     → T (length (q .name)) (endAt (popped c w) (r .at (q .name))) (parentPlace (r .at) (q .name))
-ends-by P T stop turn M c r laws tree w q d lt e h =
-    let x = E r laws tree w q d lt e h in
+ends-by P T stop turn M c r laws tree K w q d lt e h =
+    let x = E r laws tree K w q d lt e h in
     let c₁ = endAt (popped c w) (r .at (q .name)) in
     subst (λ (at : Name → ℕ). T (length (q .name)) c₁ (parentPlace at (q .name))) (x .1)
-    (upward-by P T stop turn (q .name) (withDeque M w d) c₁ (x .0) (laws-left r laws tree w q d lt e h) (tree-left r laws tree w q d lt e h) (above-left r laws tree w q d lt e h))
+    (upward-by P T stop turn (q .name) (withDeque M w d) c₁ (x .0) (laws-left r laws tree K w q d lt e h) (tree-left r laws tree K w q d lt e h) (links-left r laws tree K w q d lt e h) (above-left r laws tree K w q d lt e h))
 
-pub sim-return : (P : Trees) (M : Machine) (c : Core) (w : ℕ) → TreeLaws (c .head .numbers .nodes) (M .splitters) P → FrameTree M → Passes M (acting w return) → Relates P M c
-    → Relates P (afterTurn M (acting w return)) (returnOn c w .core) × (answerWords (returnOn c w .answer) ≡ turnAnswer M (acting w return))
-sim-return P M c w laws tree h r =
+pub sim-return : (P : Trees) (M : Machine) (c : Core) (w : ℕ) → TreeLaws (c .head .numbers .nodes) (M .splitters) P → FrameTree M → Passes M (acting w return) → (r : Relates P M c) → Links (c .frames) (r .at) (live M)
+    → (r′ : Relates P (afterTurn M (acting w return)) (returnOn c w .core)) × EndsInTurn r r′ × (answerWords (returnOn c w .answer) ≡ turnAnswer M (acting w return))
+sim-return P M c w laws tree h r K =
     let x = acts M w return h in
-    subst (λ (z : List Frame). Relates P (afterAction M w z return) (returnOn c w .core) × (answerWords (returnOn c w .answer) ≡ actionAnswer M w z return)) (sym (x .at))
+    subst (λ (z : List Frame). (r′ : Relates P (afterAction M w z return) (returnOn c w .core)) × EndsInTurn r r′ × (answerWords (returnOn c w .answer) ≡ actionAnswer M w z return)) (sym (x .at))
     (elim (decided (hasChild (x .actor .name) (live M))) [
-      | inl t ↦ waits r laws tree w (x .actor) (x .above) (x .worker) (x .at) t
-      | inr t ↦ returns-left r laws tree w (x .actor) (x .above) (x .worker) (x .at) t
+      | inl t ↦ waits r laws tree K w (x .actor) (x .above) (x .worker) (x .at) t
+      | inr t ↦ returns-left r laws tree K w (x .actor) (x .above) (x .worker) (x .at) t
     ])

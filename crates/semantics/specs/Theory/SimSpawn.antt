@@ -1,9 +1,9 @@
 -- An accepted spawn of the plain machine is matched by the engine's words: the child stands in the first free place.
 use mathlib.Core.Path.{_≡_, refl, sym, ap, ap₂, _∙_, subst}
-use mathlib.Core.Logic.{_≢_, inl, inr}
+use mathlib.Core.Logic.{_≢_, _⊎_, inl, inr}
 use mathlib.Core.Bool.{false, cond}
 use mathlib.Core.List.{List·Memᴰ as In, List·Memᴰ·head as here, List·Memᴰ·tail as there, List·Memᴰ·cases-cons as In-cons, List·Memᴰ·append-cases as In-cases, Memᴰ·append-left as In-left, Memᴰ·append-right as In-right, Memᴰ·map as In-map}
-use mathlib.Core.List.{List, [], _∷_, _++_, List·Permᴰ, Permᴰ·symm, Permᴰ·map}
+use mathlib.Core.List.{List, [], _∷_, _++_, cons≢nil, List·Permᴰ, Permᴰ·symm, Permᴰ·map}
 use Prim.Native.Nat.{ℕ, suc, _<_}
 use native.Mathlib.Omega.{arith}
 use native.Mathlib.Decide.{ℕ-discrete}
@@ -19,8 +19,12 @@ use Rattle.pool.specs.Pool.{readAt, retain}
 use Rattle.frames.specs.Widths.{places}
 use Rattle.frames.specs.Deques.{dequeList}
 use Rattle.frames.specs.declared.Frame.{Frame as FrameWords}
-use Rattle.frames.specs.Frames.{frameAt, freePlace, childOf, withChild}
-use Rattle.frames.specs.Steps.{Table, spawn as spawnTable}
+use Rattle.frames.specs.Frames.{frameAt, freePlace, childOf}
+use Rattle.frames.specs.Frames.{afterSpawn as continued}
+use Rattle.frames.specs.Steps.{Table, linkChild, addChild}
+use Rattle.frames.specs.Steps.{spawn as spawnTable}
+use Rattle.frames.specs.Theory.Alike.{Alike}
+use Rattle.frames.specs.Theory.Links.{link-alike}
 use Rattle.frames.specs.Theory.Cells.{plus-one}
 use Rattle.frames.specs.Theory.Tables.{Formed}
 use Rattle.frames.specs.Theory.Summary.{Spawned, spawn-does as spawned-table}
@@ -31,9 +35,11 @@ use Rattle.model.specs.Theory.Children.{hasChild-In}
 use Rattle.model.specs.Theory.Effects.{Passes, acts, rest, live-at, live-with}
 use Rattle.model.specs.Theory.FrameTree.{Rooted, rooted-perm, FrameTree, names-apart}
 use Rattle.semantics.specs.Answers.{answerWords}
-use Rattle.semantics.specs.Core.{Core, tableOf, actingIn, spawnOn}
+use Rattle.semantics.specs.Core.{Core, tableOf, withFreePlace, actingIn, spawnOn}
 use Rattle.semantics.specs.Theory.Relation.{Trees, TreeLaws, Kept, parentPlace, childCount, placesOf, rootOf, rootsOf, Recorded, Relates}
-use Rattle.semantics.specs.Theory.Places.{count-perm, childCount-perm, map-cong, joined-at, PlacedOnce, not-head, place-left, childCount-le, childless-count, depth-few, recorded-as, recorded-kept, placed-inside, placed-taken, placed-apart, in-deque, treeOf, same-numbers, worker-few, acting-deque, acting-frame, acting-record}
+use Rattle.semantics.specs.Theory.Places.{count-perm, childCount-perm, map-cong, joined-at, PlacedOnce, not-head, place-left, childCount-le, childless-count, depth-few, recorded-as, recorded-kept, placed-inside, placed-taken, placed-apart, in-deque, treeOf, same-numbers, worker-few, acting-deque, acting-place, acting-frame, acting-record}
+use Rattle.semantics.specs.Theory.RelationFacts.{bottom-lives as bottom-in}
+use Rattle.semantics.specs.Theory.AlikeTables.{withFrameTable, relates-alike}
 
 -- ---- the child's place
 
@@ -47,6 +53,29 @@ placed-new at n g = rw (same-refl n)
 placed-other : (at : Name → ℕ) (n : Name) (g : ℕ) (r : Name) → r ≢ n → placed at n g r ≡ at r
 placed-other at n g r ne = rw (same-differ ne)
 
+-- the core after the child is added to the table
+abbrev spawnedCore : Core → ℕ → Core
+spawnedCore c w =
+    let t : Table = addChild (tableOf c) w in
+    record { head = withFreePlace (c .head) (t .«free_place»); totals = c .totals; deques = t .deques; frames = t .frames; pool = retain (c .pool) (actingIn c w .root) }
+
+-- what a spawn leaves of the places and records: q, at a place, spawned; fs are the records with the child's elder sibling linked, g is the child's place
+pub record Spawns {P : Trees} {M M′ : Machine} {c c′ : Core} (r : Relates P M c) (r′ : Relates P M′ c′) (q : Frame) : Type 0 where
+  pub bottom-lives : In q (live M)
+  pub child-place : r′ .at (child q .name) ≡ c .head .numbers .«free_place»
+  pub inside : c .head .numbers .«free_place» < places
+  pub vacant : frameAt (c .frames) (c .head .numbers .«free_place») .live ≡ 0
+  pub places-kept : (f : Frame) → In f (live M) → r′ .at (f .name) ≡ r .at (f .name)
+  pub from : (f : Frame) → In f (live M′) → (f .name ≡ child q .name) ⊎ ((g : Frame) × In g (live M) × (g .name ≡ f .name))
+  pub to : (f : Frame) → In f (live M) → (g : Frame) × In g (live M′) × (g .name ≡ f .name)
+  pub new-lives : In (child q) (live M′)
+  pub own : frameAt (c′ .frames) (r .at (q .name)) ≡ continued (frameAt (linkChild (c .frames) (r .at (q .name)) (c .head .numbers .«free_place»)) (r .at (q .name)))
+  pub new : frameAt (c′ .frames) (c .head .numbers .«free_place»)
+      ≡ childOf (frameAt (linkChild (c .frames) (r .at (q .name)) (c .head .numbers .«free_place»)) (r .at (q .name))) (r .at (q .name))
+  pub others : (p : ℕ) → p ≢ c .head .numbers .«free_place» → p ≢ r .at (q .name)
+      → frameAt (c′ .frames) p ≡ frameAt (linkChild (c .frames) (r .at (q .name)) (c .head .numbers .«free_place»)) p
+  pub same-totals : c′ .totals ≡ c .totals
+
 -- ---- the step: q spawns, g is the first free place and hs are the others
 
 module _ {P : Trees} {M : Machine} {c : Core} (r : Relates P M c) (tree : FrameTree M) (w : ℕ) (q : Frame) (d : List Frame)
@@ -58,7 +87,7 @@ module _ {P : Trees} {M : Machine} {c : Core} (r : Relates P M c) (tree : FrameT
   M′ = withDeque M w (child q ∷ afterSpawn q ∷ d)
 
   abbrev t′ : Table
-  t′ = spawnTable (tableOf c) w
+  t′ = addChild (tableOf c) w
 
   abbrev at′ : Name → ℕ
   at′ = placed (r .at) (child q .name) g
@@ -185,7 +214,7 @@ module _ {P : Trees} {M : Machine} {c : Core} (r : Relates P M c) (tree : FrameT
 
   parent-record : Recorded (t′ .frames) at′ (live M′) 0 (afterSpawn q)
   parent-record =
-      recorded-as (t′ .frames) at′ (live M′) 0 (afterSpawn q) (r .at (q .name)) (withChild (frameAt (c .frames) (r .at (q .name)))) (same-place q (here refl)) (S .parent)
+      recorded-as (t′ .frames) at′ (live M′) 0 (afterSpawn q) (r .at (q .name)) (continued (frameAt (c .frames) (r .at (q .name)))) (same-place q (here refl)) (S .parent)
       (q-record .inside) (q-record .live) (q-record .parent ∙ sym (same-parent q (here refl))) (q-record .depth)
       (ap (λ (n : ℕ). plus n 1) (q-record .outstanding) ∙ plus-one (childCount (q .name) (live M)) (omega (arith, few, childCount-le (q .name) (live M))) ∙ one-more) (q-record .suspended) (q-record .returning)
 
@@ -211,6 +240,15 @@ module _ {P : Trees} {M : Machine} {c : Core} (r : Relates P M c) (tree : FrameT
 
   waiting-after : (f : Frame) → In f (M .suspended) → Recorded (t′ .frames) at′ (live M′) 1 f
   waiting-after f m = kept f (In-right d (In-left (joined (set (M .deques) w [])) m)) 1 (r .waiting f m)
+
+  named-from : (f : Frame) → In f (live M′) → (f .name ≡ child q .name) ⊎ ((h : Frame) × In h (live M) × (h .name ≡ f .name))
+  named-from f m = elim (In-cons (In-perm after m)) [
+    | inl y ↦ inl (ap (λ (z : Frame). z .name) y)
+    | inr i ↦ elim (In-cons i) [
+      | inl y ↦ inr (q, old q (here refl), ap (λ (z : Frame). z .name) (sym y))
+      | inr j ↦ inr (f, old f (there j), refl)
+    ]
+  ]
 
   -- ---- trees
 
@@ -264,36 +302,105 @@ module _ {P : Trees} {M : Machine} {c : Core} (r : Relates P M c) (tree : FrameT
           ]
         ]
 
-    spawn-relates : Relates P (afterAction M w (q ∷ d) spawn) (spawnOn c w .core)
-    unfolding spawnOn
+    spawn-relates : Relates P (afterAction M w (q ∷ d) spawn) (spawnedCore c w)
     spawn-relates = record {
       at = at′;
       gs = hs;
-      numbers = same-numbers M c (spawnOn c w .core) (M′ .deques) (M .suspended) (length-set (M .deques) w (child q ∷ afterSpawn q ∷ d)) (r .numbers) refl refl refl refl;
+      numbers = same-numbers M c (spawnedCore c w) (M′ .deques) (M .suspended) (length-set (M .deques) w (child q ∷ afterSpawn q ∷ d)) (r .numbers) refl refl refl refl;
       formed = S .after .formed;
       deques = deques-after;
       running = running-after;
       waiting = waiting-after;
       once = once-after;
       vacant = vacant-after;
+      totals = record { long = r .totals .long; zero = λ f m z. elim (named-from f m) [ inl y ↦ absurd (cons≢nil (sym y ∙ z)) | inr x ↦ r .totals .zero (x .0) (x .1) (x .2 ∙ z) ] };
       trees = trees-after;
       values = values-after;
     }
 
+  child-answer : plus (actingIn c w .depth) 1 ≡ suc (length (q .name))
+  child-answer = ap (λ (G : FrameWords). plus (G .depth) 1) (acting-frame r w q d lt e) ∙ child-depth
+
+  first-place : c .head .numbers .«free_place» ≡ g
+  first-place = formed .places .0
+
+  free-live : frameAt (c .frames) g .live ≡ 0
+  free-live =
+      ap (λ (G : FrameWords). G .live) (r .vacant g (formed .places .1) (subst (λ (z : List ℕ). 0 < count g z) (sym eg) (omega (arith, count-cons g g hs, δ-same g))) .1)
+
+  named-to : (f : Frame) → In f (live M) → (h : Frame) × In h (live M′) × (h .name ≡ f .name)
+  named-to f m = elim (In-cons (In-perm before m)) [
+    | inl y ↦ (afterSpawn q, In-perm (Permᴰ·symm after) (there (here refl)), ap (λ (z : Frame). z .name) (sym y))
+    | inr j ↦ (f, In-perm (Permᴰ·symm after) (there (there j)), refl)
+  ]
+
+-- ---- with the youngest of the other children linked to the new one
+
+module _ {P : Trees} {M : Machine} {c : Core} (r : Relates P M c) (tree : FrameTree M) (w : ℕ) (q : Frame) (d : List Frame)
+    (lt : w < length (M .deques)) (e : deque M w ≡ q ∷ d) (few : length (live M) < places) (g : ℕ) (hs : List ℕ) (eg : r .gs ≡ g ∷ hs)
+    (laws : TreeLaws (c .head .numbers .nodes) (M .splitters) P) where
+  abbrev own-place : ℕ
+  own-place = r .at (q .name)
+
+  -- the records with the new link
+  abbrev linked : List ℕ
+  linked = linkChild (c .frames) own-place (c .head .numbers .«free_place»)
+
+  abbrev c₀ : Core
+  c₀ = withFrameTable c linked
+
+  alike : Alike (c .frames) linked
+  alike = link-alike (c .frames) own-place (c .head .numbers .«free_place») (r .formed .long)
+
+  abbrev r₀ : Relates P M c₀
+  r₀ = relates-alike r linked alike
+
+  -- the step is that of the core with the new link
+  spawn-core : spawnOn c w .core ≡ spawnedCore c₀ w
+  unfolding spawnOn spawnTable
+  spawn-core = rw (acting-place r w q d lt e, alike .same own-place .root)
+
+  related : Relates P (afterAction M w (q ∷ d) spawn) (spawnedCore c₀ w)
+  related = spawn-relates r₀ tree w q d lt e few g hs eg laws
+
+  same-free : c .head .numbers .«free_place» ≡ g
+  same-free = first-place r₀ tree w q d lt e few g hs eg
+
+  spawns : Spawns r related q
+  unfolding related spawn-relates
+  spawns =
+      let S₀ = S r₀ tree w q d lt e few g hs eg in
+      record {
+        bottom-lives = bottom-in r w q d e;
+        child-place = new-place r₀ tree w q d lt e few g hs eg ∙ sym same-free;
+        inside = subst (λ (z : ℕ). z < places) (sym same-free) (formed r₀ tree w q d lt e few g hs eg .places .1);
+        vacant = subst (λ (z : ℕ). frameAt (c .frames) z .live ≡ 0) (sym same-free) (free-live r tree w q d lt e few g hs eg);
+        places-kept = λ f m. same-place r₀ tree w q d lt e few g hs eg f (In-perm (live-at M w (q ∷ d) lt e) m);
+        from = named-from r₀ tree w q d lt e few g hs eg;
+        to = named-to r₀ tree w q d lt e few g hs eg;
+        new-lives = In-perm (Permᴰ·symm (after r₀ tree w q d lt e few g hs eg)) (here refl);
+        own = S₀ .parent;
+        new = subst (λ (z : ℕ). frameAt (addChild (tableOf c₀) w .frames) z ≡ childOf (frameAt linked own-place) own-place) (sym same-free) (S₀ .child);
+        others = λ p n m. S₀ .after .records p (subst (λ (z : ℕ). p ≢ z) same-free n, (m, tt));
+        same-totals = refl;
+      }
+
   spawn-answer : answerWords (spawnOn c w .answer) ≡ actionAnswer M w (q ∷ d) spawn
   unfolding spawnOn
-  spawn-answer = ap (λ (n : ℕ). (101, n)) (ap (λ (G : FrameWords). plus (G .depth) 1) (acting-frame r w q d lt e) ∙ child-depth)
+  spawn-answer = ap (λ (n : ℕ). (101, n)) (child-answer r tree w q d lt e few g hs eg)
 
-pub sim-spawn : (P : Trees) (M : Machine) (c : Core) (w : ℕ) → TreeLaws (c .head .numbers .nodes) (M .splitters) P → FrameTree M → Passes M (acting w spawn) → Relates P M c
-    → Relates P (afterTurn M (acting w spawn)) (spawnOn c w .core) × (answerWords (spawnOn c w .answer) ≡ turnAnswer M (acting w spawn))
+  spawned-by : (r′ : Relates P (afterTurn M (acting w spawn)) (spawnOn c w .core)) × Spawns r r′ q × (answerWords (spawnOn c w .answer) ≡ turnAnswer M (acting w spawn))
+  spawned-by = rw (e, spawn-core) (related, spawns, spawn-answer)
+
+pub sim-spawn : (P : Trees) (M : Machine) (c : Core) (w : ℕ) → TreeLaws (c .head .numbers .nodes) (M .splitters) P → FrameTree M → (h : Passes M (acting w spawn)) → (r : Relates P M c)
+    → (r′ : Relates P (afterTurn M (acting w spawn)) (spawnOn c w .core)) × Spawns r r′ (acts M w spawn h .actor) × (answerWords (spawnOn c w .answer) ≡ turnAnswer M (acting w spawn))
 sim-spawn P M c w laws tree h r =
     let x = acts M w spawn h in
+    let q = x .actor in
+    let d = x .above in
     let few : length (live M) < places = subst (λ z. z < places) (sym (perm-length (x .before))) (x .allowed) in
     let y = first-free (r .gs) (place-left (r .at) (r .gs) (live M) (r .once) few) in
-    subst (λ (z : List Frame). Relates P (afterAction M w z spawn) (spawnOn c w .core) × (answerWords (spawnOn c w .answer) ≡ actionAnswer M w z spawn)) (sym (x .at)) (
-      spawn-relates r tree w (x .actor) (x .above) (x .worker) (x .at) few (y .0) (y .1) (y .2) laws,
-      spawn-answer r tree w (x .actor) (x .above) (x .worker) (x .at) few (y .0) (y .1) (y .2),
-    )
+    spawned-by r tree w q d (x .worker) (x .at) few (y .0) (y .1) (y .2) laws
   where
     first-free : (gs : List ℕ) → 0 < length gs → (g : ℕ) × (hs : List ℕ) × (gs ≡ g ∷ hs)
     first-free [] b = absurd (omega arith)

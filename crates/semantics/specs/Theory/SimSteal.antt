@@ -21,8 +21,9 @@ use Rattle.model.specs.Theory.Effects.{Passes, Steals, steals, belowTop-top, th
 use Rattle.model.specs.Theory.RunSteps.{sizes-turn}
 use Rattle.semantics.specs.Answers.{answerWords}
 use Rattle.semantics.specs.Core.{Core, tableOf, stealOn}
-use Rattle.semantics.specs.Theory.Relation.{Trees, TreeLaws, placesOf, Recorded, Relates}
+use Rattle.semantics.specs.Theory.Relation.{Trees, TreeLaws, placesOf, Recorded, Relates, Keeps}
 use Rattle.semantics.specs.Theory.Places.{count-perm, childCount-perm, in-deque, recorded-kept, same-numbers}
+use Rattle.semantics.specs.Theory.LinksKept.{totals-kept}
 use Rattle.semantics.specs.Theory.RelationFacts.{trees-perm, in-set, lists-with, workers-le}
 
 -- ---- a list's last element
@@ -91,8 +92,22 @@ module _ (P : Trees) (M : Machine) (c : Core) (w v : ℕ) (s : Steals M w v) (r 
     waiting = λ f m. stays 1 f (r .waiting f m);
     once = λ p h. omega (arith, r .once p h, count-perm p (Permᴰ·map (λ (f : Frame). r .at (f .name)) (s .same-frames)));
     vacant = r .vacant;
+    totals = totals-kept (λ f m. (f, In-perm (Permᴰ·symm (s .same-frames)) m, refl)) (r .totals);
     trees = trees-perm (c .frames) (r .at) laws (s .same-frames) (r .trees);
     values = λ f m x h. r .values f (In-perm (Permᴰ·symm (s .same-frames)) m) x h;
+  }
+
+  related-keeps : (laws : TreeLaws (c .head .numbers .nodes) (M .splitters) P) → Keeps r (related laws)
+  unfolding stealOn related
+  related-keeps laws = record {
+    places = λ n. refl;
+    live = λ p. refl;
+    parent = λ p. refl;
+    view = λ p. refl;
+    link = λ p. refl;
+    from = λ f m. (f, In-perm (Permᴰ·symm (s .same-frames)) m, refl);
+    to = λ f m. (f, In-perm (s .same-frames) m, refl);
+    totals = refl;
   }
 
   -- the top frame's record has its depth
@@ -107,7 +122,7 @@ module _ (P : Trees) (M : Machine) (c : Core) (w v : ℕ) (s : Steals M w v) (r 
       ap (λ (p : ℕ). frameAt (c .frames) p .depth) (head-eq-of-cons-eq (top-list ∙ ap (placesOf (r .at)) z))
       ∙ r .running f (in-deque (M .deques) v (in-top (deque M v) (subst (λ (y : List Frame). In f y) (sym z) (here refl)))) .depth
 
-pub sim-steal : (P : Trees) (M : Machine) (c : Core) (w v : ℕ) → TreeLaws (c .head .numbers .nodes) (M .splitters) P → Passes M (stealing w v) → Relates P M c
-    → Relates P (afterTurn M (stealing w v)) (stealOn c w v .core) × (answerWords (stealOn c w v .answer) ≡ turnAnswer M (stealing w v))
+pub sim-steal : (P : Trees) (M : Machine) (c : Core) (w v : ℕ) → TreeLaws (c .head .numbers .nodes) (M .splitters) P → Passes M (stealing w v) → (r : Relates P M c)
+    → (r′ : Relates P (afterTurn M (stealing w v)) (stealOn c w v .core)) × Keeps r r′ × (answerWords (stealOn c w v .answer) ≡ turnAnswer M (stealing w v))
 unfolding stealOn
-sim-steal P M c w v laws h r = let s = steals M w v h in (related P M c w v s r laws, ap (λ (z : ℕ). (103, z)) (top-depth P M c w v s r (top (deque M v)) refl))
+sim-steal P M c w v laws h r = let s = steals M w v h in (related P M c w v s r laws, related-keeps P M c w v s r laws, ap (λ (z : ℕ). (103, z)) (top-depth P M c w v s r (top (deque M v)) refl))

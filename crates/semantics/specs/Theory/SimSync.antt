@@ -16,10 +16,11 @@ use Rattle.model.specs.Steps.{sync, acting, afterTurn, turnAnswer}
 use Rattle.model.specs.Theory.Effects.{Passes, acts}
 use Rattle.semantics.specs.Answers.{answerWords}
 use Rattle.semantics.specs.Core.{Core, tableOf, syncOn}
-use Rattle.semantics.specs.Theory.Relation.{Trees, TreeLaws, placesOf, Recorded, Relates}
+use Rattle.semantics.specs.Theory.Relation.{Trees, TreeLaws, placesOf, Recorded, Relates, Keeps}
 use Rattle.semantics.specs.Theory.Places.{childless-count, acting-deque, acting-record}
+use Rattle.semantics.specs.Theory.LinksKept.{keeps-same}
 use Rattle.semantics.specs.Theory.RelationFacts.{parent-count, stored}
-use Rattle.semantics.specs.Theory.Suspended.{record-waiting, suspends}
+use Rattle.semantics.specs.Theory.Suspended.{record-waiting, suspends, suspends-keeps}
 
 module _ (P : Trees) (M : Machine) (c : Core) (w : ℕ) (q : Frame) (d : List Frame) (lt : w < length (M .deques)) (e : deque M w ≡ q ∷ d) (r : Relates P M c) where
   own : Recorded (c .frames) (r .at) (live M) 0 q
@@ -35,8 +36,8 @@ module _ (P : Trees) (M : Machine) (c : Core) (w : ℕ) (q : Frame) (d : List Fr
   passed : hasChild (q .name) (live M) ≡ false → (syncTable (tableOf c) w ≡ tableOf c) × (synced (tableOf c) w ≡ Passed)
   passed h = passes (tableOf c) w (r .at (q .name)) (placesOf (r .at) d) (acting-deque r w q d lt e) (own .outstanding ∙ childless-count (q .name) (live M) h)
 
-pub sim-sync : (P : Trees) (M : Machine) (c : Core) (w : ℕ) → TreeLaws (c .head .numbers .nodes) (M .splitters) P → Passes M (acting w sync) → Relates P M c
-    → Relates P (afterTurn M (acting w sync)) (syncOn c w .core) × (answerWords (syncOn c w .answer) ≡ turnAnswer M (acting w sync))
+pub sim-sync : (P : Trees) (M : Machine) (c : Core) (w : ℕ) → TreeLaws (c .head .numbers .nodes) (M .splitters) P → Passes M (acting w sync) → (r : Relates P M c)
+    → (r′ : Relates P (afterTurn M (acting w sync)) (syncOn c w .core)) × Keeps r r′ × (answerWords (syncOn c w .answer) ≡ turnAnswer M (acting w sync))
 unfolding syncOn
 sim-sync P M c w laws pass r =
     let a = acts M w sync pass in
@@ -44,6 +45,6 @@ sim-sync P M c w laws pass r =
     let d = a .above in
     rw (a .at)
     (elim (decided (hasChild (q .name) (live M))) [
-      | inl h ↦ (let x = waiting P M c w q d (a .worker) (a .at) r h in rw (h, x .1, x .0) (suspends r w q d (a .worker) (a .at) (q .returning) laws, refl))
-      | inr h ↦ (let x = passed P M c w q d (a .worker) (a .at) r h in rw (h, x .0, x .1) (r, refl))
+      | inl h ↦ (let x = waiting P M c w q d (a .worker) (a .at) r h in rw (h, x .1, x .0) (suspends r w q d (a .worker) (a .at) (q .returning) laws, suspends-keeps r w q d (a .worker) (a .at) (q .returning) laws, refl))
+      | inr h ↦ (let x = passed P M c w q d (a .worker) (a .at) r h in rw (h, x .0, x .1) (r, keeps-same r, refl))
     ])

@@ -29,10 +29,10 @@ use Rattle.semantics.specs.declared.Answer.the-variants.{Accepted}
 use Rattle.semantics.specs.declared.Done.the-variants.{Written}
 use Rattle.semantics.specs.Answers.{answerWords}
 use Rattle.semantics.specs.Core.{Core, StepResult, stepResult, withFreeNodes, writeOn}
-use Rattle.semantics.specs.Theory.Relation.{Trees, Kept, Fresh, event, TreeLaws, rootOf, rootsOf, Recorded, Relates}
+use Rattle.semantics.specs.Theory.Relation.{Trees, Kept, Fresh, event, TreeLaws, rootOf, rootsOf, Recorded, Relates, Keeps}
 use Rattle.semantics.specs.Theory.Places.{placed-inside, placed-taken, treeOf, same-numbers, acting-deque, acting-place, acting-record}
 use Rattle.semantics.specs.Theory.RelationFacts.{trees-perm, in-rest, lists-with, bottom-lives, above-runs}
-use Rattle.semantics.specs.Theory.Stored.{Carried, carried}
+use Rattle.semantics.specs.Theory.Stored.{Carried, carried, keeps-stored}
 
 module _ (P : Trees) (M : Machine) (c : Core) (w x v : ℕ) (q : Frame) (d : List Frame) (lt : w < length (M .deques)) (e : deque M w ≡ q ∷ d) (r : Relates P M c) where
   abbrev root : ℕ
@@ -49,7 +49,7 @@ module _ (P : Trees) (M : Machine) (c : Core) (w x v : ℕ) (q : Frame) (d : Lis
   new-frames = setFrame (c .frames) (r .at (q .name)) new-record
 
   abbrev new-did : StepResult
-  new-did = stepResult (withFreeNodes (c .head) (after .1) (after .2)) (c .deques) new-frames (after .0) (Accepted (Written (after .2)))
+  new-did = stepResult (withFreeNodes (c .head) (after .1) (after .2)) (c .totals) (c .deques) new-frames (after .0) (Accepted (Written (after .2)))
 
   write-is : writeOn c w x v ≡ new-did
   unfolding writeOn
@@ -137,6 +137,7 @@ module _ (P : Trees) (M : Machine) (c : Core) (w x v : ℕ) (q : Frame) (d : Lis
       waiting = λ f m. carries .other-record 1 f (In-right d (In-left (joined (set (M .deques) w [])) m)) (r .waiting f m);
       once = carries .once;
       vacant = carries .vacant;
+      totals = carries .totals;
       trees = trees-perm new-frames (r .at) laws afterwards (rw (carries .other-roots, carries .own-root) (law .0));
       values = λ f m y h. elim (In-cons (In-perm (Permᴰ·symm afterwards) m)) [
         | inl z ↦ subst (λ (g : Frame). readAt (height (M .splitters)) (after .0) (rootOf new-frames (r .at) g) y ≡ getD (g .values) y 0) (sym z) (new-value y h)
@@ -144,10 +145,17 @@ module _ (P : Trees) (M : Machine) (c : Core) (w x v : ℕ) (q : Frame) (d : Lis
       ];
     }
 
+    related-keeps : Keeps r related
+    unfolding related
+    related-keeps = keeps-stored r related (λ n. refl) refl carries
+
 pub sim-write : (P : Trees) (M : Machine) (c : Core) (w x v : ℕ) → TreeLaws (c .head .numbers .nodes) (M .splitters) P → MarkInvariant (live M) → Bounded (M .splitters) (live M)
     → (h : Passes M (acting w (write x v))) (r : Relates P M c) → rest-of (height (M .splitters)) (c .pool) (rootOf (c .frames) (r .at) (acts M w (write x v) h .actor)) x ≤ c .head .«free_count»
-    → Relates P (afterTurn M (acting w (write x v))) (writeOn c w x v .core) × (answerWords (writeOn c w x v .answer) ≡ (106, writeOn c w x v .core .head .«free_count»))
+    → (r′ : Relates P (afterTurn M (acting w (write x v))) (writeOn c w x v .core)) × Keeps r r′ × (answerWords (writeOn c w x v .answer) ≡ (106, writeOn c w x v .core .head .«free_count»))
 sim-write P M c w x v laws marks bounds h r room =
     let a = acts M w (write x v) h in
-    rw (a .at, write-is P M c w x v (a .actor) (a .above) (a .worker) (a .at) r)
-    (related P M c w x v (a .actor) (a .above) (a .worker) (a .at) r laws marks bounds (a .allowed .0) room, refl)
+    rw (a .at, write-is P M c w x v (a .actor) (a .above) (a .worker) (a .at) r) (
+      related P M c w x v (a .actor) (a .above) (a .worker) (a .at) r laws marks bounds (a .allowed .0) room,
+      related-keeps P M c w x v (a .actor) (a .above) (a .worker) (a .at) r laws marks bounds (a .allowed .0) room,
+      refl,
+    )

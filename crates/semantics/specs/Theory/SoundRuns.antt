@@ -7,30 +7,30 @@ use mathlib.Core.List.{List, [], _∷_, _++_}
 use Prim.Native.Nat.{ℕ, _-_, _*_, _≤_}
 use native.Mathlib.Omega.{arith}
 use lib.ListN.{length, take, drop}
-use lib.Dec.{eqb}
 use borrow.Author.Tests.{eqb-true, eqb-false}
 use Rattle.words.specs.Tests.{decided}
 use Rattle.model.specs.declared.Step.{Step}
-use Rattle.model.specs.declared.Step.the-variants.{Spawn, Return, Steal, Sync, Read, Write}
+use Rattle.model.specs.declared.Step.the-variants.{Spawn, Return, Steal, Sync, Read, Write, Fold}
 use Rattle.model.specs.declared.Decoded.{Decoded}
 use Rattle.model.specs.declared.Decoded.the-variants.{Valid, Invalid}
 use Rattle.model.specs.Machine.{Machine, freeNodes}
 use Rattle.model.specs.Steps.{step, answer}
+use Rattle.model.specs.Views.{viewsAtStart}
 use Rattle.semantics.specs.declared.Refusal.{Refusal}
 use Rattle.semantics.specs.declared.Answer.{Answer}
 use Rattle.semantics.specs.Answers.{answerWords}
-use Rattle.semantics.specs.Core.{Core, StepResult, judged, spawnOn, returnOn, stealOn, syncOn, readOn, writeOn, stepOn, testsOf, doneBy}
-use Rattle.semantics.specs.Entries.{State, fits, numbersOf, stateOf, isSound, recordOn}
-use Rattle.semantics.specs.Images.{LoadResult, savedImage, imageBefore, stateIn, poolWith}
+use Rattle.semantics.specs.Core.{Core, StepResult, judged, spawnOn, returnOn, stealOn, syncOn, readOn, writeOn, foldOn, stepOn, testsOf, doneBy}
+use Rattle.semantics.specs.Entries.{State, fits, numbersOf, totalsOf, stateOf, isSound, recordOn}
+use Rattle.semantics.specs.Images.{LoadResult, savedImage, stateIn, poolWith}
 use Rattle.semantics.specs.Calls.{HostCall, StateAndPool, restIn, poolAt, afterCall, coreIn, saveResult, Call, begun, runOf}
-use Rattle.semantics.specs.Demands.{withFree, isWritten, fromSound, plainOf, SoundRun, StateWords, AllCallWords, NoneWaiting, writtenImage, ReadsBack}
+use Rattle.semantics.specs.Demands.{Plain, withFree, isWritten, fromSound, plainOf, SoundRun, StateWords, AllCallWords, writtenImage, ReadsBack}
 use Rattle.semantics.specs.Theory.Refusals.{number-range}
 use Rattle.semantics.specs.Theory.Returning.{return-answers}
 use Rattle.semantics.specs.Theory.SoundSteps.{Carried, is-sound, sound-carried, rebased, roomed, simulated, step-carried, takes}
 use Rattle.semantics.specs.Theory.Elsewhere.{carried-elsewhere}
-use Rattle.semantics.specs.Theory.Fitting.{fits-true, true-fits, state-back}
+use Rattle.semantics.specs.Theory.Fitting.{fits-true, true-fits, state-back, totals-long}
 use Rattle.semantics.specs.Theory.Runs.{Laws, KeptBy, core-fits, call-follows}
-use Rattle.semantics.specs.Theory.Images.{sound-room, save-taken, accepted-save, LoadTaken, SaysCore, saved-says, before-says, load-takes, pool-with, front-same, loaded-state, loaded-front, loaded-beyond}
+use Rattle.semantics.specs.Theory.Images.{sound-room, save-taken, accepted-save, LoadTaken, SaysCore, saved-says, load-takes, pool-with, front-same, loaded-state, loaded-front, loaded-beyond}
 use Rattle.semantics.specs.Theory.WholeRuns.{kept-begun, kept-calls, fed-sound, answers-by}
 
 -- ---- a write's answer is the engine's own number of free nodes
@@ -46,13 +46,14 @@ return-number : (c : Core) (w : ℕ) → answerWords (returnOn c w .answer) .0 �
 return-number c w = ap (λ (a : Answer). answerWords a .0) (return-answers c w .1)
 
 done-own : (c : Core) (st : Step) → OwnNumber (doneBy c st)
-unfolding spawnOn stealOn syncOn readOn writeOn
+unfolding spawnOn stealOn syncOn readOn writeOn foldOn
 done-own c (Spawn w) h = absurd (omega arith)
 done-own c (Return w) h = absurd (omega (arith, h, return-number c w))
 done-own c (Steal w v) h = absurd (omega arith)
 done-own c (Sync w) h = absurd (omega arith)
 done-own c (Read w x) h = absurd (omega arith)
 done-own c (Write w x v) h = refl
+done-own c (Fold w i x) h = absurd (omega arith)
 
 step-own : (c : Core) (st : Step) → OwnNumber (stepOn c st)
 unfolding stepOn
@@ -67,13 +68,14 @@ judged-write [] c d h = h
 judged-write (t ∷ ts) c d h = elim (decided (t .0)) [ inl e ↦ absurd (omega (arith, rw e at h, number-range (t .1) .1)) | inr e ↦ judged-write ts c d (rw e at h) ]
 
 done-write : (c : Core) (st : Step) → answerWords (doneBy c st .answer) .0 ≡ 106 → IsWrite st
-unfolding spawnOn stealOn syncOn readOn writeOn
+unfolding spawnOn stealOn syncOn readOn writeOn foldOn
 done-write c (Spawn w) h = absurd (omega arith)
 done-write c (Return w) h = absurd (omega (arith, h, return-number c w))
 done-write c (Steal w v) h = absurd (omega arith)
 done-write c (Sync w) h = absurd (omega arith)
 done-write c (Read w x) h = absurd (omega arith)
 done-write c (Write w x v) h = (w, x, v, refl)
+done-write c (Fold w i x) h = absurd (omega arith)
 
 step-write : (c : Core) (st : Step) → answerWords (stepOn c st .answer) .0 ≡ 106 → IsWrite st
 unfolding stepOn
@@ -111,38 +113,45 @@ module _ (M : Machine) (c : Core) (st : Step) (K : Carried M c) where
     ])
   ]
 
-laws : Laws fromSound Carried
-laws = record { carried = λ M c K. K; keeps = keeps; alike = alike; elsewhere = carried-elsewhere }
-  where
-    keeps : (M : Machine) (c : Core) (d : Decoded) → Carried M c → Carried (fromSound .after M d (poolAt c d)) (recordOn c d .core)
-    keeps M c (Valid st) K = subst (λ (k : ℕ). Carried (withFree (step (roomed M c st K) st) k) (stepOn c st .core)) (own-after M c st K) (step-carried M c st K)
-    keeps M c Invalid K = rebased M c (poolAt c Invalid .free) (K .related) (K .tree) (K .deques) (K .marks) (K .bounds) (sym (is-sound K .1))
+-- the machine alone: nothing is said of views
+abbrev CarriedBy : Plain → Core → Type 0
+CarriedBy P c = Carried (P .machine) c
 
-    alike : (M : Machine) (c : Core) (d : Decoded) → Carried M c → answerWords (recordOn c d .answer) ≡ fromSound .answers M d (poolAt c d)
-    alike M c (Valid st) K = step-alike M c st K
-    alike M c Invalid K = refl
+laws : Laws fromSound CarriedBy
+laws = record { carried = λ P c K. K; keeps = keeps; alike = alike; elsewhere = λ P c ws' K S. carried-elsewhere (P .machine) c ws' K S }
+  where
+    keeps : (P : Plain) (c : Core) (d : Decoded) → CarriedBy P c → CarriedBy (fromSound .after P d (poolAt c d)) (recordOn c d .core)
+    keeps P c (Valid st) K = subst (λ (k : ℕ). Carried (withFree (step (roomed (P .machine) c st K) st) k) (stepOn c st .core)) (own-after (P .machine) c st K) (step-carried (P .machine) c st K)
+    keeps P c Invalid K = rebased (P .machine) c (poolAt c Invalid .free) (K .related) (K .links) (K .tree) (K .deques) (K .marks) (K .bounds) (sym (is-sound K .1))
+
+    alike : (P : Plain) (c : Core) (d : Decoded) → CarriedBy P c → answerWords (recordOn c d .answer) ≡ fromSound .answers P d (poolAt c d)
+    alike P c (Valid st) K = step-alike (P .machine) c st K
+    alike P c Invalid K = refl
 
 -- ---- every list of calls from a sound state
 
 -- the machine of a sound state follows it
-follows-sound : (h : StateAndPool) → fits (h .state) ≡ true → isSound (h .state) (h .pool) ≡ true → KeptBy Carried h (plainOf h)
+abbrev plainAt : StateAndPool → Plain
+plainAt h = record { machine = plainOf h; views = viewsAtStart }
+
+follows-sound : (h : StateAndPool) → fits (h .state) ≡ true → isSound (h .state) (h .pool) ≡ true → KeptBy CarriedBy h (plainAt h)
 follows-sound h fit e =
     let s = h .state in
     let L = true-fits s fit in
     record {
       core = coreIn h;
       held = ap (λ z. record { state = z; pool = h .pool }) (sym (state-back s (h .pool) (coreIn h .head .«free_count») L));
-      follows = sound-carried (numbersOf s) (s .deques) (s .frames) (h .pool) (L .deques) (L .frames) e;
+      follows = sound-carried (numbersOf s) (totalsOf s) (s .deques) (s .frames) (h .pool) (totals-long s L) (L .deques) (L .frames) e;
     }
 
 pub sound-run : (h : StateAndPool) (calls : List Call) → fits (h .state) ≡ true → isSound (h .state) (h .pool) ≡ true → StateWords (h .state) (h .pool) → AllCallWords calls → SoundRun h calls
 sound-run h calls fit e words all-words =
     let N = numbersOf (h .state) .nodes in
-    answers-by fromSound Carried laws (plainOf h) N (runOf (begun h) calls) (kept-calls fromSound Carried laws (plainOf h) N calls (begun h) all-words (kept-begun fromSound Carried laws (plainOf h) N h (follows-sound h fit e) words refl))
+    answers-by fromSound CarriedBy laws (plainAt h) N (runOf (begun h) calls) (kept-calls fromSound CarriedBy laws (plainAt h) N calls (begun h) all-words (kept-begun fromSound CarriedBy laws (plainAt h) N h (follows-sound h fit e) words refl))
 
 -- a step or a tape keeps soundness, whatever it hands in
 pub sound-call : (h : StateAndPool) (k : HostCall) → fits (h .state) ≡ true → isSound (h .state) (h .pool) ≡ true → isSound (afterCall h k .state) (afterCall h k .pool) ≡ true
-sound-call h k fit e = fed-sound fromSound Carried laws (plainOf h) (numbersOf (h .state) .nodes) (call-follows fromSound Carried laws (plainOf h) h k (follows-sound h fit e) .fed)
+sound-call h k fit e = fed-sound fromSound CarriedBy laws (plainAt h) (numbersOf (h .state) .nodes) (call-follows fromSound CarriedBy laws (plainAt h) h k (follows-sound h fit e) .fed)
 
 -- ---- a saved state reads back
 
@@ -186,7 +195,7 @@ module _ (h : StateAndPool) (fit : fits (h .state) ≡ true) (e : isSound (h .st
       beyond = loaded-beyond image c says room s ws work taken .1;
     }
 
-  -- the image that is written now, and the one that R-1 wrote
+  -- the image that is written
   module _ (words : StateWords (h .state) (h .pool)) where
     core-words : StateWords (stateOf c) (c .pool)
     unfolding c
@@ -196,18 +205,9 @@ module _ (h : StateAndPool) (fit : fits (h .state) ≡ true) (e : isSound (h .st
     unfolding c
     says-saved = subst (λ (t : State). SaysCore (savedImage t (h .pool)) (coreIn h)) same (saved-says (coreIn h) core-words (core-fits carries) (is-sound carries .0))
 
-    says-before : NoneWaiting (h .state) → SaysCore (imageBefore (h .state) (h .pool)) c
-    unfolding c
-    says-before z = subst (λ (t : State). SaysCore (imageBefore t (h .pool)) (coreIn h)) same (before-says (coreIn h) z core-words (core-fits carries) (is-sound carries .0))
-
 pub reads-back : (h : StateAndPool) (work₀ target : List ℕ) → saveResult h work₀ target .result ≡ 0 → StateWords (h .state) (h .pool) → (s : State) (ws work : List ℕ) → fits s ≡ true
     → 4 * numbersOf (h .state) .nodes ≤ length ws → numbersOf (h .state) .nodes ≤ length work → ReadsBack h (writtenImage h work₀ target) s ws work
 reads-back h work₀ target z words s ws work f held long =
     let T = save-taken h work₀ target z in
     let fit = fits-true (h .state) (T .parts) in
     subst (λ (b : List ℕ). ReadsBack h b s ws work) (sym (accepted-save h work₀ target z .image)) (there h fit (T .still) (savedImage (h .state) (h .pool)) (says-saved h fit (T .still) words) s ws work f held long)
-
--- R-3: an image "from before .. reads as having none waiting": what R-1 wrote of a sound state in which none waits reads back as that state
-pub reads-before : (h : StateAndPool) → fits (h .state) ≡ true → isSound (h .state) (h .pool) ≡ true → NoneWaiting (h .state) → StateWords (h .state) (h .pool) → (s : State) (ws work : List ℕ) → fits s ≡ true
-    → 4 * numbersOf (h .state) .nodes ≤ length ws → numbersOf (h .state) .nodes ≤ length work → ReadsBack h (imageBefore (h .state) (h .pool)) s ws work
-reads-before h fit e z words s ws work f held long = there h fit e (imageBefore (h .state) (h .pool)) (says-before h fit e words z) s ws work f held long

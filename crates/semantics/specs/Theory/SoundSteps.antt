@@ -15,10 +15,11 @@ use Rattle.pool.specs.Pool.{rest as rest-of}
 use Rattle.pool.specs.Pool.{write as writePath}
 use Rattle.frames.specs.Widths.{places, frameWords, dequeWords}
 use Rattle.soundness.specs.declared.Numbers.{Numbers}
+use Rattle.soundness.specs.Numbers.{totalCount}
 use Rattle.soundness.specs.Soundness.{sound}
 use Rattle.model.specs.declared.Decoded.the-variants.{Valid}
 use Rattle.model.specs.declared.Step.{Step}
-use Rattle.model.specs.declared.Step.the-variants.{Spawn, Return, Steal, Sync, Read, Write}
+use Rattle.model.specs.declared.Step.the-variants.{Spawn, Return, Steal, Sync, Read, Write, Fold}
 use Rattle.model.specs.Machine.{Frame, Machine, live, deque, inUse, freeNodes}
 use Rattle.model.specs.Steps.{Action, spawn, return, write, Turn, turnOf, written, afterWrite, refusal, afterTurn, step, answer}
 use Rattle.model.specs.Theory.Effects.{Passes, rest, live-at, live-with, Acts, acts}
@@ -30,12 +31,12 @@ use Rattle.model.specs.Theory.DequeShape.{DequeInvariant}
 use Rattle.model.specs.Theory.Deques.{deques-turn}
 use Rattle.model.specs.Theory.FreshMarks.{MarkInvariant, marks-turn}
 use Rattle.model.specs.Theory.Bounds.{Bounded, bounded-turn}
-use Rattle.semantics.specs.Core.{Core, StepResult, actingIn, spawnOn, stealOn, syncOn, readOn, writeOn, stepOn, doneBy}
+use Rattle.semantics.specs.Core.{Core, StepResult, actingIn, spawnOn, stealOn, syncOn, readOn, writeOn, foldOn, stepOn, doneBy}
 use Rattle.semantics.specs.Entries.{stateOf, isSound, chainFree}
 use Rattle.semantics.specs.SoundMachine.{machineOf}
 use Rattle.semantics.specs.Calls.{restIn}
 use Rattle.semantics.specs.Demands.{withNodes, withFree, withRoom}
-use Rattle.semantics.specs.Theory.Relation.{Trees, Relates, rootOf, rootsOf}
+use Rattle.semantics.specs.Theory.Relation.{Trees, Relates, Links, rootOf, rootsOf}
 use Rattle.semantics.specs.Theory.Places.{acting-frame, live-few, treeOf}
 use Rattle.semantics.specs.Theory.RelationFacts.{trees-perm}
 use Rattle.semantics.specs.Theory.Pools.{LiveTrees, live-laws, Beyond, spawn-beyond, write-beyond, write-takes}
@@ -46,7 +47,7 @@ use Rattle.semantics.specs.Theory.ToSound.{to-sound}
 use Rattle.semantics.specs.Theory.Words.{refusal-low}
 use Rattle.semantics.specs.Theory.FromSoundRelates.{countedCore, from-sound}
 
-module _ (M : Machine) (c : Core) (r : Relates (LiveTrees (c .head .numbers .nodes) (M .splitters)) M c) (tree : FrameTree M) (shape : DequeInvariant M) where
+module _ (M : Machine) (c : Core) (r : Relates (LiveTrees (c .head .numbers .nodes) (M .splitters)) M c) (K : Links (c .frames) (r .at) (live M)) (tree : FrameTree M) (shape : DequeInvariant M) where
   -- ---- the words beyond the nodes
 
   -- the trees with the acting frame's in front
@@ -60,7 +61,7 @@ module _ (M : Machine) (c : Core) (r : Relates (LiveTrees (c .head .numbers .nod
   few a w x = omega (arith, length-map (x .above ++ rest M w) (treeOf (c .frames) (r .at)), perm-length (x .before), live-few r)
 
   done-beyond : (st : Step) → SameRoom M c st → Passes M (turnOf st) → Beyond (c .head .numbers .nodes) (c .pool) (doneBy c st .core .pool)
-  unfolding spawnOn stealOn syncOn readOn writeOn
+  unfolding spawnOn stealOn syncOn readOn writeOn foldOn
   done-beyond (Spawn w) same h =
       let x = acts M w spawn h in
       subst (λ (z : ℕ). Beyond (c .head .numbers .nodes) (c .pool) (retain (c .pool) z)) (sym (root-is spawn w x))
@@ -69,10 +70,11 @@ module _ (M : Machine) (c : Core) (r : Relates (LiveTrees (c .head .numbers .nod
   done-beyond (Return w) same h =
       let x = acts M w return h in
       return-keeps-beyond (c .head .numbers .nodes) (M .splitters) (r .numbers .nodes-le) (r .numbers .splitters-positive) M c r
-      (live-laws (c .head .numbers .nodes) (M .splitters) (r .numbers .nodes-le) (r .numbers .splitters-positive)) tree (r .numbers .height-is) w (x .actor) (x .above) (x .worker) (x .at)
+      (live-laws (c .head .numbers .nodes) (M .splitters) (r .numbers .nodes-le) (r .numbers .splitters-positive)) tree K (r .numbers .height-is) w (x .actor) (x .above) (x .worker) (x .at)
   done-beyond (Steal w v) same h = (refl, refl)
   done-beyond (Sync w) same h = (refl, refl)
   done-beyond (Read w x) same h = (refl, refl)
+  done-beyond (Fold w i x) same h = (refl, refl)
   done-beyond (Write w y v) same h =
       let x = acts M w (write y v) h in
       subst (λ (z : ℕ). Beyond (c .head .numbers .nodes) (c .pool) (writePath (c .head .height) (c .pool) (c .head .numbers .«free_node») (c .head .«free_count») z y v .0)) (sym (root-is (write y v) w x))
@@ -113,6 +115,7 @@ module _ (M : Machine) (c : Core) (r : Relates (LiveTrees (c .head .numbers .nod
 
 pub record Carried (M : Machine) (c : Core) : Type 0 where
   pub related : Relates (LiveTrees (c .head .numbers .nodes) (M .splitters)) M c
+  pub links : Links (c .frames) (related .at) (live M)
   pub tree : FrameTree M
   pub deques : DequeInvariant M
   pub marks : MarkInvariant (live M)
@@ -120,19 +123,19 @@ pub record Carried (M : Machine) (c : Core) : Type 0 where
   pub same-free : c .head .«free_count» ≡ freeNodes M
 
 pub is-sound : {M : Machine} {c : Core} → Carried M c → (isSound (stateOf c) (c .pool) ≡ true) × (chainFree (stateOf c) (c .pool) ≡ c .head .«free_count»)
-is-sound {M} {c} K = to-sound M c (K .related) (K .tree) (K .deques)
+is-sound {M} {c} K = to-sound M c (K .related) (K .tree) (K .deques) (K .links)
 
 -- the plain machine of a sound state follows it
-pub sound-carried : (s : Numbers) (ds fs ws : List ℕ) → length ds ≡ dequeWords → length fs ≡ frameWords → sound s ds fs ws ≡ true → Carried (machineOf s ds fs ws) (countedCore s ds fs ws)
-sound-carried s ds fs ws dlen flen e =
-    let F = from-sound s ds fs ws e dlen flen in
-    record { related = F .0; tree = F .1; deques = F .2; marks = F .3; bounds = F .4; same-free = F .5 }
+pub sound-carried : (s : Numbers) (ts ds fs ws : List ℕ) → length ts ≡ totalCount → length ds ≡ dequeWords → length fs ≡ frameWords → sound s ts ds fs ws ≡ true → Carried (machineOf s ds fs ws) (countedCore s ts ds fs ws)
+sound-carried s ts ds fs ws tlen dlen flen e =
+    let F = from-sound s ts ds fs ws e tlen dlen flen in
+    record { related = F .0; links = F .1; tree = F .2; deques = F .3; marks = F .4; bounds = F .5; same-free = F .6 }
 
 -- ---- the machine with other nodes
 
 -- nothing but refusal 16 and the free nodes speaks of the machine's nodes
 module _ (M : Machine) (N : ℕ) where
-  relates-nodes : {P : Trees} {c : Core} → Relates P M c → Relates P (withNodes M N) c
+  pub relates-nodes : {P : Trees} {c : Core} → Relates P M c → Relates P (withNodes M N) c
   relates-nodes r = record {
     at = r .at;
     gs = r .gs;
@@ -153,6 +156,7 @@ module _ (M : Machine) (N : ℕ) where
     waiting = r .waiting;
     once = r .once;
     vacant = r .vacant;
+    totals = r .totals;
     trees = r .trees;
     values = r .values;
   }
@@ -163,11 +167,12 @@ module _ (M : Machine) (N : ℕ) where
   deques-nodes : DequeInvariant M → DequeInvariant (withNodes M N)
   deques-nodes d = record { shape = d .shape; active = d .active; waits = d .waits }
 
-pub rebased : (M : Machine) (c : Core) (k : ℕ) → Relates (LiveTrees (c .head .numbers .nodes) (M .splitters)) M c → FrameTree M → DequeInvariant M → MarkInvariant (live M) → Bounded (M .splitters) (live M)
-    → c .head .«free_count» ≡ k → Carried (withFree M k) c
-rebased M c k r t d m b e =
+pub rebased : (M : Machine) (c : Core) (k : ℕ) (r : Relates (LiveTrees (c .head .numbers .nodes) (M .splitters)) M c) → Links (c .frames) (r .at) (live M) → FrameTree M → DequeInvariant M → MarkInvariant (live M)
+    → Bounded (M .splitters) (live M) → c .head .«free_count» ≡ k → Carried (withFree M k) c
+unfolding relates-nodes
+rebased M c k r l t d m b e =
     let N = inUse (M .splitters) (live M) + k in
-    record { related = relates-nodes M N r; tree = tree-nodes M N t; deques = deques-nodes M N d; marks = m; bounds = b; same-free = omega (arith, e) }
+    record { related = relates-nodes M N r; links = l; tree = tree-nodes M N t; deques = deques-nodes M N d; marks = m; bounds = b; same-free = omega (arith, e) }
 
 -- ---- 16: the machine has room for a write just when the pool has it
 
@@ -195,6 +200,7 @@ module _ (M : Machine) (c : Core) (K : Carried M c) where
   same-room (Steal w v) = tt
   same-room (Sync w) = tt
   same-room (Read w x) = tt
+  same-room (Fold w i x) = tt
   same-room (Write w x v) = λ q d lt e b.
       let g = write-adds w x v q d lt e in
       ap₂ ltb (K .same-free) (own-rest w x v)
@@ -203,10 +209,18 @@ module _ (M : Machine) (c : Core) (K : Carried M c) where
         | inr s ↦ rw s (sym (nltb-of (g .1)))
       ]
 
+  -- the relation and the links with that room
+  abbrev pub related-roomed : (st : Step) → Relates (LiveTrees (c .head .numbers .nodes) (M .splitters)) (withRoom M (lacks st)) c
+  related-roomed st = relates-nodes M (withRoom M (lacks st) .nodes) (K .related)
+
+  links-roomed : (st : Step) → Links (c .frames) (related-roomed st .at) (live M)
+  unfolding relates-nodes
+  links-roomed st = K .links
+
   pub step-beyond : (st : Step) → Beyond (c .head .numbers .nodes) (c .pool) (stepOn c st .core .pool)
   step-beyond st =
       let N = withRoom M (lacks st) .nodes in
-      judged-beyond (withNodes M N) c (relates-nodes M N (K .related)) (tree-nodes M N (K .tree)) (deques-nodes M N (K .deques)) st (same-room st)
+      judged-beyond (withNodes M N) c (related-roomed st) (links-roomed st) (tree-nodes M N (K .tree)) (deques-nodes M N (K .deques)) st (same-room st)
 
 -- ---- a step
 
@@ -218,16 +232,20 @@ kept-turn : (M : Machine) (t : Turn) → Passes M t → Invariants M → Invaria
 kept-turn M t h i =
     (tree-turn M t h (i .0), deques-turn M t h (i .0) (i .1), marks-turn M t h (i .0) (i .2), subst (λ n. Bounded n (live (afterTurn M t))) (sym (sizes-turn M t .splitters)) (bounded-turn M t h (i .3)))
 
+-- the relation, with the links
+abbrev Linked : ℕ → ℕ → Machine → Core → Type 0
+Linked N n M c = (r : Relates (LiveTrees N n) M c) × Links (c .frames) (r .at) (live M)
+
 module _ (M : Machine) (c : Core) (st : Step) (K : Carried M c) where
   -- with room for a write as the pool has it
   abbrev pub roomed : Machine
   roomed = withRoom M (lacks M c K st)
 
-  pub simulated : Simulates (LiveTrees (c .head .numbers .nodes) (M .splitters)) roomed c st
+  pub simulated : Simulates (related-roomed M c K st) st
   simulated =
       let r = K .related in
       let N = roomed .nodes in
-      simulates (LiveTrees (c .head .numbers .nodes) (M .splitters)) roomed c (relates-nodes M N r) (live-laws (c .head .numbers .nodes) (M .splitters) (r .numbers .nodes-le) (r .numbers .splitters-positive)) (tree-nodes M N (K .tree)) (deques-nodes M N (K .deques))
+      simulates (LiveTrees (c .head .numbers .nodes) (M .splitters)) roomed c (related-roomed M c K st) (links-roomed M c K st) (live-laws (c .head .numbers .nodes) (M .splitters) (r .numbers .nodes-le) (r .numbers .splitters-positive)) (tree-nodes M N (K .tree)) (deques-nodes M N (K .deques))
       (K .marks) (K .bounds) st (same-room M c K st)
 
   -- with the engine's own number of free nodes
@@ -237,9 +255,9 @@ module _ (M : Machine) (c : Core) (st : Step) (K : Carried M c) where
       let M′ = step roomed st in
       let N = roomed .nodes in
       let i = step-kept Invariants roomed (kept-turn roomed) st (tree-nodes M N (K .tree), deques-nodes M N (K .deques), K .marks, K .bounds) in
-      let r : Relates (LiveTrees (c′ .head .numbers .nodes) (M′ .splitters)) M′ c′ =
-      subst (λ N. Relates (LiveTrees N (M′ .splitters)) M′ c′) (sym (numbers-kept c st .nodes)) (subst (λ n. Relates (LiveTrees (c .head .numbers .nodes) n) M′ c′) (sym (sizes-step roomed st .splitters)) (simulated .related)) in
-      rebased M′ c′ (c′ .head .«free_count») r (i .0) (i .1) (i .2) (i .3) refl
+      let r : Linked (c′ .head .numbers .nodes) (M′ .splitters) M′ c′ =
+      subst (λ N. Linked N (M′ .splitters) M′ c′) (sym (numbers-kept c st .nodes)) (subst (λ n. Linked (c .head .numbers .nodes) n M′ c′) (sym (sizes-step roomed st .splitters)) (simulated .related, simulated .follows .links (links-roomed M c K st))) in
+      rebased M′ c′ (c′ .head .«free_count») (r .0) (r .1) (i .0) (i .1) (i .2) (i .3) refl
 
 -- ---- what a write takes
 
@@ -247,7 +265,7 @@ pub takes : (M : Machine) (c : Core) (w x v : ℕ) (K : Carried M c) → let st 
     answer (roomed M c st K) st .0 ≡ 106 → stepOn c st .core .head .«free_count» ≡ freeNodes M - restIn c (Valid st)
 takes M c w x v K e = elim (accepted-or-refused M₁ (Write w x v)) [
   | inl a ↦ subst (λ (d : StepResult). d .core .head .«free_count» ≡ freeNodes M - restIn c (Valid (Write w x v))) (sym (refused-alike r tree deques (Write w x v) room .0 (a .zero-refusal)))
-      (omega (arith, done-takes M₁ c r tree deques w x v room (a .passes), K .same-free))
+      (omega (arith, done-takes M₁ c r links tree deques w x v room (a .passes), K .same-free))
   | inr f ↦ absurd (omega (arith, e, ap (λ (z : ℕ × ℕ). z .0) (f .answered), refusal-low M₁ (Write w x v)))
 ]
   where
@@ -255,7 +273,10 @@ takes M c w x v K e = elim (accepted-or-refused M₁ (Write w x v)) [
     M₁ = roomed M c (Write w x v) K
 
     r : Relates (LiveTrees (c .head .numbers .nodes) (M .splitters)) M₁ c
-    r = relates-nodes M (M₁ .nodes) (K .related)
+    r = related-roomed M c K (Write w x v)
+
+    links : Links (c .frames) (r .at) (live M₁)
+    links = links-roomed M c K (Write w x v)
 
     tree : FrameTree M₁
     tree = tree-nodes M (M₁ .nodes) (K .tree)

@@ -8,7 +8,7 @@ use Prim.Native.Nat.{ℕ, zero, suc, _+_, _-_, _*_, _≤_, _<_}
 use native.Mathlib.Nat.{mul-div-le}
 use native.Mathlib.Omega.{arith}
 use native.Mathlib.Decide.{ℕ-discrete}
-use lib.ListN.{length, getD, replicate, length-replicate}
+use lib.ListN.{length, getD, replicate, length-replicate, getD-replicate}
 use lib.Dec.{eqb}
 use Rattle.words.specs.Basics.{none, count}
 use Rattle.words.specs.Lists.{joined-empty}
@@ -25,6 +25,7 @@ use Rattle.model.specs.Theory.Effects.{live-start}
 use Rattle.model.specs.Theory.RunSteps.{sizes-start}
 use Rattle.semantics.specs.Core.{Core}
 use Rattle.semantics.specs.Entries.{firstState, coreOf, wholeNodes}
+use Rattle.soundness.specs.Numbers.{totalCount}
 use Rattle.semantics.specs.Theory.Relation.{Recorded, Relates, placesOf, rootsOf}
 use Rattle.semantics.specs.Theory.Pools.{GoodTrees}
 use Rattle.semantics.specs.Theory.Starts.{Fit}
@@ -94,6 +95,7 @@ module _ (workers : ℕ) (vs ws : List ℕ) (F : Fit workers vs ws) where
     waiting = λ f m. absurd (not-in-nil m);
     once = λ p b. subst (λ L. count p (range 63 1) + count p (placesOf (λ _. 0) L) ≡ 1) (sym (live-start workers vs N)) (once-at p b);
     vacant = λ p b c. (cond (eqb p 63) none (suc p), init-free (replicate frameWords 0) zeros p (not-first p c) b);
+    totals = record { long = length-replicate {A = ℕ} totalCount 0; zero = λ f m e i b. getD-replicate totalCount i 0 0 b };
     trees = subst (λ L. GoodTrees N n words first free-count (rootsOf fs (λ _. 0) L)) (sym (live-start workers vs N))
         (subst (λ (r : ℕ). GoodTrees N n words first free-count ((r, []) ∷ [])) (sym root-is) (started .0 .good));
     values = λ f m x b. (let e : f ≡ main vs = In-one (subst (λ L. In f L) (live-start workers vs N) m) in

@@ -16,7 +16,7 @@ use Rattle.pool.specs.Pool.{rest}
 use Rattle.pool.specs.Theory.Good.{good-free, good-rest}
 use Rattle.pool.specs.Theory.InUse.{historiesOf}
 use Rattle.model.specs.declared.Step.{Step}
-use Rattle.model.specs.declared.Step.the-variants.{Spawn, Return, Steal, Sync, Read, Write}
+use Rattle.model.specs.declared.Step.the-variants.{Spawn, Return, Steal, Sync, Read, Write, Fold}
 use Rattle.model.specs.declared.Decoded.{Decoded}
 use Rattle.model.specs.declared.Decoded.the-variants.{Valid, Invalid}
 use Rattle.model.specs.Record.{recordOf}
@@ -25,6 +25,8 @@ use Rattle.model.specs.Machine.{Name, Frame, Machine, live, deque, histories, i
 use Rattle.model.specs.Machine.{freeNodes as plainFree}
 use Rattle.model.specs.Steps.{writeEvent, written, afterWrite, step, answer}
 use Rattle.model.specs.Run.{run, trace, answers, Returned, IsFrame, stepsOf, readsOf, oneWorkerSteps}
+use Rattle.model.specs.Views.{Views, viewsAtStart, viewsAfter, runViews, mainFolds}
+use Rattle.model.specs.Views.{totalsOf as plainTotals}
 use Rattle.model.specs.Demand3.{Demand3 as PlainDemand3, oneWorkerOf, traceOf as plainTrace}
 use Rattle.model.specs.Theory.Effects.{live-at, live-with, there-is-worker}
 use Rattle.model.specs.Theory.Effects.{rest as plainRest}
@@ -34,63 +36,98 @@ use Rattle.model.specs.Theory.FrameTree.{tree-start}
 use Rattle.model.specs.Theory.Invariant.{Invariant, invariant-start, invariant-step, invariant-run}
 use Rattle.model.specs.Theory.SecondWrite.{second-write}
 use Rattle.model.specs.Theory.MainEnds.{returned-ends}
+use Rattle.model.specs.Theory.Totals.{totals-are, totals-same}
 use Rattle.model.specs.Theory.Demand3Proof.{demand3 as plain-demand3}
 use Rattle.semantics.specs.Answers.{answerWords}
 use Rattle.frames.specs.declared.Frame.{Frame as FrameWords}
 use Rattle.semantics.specs.Core.{Core, actingIn, stepOn}
-use Rattle.semantics.specs.Entries.{State, StartResult, fits, isSound, numbersOf, chainFree, recordOn, wholeNodes}
-use Rattle.semantics.specs.Calls.{Start, startResult, HostCall, outside, StateAndPool, afterStart, afterCall, Exchange, exchangesOf, recordsIn, answersIn, restIn, poolsAt, coreIn, Run, Call, call, begun, runAfter, runOf}
-use Rattle.semantics.specs.Demands.{plainAfter, plainAnswer, fromStart, answersBy, machineBy, plainStart, runFrom, Demand2, plainNow, Counted, RestIsCounted, WritesAgain, StartWords, AllCallWords, traceOf, MainReturned, callOf, oneByOne, oneWorkerCalls, aloneStart, allAccepted, AllFree, Demand3}
+use Rattle.semantics.specs.Entries.{State, StartResult, fits, isSound, numbersOf, totalsOf, chainFree, recordOn, wholeNodes}
+use Rattle.semantics.specs.Calls.{Start, startResult, HostCall, outside, StateAndPool, afterStart, afterCall, Exchange, exchangesOf, recordsIn, answersIn, restIn, poolsAt, coreIn, Past, Run, Call, call, begun, runAfter, runOf}
+use Rattle.semantics.specs.Demands.{Plain, plainAfter, viewsBy, plainAnswer, fromStart, answersBy, machineBy, plainStart, plainBegun, runFrom, Demand2, plainNow, Counted, RestIsCounted, WritesAgain, StartWords, AllCallWords, traceOf, MainReturned, callOf, oneByOne, oneWorkerCalls, aloneStart, allAccepted, AllFree, totalWords, Demand3}
 use Rattle.semantics.specs.Promises.{Fits}
-use Rattle.semantics.specs.Theory.Relation.{TreeLaws, Relates, rootOf, rootsOf}
+use Rattle.semantics.specs.Theory.Relation.{TreeLaws, Relates, Links, rootOf, rootsOf}
 use Rattle.semantics.specs.Theory.RelationFacts.{trees-perm}
 use Rattle.semantics.specs.Theory.Places.{acting-frame}
 use Rattle.semantics.specs.Theory.Refusals.{SameRoom}
 use Rattle.semantics.specs.Theory.SimWrite.{fresh}
-use Rattle.semantics.specs.Theory.Pools.{LiveTrees, GoodTrees, good-laws}
+use Rattle.semantics.specs.Theory.Pools.{LiveTrees, GoodTrees, good-live, good-laws}
 use Rattle.semantics.specs.Theory.FromSoundRelates.{map-append}
 use Rattle.semantics.specs.Theory.Simulation.{simulates, numbers-kept}
-use Rattle.semantics.specs.Theory.ToSound.{good-relates, all-free}
+use Rattle.semantics.specs.Theory.ToSound.{all-free}
 use Rattle.semantics.specs.Theory.Fitting.{true-fits}
 use Rattle.semantics.specs.Theory.SoundSteps.{Carried, is-sound, own-rest}
 use Rattle.semantics.specs.Theory.Elsewhere.{withPool, good-trees, relates-elsewhere}
 use Rattle.semantics.specs.Theory.Starts.{Fit, fit-started, started-fit}
 use Rattle.semantics.specs.Theory.StartRelates.{firstCore, start-relates}
+use Rattle.semantics.specs.Theory.Viewed.{Viewed}
+use Rattle.semantics.specs.Theory.ViewedStart.{start-links, viewed-start}
+use Rattle.semantics.specs.Theory.TotalWords.{view-totals}
 use Rattle.semantics.specs.Theory.Runs.{Laws, KeptBy, Fed, core-counted, outside-long, call-follows}
 use Rattle.semantics.specs.Theory.AllWords.{started-words}
 use Rattle.semantics.specs.Theory.WholeRuns.{RunKept, kept-begun, kept-calls, fed-calls, fed-sound, answers-by}
-use Rattle.semantics.specs.Theory.ValidRecords.{valids, trace-same, machine-plain, returned-plain, valids-valid, answers-plain, all-accepted}
+use Rattle.semantics.specs.Theory.ValidRecords.{valids, trace-same, machine-plain, views-plain, returned-plain, valids-valid, answers-plain, all-accepted}
 
--- the core is that of a run from a start which the plain machine M has followed
-pub record Follows (M : Machine) (c : Core) : Type 0 where
-  pub related : Relates (GoodTrees (M .nodes) (M .splitters)) M c
-  pub inv : Invariant M
-  pub nodes : c .head .numbers .nodes ≡ M .nodes
+-- the relation, with the links and the views beside it
+abbrev WithViews : ℕ → ℕ → Plain → Core → Type 0
+WithViews N n P c = (r : Relates (GoodTrees N n) (P .machine) c) × Links (c .frames) (r .at) (live (P .machine)) × Viewed r (P .views)
+
+-- the core is that of a run from a start which the plain machine, with its views, has followed
+pub record Follows (P : Plain) (c : Core) : Type 0 where
+  pub related : Relates (GoodTrees (P .machine .nodes) (P .machine .splitters)) (P .machine) c
+  pub links : Links (c .frames) (related .at) (live (P .machine))
+  pub viewed : Viewed related (P .views)
+  pub inv : Invariant (P .machine)
+  pub nodes : c .head .numbers .nodes ≡ P .machine .nodes
 
 histories-are : (fs : List ℕ) (at : Name → ℕ) (L : List Frame) → historiesOf (rootsOf fs at L) ≡ histories L
 histories-are fs at [] = refl
 histories-are fs at (f ∷ L) = ap (λ z. f .history ∷ z) (histories-are fs at L)
 
 -- the free nodes are the nodes less those in use
-same-free : (M : Machine) (c : Core) → Follows M c → c .head .«free_count» ≡ plainFree M
-same-free M c F =
+same-free : (P : Plain) (c : Core) → Follows P c → c .head .«free_count» ≡ plainFree (P .machine)
+same-free P c F =
+    let M = P .machine in
     let r = F .related in
     omega (arith, good-free (M .nodes) (M .splitters) (omega (arith, F .nodes, r .numbers .nodes-le)) (r .numbers .splitters-positive) (r .trees), ap (nodesInUse (M .splitters)) (histories-are (c .frames) (r .at) (live M)))
 
-carried : (M : Machine) (c : Core) → Follows M c → Carried M c
-carried M c F = record {
-  related = subst (λ N. Relates (LiveTrees N (M .splitters)) M c) (sym (F .nodes)) (good-relates (F .related));
-  tree = F .inv .tree;
-  deques = F .inv .deques;
-  marks = F .inv .marks;
-  bounds = F .inv .bounds;
-  same-free = same-free M c F;
+-- what relates in a run from a start relates as a live pool, with the frames in the same places
+live-relates : {N n : ℕ} {M : Machine} {c : Core} → Relates (GoodTrees N n) M c → Relates (LiveTrees N n) M c
+live-relates r = record {
+  at = r .at;
+  gs = r .gs;
+  numbers = r .numbers;
+  formed = r .formed;
+  deques = r .deques;
+  running = r .running;
+  waiting = r .waiting;
+  once = r .once;
+  vacant = r .vacant;
+  totals = r .totals;
+  trees = good-live (r .trees);
+  values = r .values;
 }
 
+carried : (P : Plain) (c : Core) → Follows P c → Carried (P .machine) c
+unfolding live-relates
+carried P c F =
+    let M = P .machine in
+    let r : (r : Relates (LiveTrees (c .head .numbers .nodes) (M .splitters)) M c) × Links (c .frames) (r .at) (live M) =
+    subst (λ N. (r : Relates (LiveTrees N (M .splitters)) M c) × Links (c .frames) (r .at) (live M)) (sym (F .nodes)) (live-relates (F .related), F .links) in
+    record {
+      related = r .0;
+      links = r .1;
+      tree = F .inv .tree;
+      deques = F .inv .deques;
+      marks = F .inv .marks;
+      bounds = F .inv .bounds;
+      same-free = same-free P c F;
+    }
+
 -- the rest of the path has as many nodes as the write adds to those in use
-counted-rest : (M : Machine) (c : Core) → Follows M c → (w x v : ℕ) (q : Frame) (d : List Frame) → w < length (M .deques) → deque M w ≡ q ∷ d → x < M .splitters
-    → Counted M (c .head .«free_count») (rest (c .head .height) (c .pool) (actingIn c w .root) x) (afterWrite M w q d x v)
-counted-rest M c F w x v q d lt e b =
+counted-rest : (P : Plain) (c : Core) → Follows P c → (w x v : ℕ) (q : Frame) (d : List Frame) → w < length (P .machine .deques) → deque (P .machine) w ≡ q ∷ d → x < P .machine .splitters
+    → Counted (P .machine) (c .head .«free_count») (rest (c .head .height) (c .pool) (actingIn c w .root) x) (afterWrite (P .machine) w q d x v)
+counted-rest P c F w x v q d lt e b =
+    let M = P .machine in
     let r = F .related in
     let n = M .splitters in
     let few : M .nodes ≤ 16384 = omega (arith, F .nodes, r .numbers .nodes-le) in
@@ -111,68 +148,89 @@ counted-rest M c F w x v q d lt e b =
       same-16 = ap (ltb (c .head .«free_count»)) own ∙ ltb-same (g .1) ∙ ap (ltb (M .nodes)) after;
     }
 
-counted-room : (M : Machine) (c : Core) → Follows M c → (st : Step) → SameRoom M c st
-counted-room M c F (Spawn w) = tt
-counted-room M c F (Return w) = tt
-counted-room M c F (Steal w v) = tt
-counted-room M c F (Sync w) = tt
-counted-room M c F (Read w x) = tt
-counted-room M c F (Write w x v) = λ q d lt e b. counted-rest M c F w x v q d lt e b .same-16
+counted-room : (P : Plain) (c : Core) → Follows P c → (st : Step) → SameRoom (P .machine) c st
+counted-room P c F (Spawn w) = tt
+counted-room P c F (Return w) = tt
+counted-room P c F (Steal w v) = tt
+counted-room P c F (Sync w) = tt
+counted-room P c F (Read w x) = tt
+counted-room P c F (Write w x v) = λ q d lt e b. counted-rest P c F w x v q d lt e b .same-16
+counted-room P c F (Fold w i x) = tt
 
 -- what a step keeps
-keeps-and-alike : (M : Machine) (c : Core) (st : Step) → Follows M c → Follows (step M st) (stepOn c st .core) × (answerWords (stepOn c st .answer) ≡ answer M st)
-keeps-and-alike M c st F =
+abbrev stepped : Plain → Step → Plain
+stepped P st = record { machine = step (P .machine) st; views = viewsAfter (P .machine) (P .views) st }
+
+keeps-and-alike : (P : Plain) (c : Core) (st : Step) → Follows P c → Follows (stepped P st) (stepOn c st .core) × (answerWords (stepOn c st .answer) ≡ answer (P .machine) st)
+keeps-and-alike P c st F =
+    let M = P .machine in
     let r = F .related in
     let laws = good-laws (M .nodes) (M .splitters) (omega (arith, F .nodes, r .numbers .nodes-le)) (r .numbers .splitters-positive) in
-    let S = simulates (GoodTrees (M .nodes) (M .splitters)) M c r (subst (λ N. TreeLaws N (M .splitters) (GoodTrees (M .nodes) (M .splitters))) (sym (F .nodes)) laws) (F .inv .tree) (F .inv .deques) (F .inv .marks)
-    (F .inv .bounds) st (counted-room M c F st) in
+    let S = simulates (GoodTrees (M .nodes) (M .splitters)) M c r (F .links) (subst (λ N. TreeLaws N (M .splitters) (GoodTrees (M .nodes) (M .splitters))) (sym (F .nodes)) laws) (F .inv .tree) (F .inv .deques) (F .inv .marks)
+    (F .inv .bounds) st (counted-room P c F st) in
     let z = sizes-step M st in
-    let F′ : Follows (step M st) (stepOn c st .core) = record {
-      related = subst (λ N. Relates (GoodTrees N ((step M st) .splitters)) (step M st) (stepOn c st .core)) (sym (z .nodes)) (subst (λ n. Relates (GoodTrees (M .nodes) n) (step M st) (stepOn c st .core)) (sym (z .splitters)) (S .related));
-      inv = invariant-step M st (F .inv);
-      nodes = numbers-kept c st .nodes ∙ F .nodes ∙ sym (z .nodes);
-    } in
-    (F′, S .answers .both (same-free (step M st) (stepOn c st .core) F′))
+    let P′ = stepped P st in
+    let c′ = stepOn c st .core in
+    let t : WithViews (P′ .machine .nodes) (P′ .machine .splitters) P′ c′ =
+    subst (λ N. WithViews N (P′ .machine .splitters) P′ c′) (sym (z .nodes)) (subst (λ n. WithViews (M .nodes) n P′ c′) (sym (z .splitters)) (S .related, S .follows .links (F .links), S .follows .viewed (P .views) (F .viewed))) in
+    let F′ : Follows P′ c′ = record { related = t .0; links = t .1; viewed = t .2; inv = invariant-step M st (F .inv); nodes = numbers-kept c st .nodes ∙ F .nodes ∙ sym (z .nodes) } in
+    (F′, S .answers .both (same-free P′ c′ F′))
 
 -- the same nodes in another pool
-pub follows-elsewhere : (M : Machine) (c : Core) (ws' : List ℕ) → Follows M c → SameNodes (c .head .numbers .nodes) (c .pool) ws' → Follows M (withPool c ws')
-follows-elsewhere M c ws' F S = record {
-  related = relates-elsewhere ws' (good-trees (M .nodes) (M .splitters) (omega (arith, F .nodes, F .related .numbers .nodes-le))) (F .related) (subst (λ N. SameNodes N (c .pool) ws') (F .nodes) S);
-  inv = F .inv;
-  nodes = F .nodes;
-}
+pub follows-elsewhere : (P : Plain) (c : Core) (ws' : List ℕ) → Follows P c → SameNodes (c .head .numbers .nodes) (c .pool) ws' → Follows P (withPool c ws')
+unfolding relates-elsewhere
+follows-elsewhere P c ws' F S =
+    let M = P .machine in
+    let E = F .viewed in
+    record {
+      related = relates-elsewhere ws' (good-trees (M .nodes) (M .splitters) (omega (arith, F .nodes, F .related .numbers .nodes-le))) (F .related) (subst (λ N. SameNodes N (c .pool) ws') (F .nodes) S);
+      links = F .links;
+      viewed = record { ordered = E .ordered; views = E .views; siblings = E .siblings; none-yet = E .none-yet; totals = E .totals };
+      inv = F .inv;
+      nodes = F .nodes;
+    }
 
 laws : Laws fromStart Follows
 laws = record { carried = carried; keeps = keeps; alike = alike; elsewhere = follows-elsewhere }
   where
-    keeps : (M : Machine) (c : Core) (d : Decoded) → Follows M c → Follows (plainAfter M d) (recordOn c d .core)
-    keeps M c (Valid st) F = keeps-and-alike M c st F .0
-    keeps M c Invalid F = F
+    keeps : (P : Plain) (c : Core) (d : Decoded) → Follows P c → Follows (record { machine = plainAfter (P .machine) d; views = viewsBy P d }) (recordOn c d .core)
+    keeps P c (Valid st) F = keeps-and-alike P c st F .0
+    keeps P c Invalid F = F
 
-    alike : (M : Machine) (c : Core) (d : Decoded) → Follows M c → answerWords (recordOn c d .answer) ≡ plainAnswer M d
-    alike M c (Valid st) F = keeps-and-alike M c st F .1
-    alike M c Invalid F = refl
+    alike : (P : Plain) (c : Core) (d : Decoded) → Follows P c → answerWords (recordOn c d .answer) ≡ plainAnswer (P .machine) d
+    alike P c (Valid st) F = keeps-and-alike P c st F .1
+    alike P c Invalid F = refl
 
-begins : (b : Start) → Fits (b .parts) → Fit (b .workers) (b .values) (b .pool) → KeptBy Follows (afterStart b) (plainStart b)
+begins : (b : Start) → Fits (b .parts) → Fit (b .workers) (b .values) (b .pool) → KeptBy Follows (afterStart b) (plainBegun b)
 begins b L F = record {
   core = firstCore (b .workers) (b .values) (b .pool);
   held = ap (λ (o : StartResult). record { state = o .state; pool = o .pool }) (fit-started (b .parts) (b .workers) (b .values) (b .pool) L F);
-  follows = record { related = start-relates (b .workers) (b .values) (b .pool) F; inv = invariant-start (b .workers) (b .values) (wholeNodes (b .pool)) (F .enough); nodes = refl };
+  follows = record {
+    related = start-relates (b .workers) (b .values) (b .pool) F;
+    links = start-links (b .workers) (b .values) (b .pool) F;
+    viewed = viewed-start (b .workers) (b .values) (b .pool) F;
+    inv = invariant-start (b .workers) (b .values) (wholeNodes (b .pool)) (F .enough);
+    nodes = refl;
+  };
 }
 
 -- ---- demand 2, for every accepted start and every list of calls
 
+-- the plain machine that has followed a run, with its views
+abbrev followed : Start → List Call → Plain
+followed b calls = let p : Past = runFrom b calls .past in machineBy fromStart (plainBegun b) (recordsIn (p .exchanges)) (p .pools)
+
 -- the run from an accepted start
-run-kept : (b : Start) (calls : List Call) → startResult b .result ≡ 0 → StartWords b → AllCallWords calls → RunKept fromStart Follows laws (plainStart b) (wholeNodes (b .pool)) (runFrom b calls)
+run-kept : (b : Start) (calls : List Call) → startResult b .result ≡ 0 → StartWords b → AllCallWords calls → RunKept fromStart Follows laws (plainBegun b) (wholeNodes (b .pool)) (runFrom b calls)
 run-kept b calls e w all-words =
     let A = started-fit (b .parts) (b .workers) (b .values) (b .pool) e in
     let K = begins b (A .lengths) (A .fit) in
     let N = wholeNodes (b .pool) in
-    kept-calls fromStart Follows laws (plainStart b) N calls (begun (afterStart b)) all-words
-    (kept-begun fromStart Follows laws (plainStart b) N (afterStart b) K (started-words b e (w .0) (w .1)) (ap (λ (g : StateAndPool). numbersOf (g .state) .nodes) (K .held) ∙ K .follows .nodes))
+    kept-calls fromStart Follows laws (plainBegun b) N calls (begun (afterStart b)) all-words
+    (kept-begun fromStart Follows laws (plainBegun b) N (afterStart b) K (started-words b e (w .0) (w .1)) (ap (λ (g : StateAndPool). numbersOf (g .state) .nodes) (K .held) ∙ K .follows .nodes))
 
 pub demand2 : (b : Start) (calls : List Call) → startResult b .result ≡ 0 → StartWords b → AllCallWords calls → Demand2 b calls
-demand2 b calls e w all-words = answers-by fromStart Follows laws (plainStart b) (wholeNodes (b .pool)) (runFrom b calls) (run-kept b calls e w all-words)
+demand2 b calls e w all-words = answers-by fromStart Follows laws (plainBegun b) (wholeNodes (b .pool)) (runFrom b calls) (run-kept b calls e w all-words)
 
 -- R-2: whether a write lacks nodes, by the rest of its path and by the count
 pub rest-is-counted : (b : Start) (calls : List Call) → startResult b .result ≡ 0 → StartWords b → AllCallWords calls → runFrom b calls .stateless ≡ false → RestIsCounted b calls
@@ -180,8 +238,9 @@ rest-is-counted b calls e w all-words standing u x v q d at below =
     let E = run-kept b calls e w all-words .standing standing .0 .fed .kept in
     let c = E .core in
     let M = plainNow b calls in
-    let C = carried M c (E .follows) in
-    let G = counted-rest M c (E .follows) u x v q d (there-is-worker M u (omega (arith, ap length at))) at below in
+    let P = followed b calls in
+    let C = carried P c (E .follows) in
+    let G = counted-rest P c (E .follows) u x v q d (there-is-worker M u (omega (arith, ap length at))) at below in
     let rest-is : rest (c .head .height) (c .pool) (actingIn c u .root) x ≡ restIn (coreIn (runFrom b calls .now)) (Valid (Write u x v)) =
     own-rest M c C u x v ∙ sym (ap (λ (h : StateAndPool). restIn (coreIn h) (Valid (Write u x v))) (E .held) ∙ ap (λ (d : Core). restIn d (Valid (Write u x v))) (core-counted C)) in
     let free-is : c .head .«free_count» ≡ chainFree (runFrom b calls .now .state) (runFrom b calls .now .pool) = sym (is-sound C .1) ∙ sym (ap (λ (h : StateAndPool). chainFree (h .state) (h .pool)) (E .held)) in
@@ -194,14 +253,14 @@ writes-again b calls e w all-words u x v v′ h =
     let p = runFrom b calls .past in
     let F = started-fit (b .parts) (b .workers) (b .values) (b .pool) e .fit in
     second-write (plainNow b calls) u x v v′
-    (subst Invariant (sym (machine-plain (recordsIn (p .exchanges)) (p .pools) (plainStart b) (R .long)))
+    (subst Invariant (sym (machine-plain (recordsIn (p .exchanges)) (p .pools) (plainBegun b) (R .long)))
     (invariant-run (plainStart b) (valids (recordsIn (p .exchanges))) (invariant-start (b .workers) (b .values) (wholeNodes (b .pool)) (F .enough)))) h
 
 -- after steps and tapes alone, whatever they hand in
 pub plain-sound : (b : Start) (ks : List HostCall) → startResult b .result ≡ 0 → isSound (runFrom b (map call ks) .now .state) (runFrom b (map call ks) .now .pool) ≡ true
 plain-sound b ks e =
     let A = started-fit (b .parts) (b .workers) (b .values) (b .pool) e in
-    fed-sound fromStart Follows laws (plainStart b) (wholeNodes (b .pool)) (fed-calls fromStart Follows laws (plainStart b) (wholeNodes (b .pool)) ks (begun (afterStart b)) (record { long = refl; kept = begins b (A .lengths) (A .fit); same = refl }))
+    fed-sound fromStart Follows laws (plainBegun b) (wholeNodes (b .pool)) (fed-calls fromStart Follows laws (plainBegun b) (wholeNodes (b .pool)) ks (begun (afterStart b)) (record { long = refl; kept = begins b (A .lengths) (A .fit); same = refl }))
 
 -- ---- demand 3
 
@@ -222,30 +281,31 @@ fields (Steal w v) work = record { kind = 3; worker = w; field = v; value = 0; c
 fields (Sync w) work = record { kind = 4; worker = w; field = 0; value = 0; call = refl; decoded = refl }
 fields (Read w x) work = record { kind = 5; worker = w; field = x; value = 0; call = refl; decoded = refl }
 fields (Write w x v) work = record { kind = 6; worker = w; field = x; value = v; call = refl; decoded = refl }
+fields (Fold w i x) work = record { kind = 7; worker = w; field = i; value = x; call = refl; decoded = refl }
 
 -- with a long enough work slice the step is fed
-fed-one : (M : Machine) (h : StateAndPool) (s : Step) (work : List ℕ) → KeptBy Follows h M → M .nodes ≤ length work → recordsIn (exchangesOf h (callOf s work)) ≡ Valid s ∷ []
-fed-one M h s work K long =
+fed-one : (P : Plain) (h : StateAndPool) (s : Step) (work : List ℕ) → KeptBy Follows h P → P .machine .nodes ≤ length work → recordsIn (exchangesOf h (callOf s work)) ≡ Valid s ∷ []
+fed-one P h s work K long =
     let c = K .core in
     let q = fields s work in
     let room : leb (c .head .numbers .nodes) (length work) ≡ true = le-leb (c .head .numbers .nodes) (length work) (omega (arith, K .follows .nodes, long)) in
     ap₂ (λ (g : StateAndPool) (k : HostCall). recordsIn (exchangesOf g k)) (K .held) (q .call)
-    ∙ ap (λ (p : StateAndPool × List Exchange). recordsIn (p .1)) (outside-long (carried M c (K .follows)) (q .kind) (q .worker) (q .field) (q .value) work room)
+    ∙ ap (λ (p : StateAndPool × List Exchange). recordsIn (p .1)) (outside-long (carried P c (K .follows)) (q .kind) (q .worker) (q .field) (q .value) work room)
     ∙ ap (λ (d : Decoded). d ∷ []) (q .decoded)
 
 -- a run with these steps has fed them after what it had
-all-fed : (works : ℕ → List ℕ) (ss : List Step) (M : Machine) (r : Run) (i : ℕ) → KeptBy Follows (r .now) M → ((j : ℕ) → M .nodes ≤ length (works j))
+all-fed : (works : ℕ → List ℕ) (ss : List Step) (P : Plain) (r : Run) (i : ℕ) → KeptBy Follows (r .now) P → ((j : ℕ) → P .machine .nodes ≤ length (works j))
     → recordsIn (runOf r (map call (oneByOne works i ss)) .past .exchanges) ≡ recordsIn (r .past .exchanges) ++ map Valid ss
-all-fed works [] M r i K long = sym (append-nil (recordsIn (r .past .exchanges)))
-all-fed works (s ∷ ss) M r i K long =
+all-fed works [] P r i K long = sym (append-nil (recordsIn (r .past .exchanges)))
+all-fed works (s ∷ ss) P r i K long =
     let h = r .now in
     let k = callOf s (works i) in
-    let e = fed-one M h s (works i) K (long i) in
-    let A = call-follows fromStart Follows laws M h k K in
-    let K₁ : KeptBy Follows (afterCall h k) (step M s) = subst (λ z. KeptBy Follows (afterCall h k) (machineBy fromStart M z (poolsAt (coreIn h) z))) e (A .fed .kept) in
+    let e = fed-one P h s (works i) K (long i) in
+    let A = call-follows fromStart Follows laws P h k K in
+    let K₁ : KeptBy Follows (afterCall h k) (stepped P s) = subst (λ z. KeptBy Follows (afterCall h k) (machineBy fromStart P z (poolsAt (coreIn h) z))) e (A .fed .kept) in
     let done : recordsIn (r .past .exchanges ++ exchangesOf h k) ≡ recordsIn (r .past .exchanges) ++ (Valid s ∷ []) =
     map-append (λ (t : Exchange). t .0) (r .past .exchanges) (exchangesOf h k) ∙ ap (λ z. recordsIn (r .past .exchanges) ++ z) e in
-    all-fed works ss (step M s) (runAfter r (call k)) (suc i) K₁ (λ j. subst (λ q. q ≤ length (works j)) (sym (sizes-step M s .nodes)) (long j))
+    all-fed works ss (stepped P s) (runAfter r (call k)) (suc i) K₁ (λ j. subst (λ q. q ≤ length (works j)) (sym (sizes-step (P .machine) s .nodes)) (long j))
     ∙ ap (λ z. z ++ map Valid ss) done
     ∙ append-assoc (recordsIn (r .past .exchanges)) (Valid s ∷ []) (map Valid ss)
 
@@ -262,7 +322,7 @@ module _ (b : Start) (calls : List Call) (parts : State) (ws : List ℕ) (works 
   calls₁ = oneWorkerCalls b calls works
 
   -- the two runs
-  K : KeptBy Follows (afterStart b) (plainStart b)
+  K : KeptBy Follows (afterStart b) (plainBegun b)
   K = let A = started-fit (b .parts) (b .workers) (b .values) (b .pool) taken in begins b (A .lengths) (A .fit)
 
   fit₁ : Fit 1 (b .values) ws
@@ -270,16 +330,16 @@ module _ (b : Start) (calls : List Call) (parts : State) (ws : List ℕ) (works 
       let F = started-fit (b .parts) (b .workers) (b .values) (b .pool) taken .fit in
       record { values-positive = F .values-positive; values-le = F .values-le; workers-positive = omega arith; workers-le = omega arith; enough = omega (arith, F .enough, as-many); nodes-le = omega (arith, F .nodes-le, as-many) }
 
-  K₁ : KeptBy Follows (afterStart b₁) (plainStart b₁)
+  K₁ : KeptBy Follows (afterStart b₁) (plainBegun b₁)
   unfolding b₁
   K₁ = begins (aloneStart b parts ws) (true-fits parts parts-fit) fit₁
 
-  R : RunKept fromStart Follows laws (plainStart b) (wholeNodes (b .pool)) (runFrom b calls)
+  R : RunKept fromStart Follows laws (plainBegun b) (wholeNodes (b .pool)) (runFrom b calls)
   R = run-kept b calls taken words all-words
 
-  R₁ : Fed fromStart Follows (plainStart b₁) (runFrom b₁ calls₁ .now) (runFrom b₁ calls₁ .past .exchanges) (runFrom b₁ calls₁ .past .pools)
+  R₁ : Fed fromStart Follows (plainBegun b₁) (runFrom b₁ calls₁ .now) (runFrom b₁ calls₁ .past .exchanges) (runFrom b₁ calls₁ .past .pools)
   unfolding calls₁
-  R₁ = fed-calls fromStart Follows laws (plainStart b₁) (wholeNodes (b₁ .pool)) (oneByOne works 0 (oneWorkerSteps (traceOf b calls))) (begun (afterStart b₁)) (record { long = refl; kept = K₁; same = refl })
+  R₁ = fed-calls fromStart Follows laws (plainBegun b₁) (wholeNodes (b₁ .pool)) (oneByOne works 0 (oneWorkerSteps (traceOf b calls))) (begun (afterStart b₁)) (record { long = refl; kept = K₁; same = refl })
 
   -- on the plain machine
   ss : List Step
@@ -287,7 +347,7 @@ module _ (b : Start) (calls : List Call) (parts : State) (ws : List ℕ) (works 
 
   plain-returned : Returned (plainStart b) ss
   unfolding ss
-  plain-returned = returned-plain (recordsIn (runFrom b calls .past .exchanges)) (runFrom b calls .past .pools) (plainStart b) (R .long) (subst (λ z. In (102, 3) z) (R .same) returned)
+  plain-returned = returned-plain (recordsIn (runFrom b calls .past .exchanges)) (runFrom b calls .past .pools) (plainBegun b) (R .long) (subst (λ z. In (102, 3) z) (R .same) returned)
 
   D : PlainDemand3 (b .workers) (b .values) N ss
   unfolding N
@@ -295,7 +355,7 @@ module _ (b : Start) (calls : List Call) (parts : State) (ws : List ℕ) (works 
 
   trace-is : traceOf b calls ≡ plainTrace (b .workers) (b .values) N ss
   unfolding ss N
-  trace-is = trace-same (plainStart b) (runFrom b calls .past .exchanges) (runFrom b calls .past .pools) (R .long) (R .same)
+  trace-is = trace-same (plainBegun b) (runFrom b calls .past .exchanges) (runFrom b calls .past .pools) (R .long) (R .same)
 
   -- the one-worker run
   ones : List Step
@@ -311,33 +371,53 @@ module _ (b : Start) (calls : List Call) (parts : State) (ws : List ℕ) (works 
 
   fed : recordsIn (runFrom b₁ calls₁ .past .exchanges) ≡ map Valid ones
   unfolding ones calls₁ b₁
-  fed = all-fed works (oneWorkerSteps (traceOf b calls)) (plainStart b₁) (begun (afterStart b₁)) 0 K₁ (λ j. subst (λ q. q ≤ length (works j)) (sym as-many) (long j))
+  fed = all-fed works (oneWorkerSteps (traceOf b calls)) (plainBegun b₁) (begun (afterStart b₁)) 0 K₁ (λ j. subst (λ q. q ≤ length (works j)) (sym as-many) (long j))
 
   steps₁-are : valids (recordsIn (runFrom b₁ calls₁ .past .exchanges)) ≡ oneWorkerOf (b .workers) (b .values) N ss
   steps₁-are = ap valids fed ∙ valids-valid ones ∙ ones-are
 
   trace₁-is : traceOf b₁ calls₁ ≡ plainTrace 1 (b .values) N (oneWorkerOf (b .workers) (b .values) N ss)
-  trace₁-is = trace-same (plainStart b₁) (runFrom b₁ calls₁ .past .exchanges) (runFrom b₁ calls₁ .past .pools) (R₁ .long) (R₁ .same) ∙ ap₂ trace start-is steps₁-are
+  trace₁-is = trace-same (plainBegun b₁) (runFrom b₁ calls₁ .past .exchanges) (runFrom b₁ calls₁ .past .pools) (R₁ .long) (R₁ .same) ∙ ap₂ trace start-is steps₁-are
 
   answers₁-are : answersIn (runFrom b₁ calls₁ .past .exchanges) ≡ answers (start 1 (b .values) N) (oneWorkerOf (b .workers) (b .values) N ss)
   answers₁-are =
       let ks = runFrom b₁ calls₁ .past .pools in
-      R₁ .same ∙ ap (λ z. answersBy fromStart (plainStart b₁) z ks) fed ∙ answers-plain ones ks (plainStart b₁) (R₁ .long ∙ ap length fed) ∙ ap₂ answers start-is ones-are
+      R₁ .same ∙ ap (λ z. answersBy fromStart (plainBegun b₁) z ks) fed ∙ answers-plain ones ks (plainBegun b₁) (R₁ .long ∙ ap length fed) ∙ ap₂ answers start-is ones-are
 
-  free-at-end : (h : StateAndPool) (M : Machine) → KeptBy Follows h M → live M ≡ [] → AllFree h
-  free-at-end h M E e = subst AllFree (sym (E .held)) (all-free M (E .core) (carried M (E .core) (E .follows) .related) e)
-
-  over : live (machineBy fromStart (plainStart b) (recordsIn (runFrom b calls .past .exchanges)) (runFrom b calls .past .pools)) ≡ []
+  over : live (followed b calls .machine) ≡ []
   unfolding ss
   over =
-      ap live (machine-plain (recordsIn (runFrom b calls .past .exchanges)) (runFrom b calls .past .pools) (plainStart b) (R .long))
+      ap live (machine-plain (recordsIn (runFrom b calls .past .exchanges)) (runFrom b calls .past .pools) (plainBegun b) (R .long))
       ∙ returned-ends (plainStart b) ss (tree-start (b .workers) (b .values) (wholeNodes (b .pool))) plain-returned
 
-  over₁ : live (machineBy fromStart (plainStart b₁) (recordsIn (runFrom b₁ calls₁ .past .exchanges)) (runFrom b₁ calls₁ .past .pools)) ≡ []
+  over₁ : live (followed b₁ calls₁ .machine) ≡ []
   over₁ =
-      ap live (machine-plain (recordsIn (runFrom b₁ calls₁ .past .exchanges)) (runFrom b₁ calls₁ .past .pools) (plainStart b₁) (R₁ .long))
+      ap live (machine-plain (recordsIn (runFrom b₁ calls₁ .past .exchanges)) (runFrom b₁ calls₁ .past .pools) (plainBegun b₁) (R₁ .long))
       ∙ ap₂ (λ M z. live (run M z)) start-is steps₁-are
       ∙ returned-ends (start 1 (b .values) N) (oneWorkerOf (b .workers) (b .values) N ss) (tree-start 1 (b .values) N) (D .returns)
+
+  free-at-end : (h : StateAndPool) (P : Plain) → KeptBy Follows h P → live (P .machine) ≡ [] → AllFree h
+  free-at-end h P E e = subst AllFree (sym (E .held)) (all-free (P .machine) (E .core) (carried P (E .core) (E .follows) .related) e)
+
+  -- R-5: "Once Main has returned, each total is .."
+  totals-at-end : (h : StateAndPool) (P : Plain) → KeptBy Follows h P → live (P .machine) ≡ [] → totalsOf (h .state) ≡ totalWords (P .views .totals)
+  totals-at-end h P E e = ap (λ (g : StateAndPool). totalsOf (g .state)) (E .held) ∙ E .follows .viewed .totals e ∙ view-totals (P .views .totals)
+
+  folds-are : plainTotals (b .workers) (b .values) N ss ≡ mainFolds (traceOf b calls)
+  unfolding N
+  folds-are = totals-are (b .workers) (b .values) N ss plain-returned ∙ ap mainFolds (sym trace-is)
+
+  last-folds : followed b calls .views .totals ≡ mainFolds (traceOf b calls)
+  unfolding ss N
+  last-folds = ap (λ (W : Views). W .totals) (views-plain (recordsIn (runFrom b calls .past .exchanges)) (runFrom b calls .past .pools) (plainBegun b) (R .long)) ∙ folds-are
+
+  last₁-folds : followed b₁ calls₁ .views .totals ≡ mainFolds (traceOf b calls)
+  unfolding N
+  last₁-folds =
+      ap (λ (W : Views). W .totals) (views-plain (recordsIn (runFrom b₁ calls₁ .past .exchanges)) (runFrom b₁ calls₁ .past .pools) (plainBegun b₁) (R₁ .long))
+      ∙ ap₂ (λ (M : Machine) (z : List Step). runViews M viewsAtStart z .totals) start-is steps₁-are
+      ∙ sym (totals-same (b .workers) (b .values) N ss plain-returned)
+      ∙ folds-are
 
   pub demand3 : Demand3 b calls parts ws works
   unfolding ones calls₁ b₁
@@ -348,6 +428,8 @@ module _ (b : Start) (calls : List Call) (parts : State) (ws : List ℕ) (works 
     same-frames = λ p. subst (λ z. IsFrame z p ↔ IsFrame (traceOf b calls) p) (sym trace₁-is) (subst (λ z. IsFrame (plainTrace 1 (b .values) N (oneWorkerOf (b .workers) (b .values) N ss)) p ↔ IsFrame z p) (sym trace-is) (D .same-frames p));
     same-steps = λ p. ap (stepsOf p) trace₁-is ∙ D .same-steps p ∙ ap (stepsOf p) (sym trace-is);
     same-reads = λ p. ap (readsOf p) trace₁-is ∙ D .same-reads p ∙ ap (readsOf p) (sym trace-is);
-    all-free = λ e. free-at-end (runFrom b calls .now) _ (R .standing e .0 .fed .kept) over;
-    all-free-alone = free-at-end (runFrom b₁ calls₁ .now) _ (R₁ .kept) over₁;
+    all-free = λ e. free-at-end (runFrom b calls .now) (followed b calls) (R .standing e .0 .fed .kept) over;
+    all-free-alone = free-at-end (runFrom b₁ calls₁ .now) (followed b₁ calls₁) (R₁ .kept) over₁;
+    totals = λ e. totals-at-end (runFrom b calls .now) (followed b calls) (R .standing e .0 .fed .kept) over ∙ ap totalWords last-folds;
+    totals-alone = totals-at-end (runFrom b₁ calls₁ .now) (followed b₁ calls₁) (R₁ .kept) over₁ ∙ ap totalWords last₁-folds;
   }

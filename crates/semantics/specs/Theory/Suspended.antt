@@ -20,10 +20,10 @@ use Rattle.model.specs.Machine.{Frame, Machine, live, deque}
 use Rattle.model.specs.Steps.{suspend}
 use Rattle.model.specs.Theory.Effects.{rest, live-at, live-with}
 use Rattle.semantics.specs.Core.{Core, tableOf, withTable}
-use Rattle.semantics.specs.Theory.Relation.{Trees, TreeLaws, bit, placesOf, rootOf, Recorded, Relates}
+use Rattle.semantics.specs.Theory.Relation.{Trees, TreeLaws, bit, placesOf, rootOf, Recorded, Relates, Keeps}
 use Rattle.semantics.specs.Theory.Places.{placed-taken, same-numbers, acting-deque, acting-record}
 use Rattle.semantics.specs.Theory.RelationFacts.{trees-perm, in-rest, lists-with, stored, workers-le, bottom-lives, above-runs}
-use Rattle.semantics.specs.Theory.Stored.{Carried, carried}
+use Rattle.semantics.specs.Theory.Stored.{Carried, carried, keeps-stored}
 
 -- the same frame, returning or not
 abbrev pub marked : Frame → Bool → Frame
@@ -85,6 +85,11 @@ module _ {P : Trees} {M : Machine} {c : Core} (r : Relates P M c) (w : ℕ) (q :
     ];
     once = carries .once;
     vacant = carries .vacant;
+    totals = carries .totals;
     trees = trees-perm (table .frames) (r .at) laws afterwards (rw (carries .other-roots, carries .own-root) (trees-perm (c .frames) (r .at) laws before (r .trees)));
     values = λ f m x h. value-kept f (In-perm (Permᴰ·symm afterwards) m) x h;
   }
+
+  pub suspends-keeps : (laws : TreeLaws (c .head .numbers .nodes) (M .splitters) P) → Keeps r (suspends laws)
+  unfolding suspends
+  suspends-keeps laws = keeps-stored r (suspends laws) (λ n. refl) refl carries

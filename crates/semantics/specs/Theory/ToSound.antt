@@ -1,5 +1,5 @@
 -- A state and pool that relate to a plain machine are sound, and the check counts the free nodes that the relation says.
-use mathlib.Core.Path.{_≡_, sym, ap, _∙_, subst}
+use mathlib.Core.Path.{_≡_, sym, ap, _∙_, subst, refl}
 use mathlib.Core.Bool.{true}
 use mathlib.Core.List.{List, []}
 use Prim.Native.Nat.{ℕ, _≤_, _<_}
@@ -12,18 +12,18 @@ use Rattle.pool.specs.Theory.Soundness.{live-sound}
 use Rattle.pool.specs.Theory.Sharing.{rootsOf as treeRoots}
 use Rattle.model.specs.History.{History}
 use Rattle.model.specs.Machine.{Machine, Frame, live}
-use Rattle.model.specs.Theory.FrameTree.{FrameTree}
+use Rattle.model.specs.Theory.FrameTree.{FrameTree, main-lives}
 use Rattle.model.specs.Theory.DequeShape.{DequeInvariant}
 use Rattle.soundness.specs.Soundness.{poolSound, sound, liveRoots, freeNodes, freeCount}
 use Rattle.semantics.specs.Core.{Core}
 use Rattle.semantics.specs.Entries.{numbersOf, stateOf}
-use Rattle.semantics.specs.Theory.Relation.{Trees, Relates, rootsOf}
+use Rattle.semantics.specs.Theory.Relation.{Trees, Relates, rootsOf, Links}
 use Rattle.semantics.specs.Theory.Pools.{LiveTrees, GoodTrees, good-live, live-room}
-use Rattle.soundness.specs.Theory.Facts.{NumbersFacts}
+use Rattle.soundness.specs.Theory.Facts.{TotalsZero, NumbersFacts}
 use Rattle.soundness.specs.Theory.Sentences.{facts-sound}
 use Rattle.soundness.specs.Theory.PoolSentences.{fact-pool}
 use Rattle.semantics.specs.Theory.PoolSentences.{live-pool}
-use Rattle.semantics.specs.Theory.ToSoundFrames.{roots-count}
+use Rattle.semantics.specs.Theory.ToSoundFrames.{live-frame, roots-count}
 use Rattle.semantics.specs.Theory.ToSoundDeques.{frames-hold}
 
 -- ---- the free chain of a live pool
@@ -55,6 +55,7 @@ relates-over R q = record {
   waiting = R .waiting;
   once = R .once;
   vacant = R .vacant;
+  totals = R .totals;
   trees = q;
   values = R .values;
 }
@@ -87,10 +88,17 @@ module _ (M : Machine) (c : Core) (R : Relates (LiveTrees (c .head .numbers .nod
       (roots-count R) (c .head .«free_count») (R .trees) in
       (subst (λ m. poolSound m (c .head .numbers .nodes) (c .pool) (c .head .numbers .«free_node») (liveRoots (c .frames)) ≡ true) (sym (n .splitters)) (p .0), p .1)
 
-  pub to-sound : FrameTree M → DequeInvariant M
-      → (sound (numbersOf (stateOf c)) (c .deques) (c .frames) (c .pool) ≡ true) × (freeCount (numbersOf (stateOf c)) (c .pool) ≡ c .head .«free_count»)
-  to-sound tree inv = (
-    facts-sound (numbersOf (stateOf c)) (c .deques) (c .frames) (c .pool) (record { numbers = numbers-hold; frames = frames-hold R tree inv; pool = pool-holds .0 }),
+  -- "zero while Main lives": where a frame lives Main does
+  totals-hold : FrameTree M → TotalsZero (c .totals) (c .frames)
+  totals-hold tree p b l =
+      let f = live-frame R p b l in
+      let m = main-lives (live M) (tree .rooted) (f .0 .name) (f .0) (f .1) refl in
+      R .totals .zero (m .0) (m .1) (m .2)
+
+  pub to-sound : FrameTree M → DequeInvariant M → Links (c .frames) (R .at) (live M)
+      → (sound (numbersOf (stateOf c)) (c .totals) (c .deques) (c .frames) (c .pool) ≡ true) × (freeCount (numbersOf (stateOf c)) (c .pool) ≡ c .head .«free_count»)
+  to-sound tree inv K = (
+    facts-sound (numbersOf (stateOf c)) (c .totals) (c .deques) (c .frames) (c .pool) (record { numbers = numbers-hold; totals = totals-hold tree; frames = frames-hold R tree inv K; pool = pool-holds .0 }),
     pool-holds .1,
   )
 

@@ -8,13 +8,14 @@ use native.Mathlib.Omega.{arith}
 use native.Mathlib.Decide.{ℕ-discrete}
 use lib.ListN.{length, List·getD-eq-default}
 use Rattle.frames.specs.Widths.{places}
+use Rattle.frames.specs.Siblings.{younger, Children}
 use Rattle.frames.specs.Frames.{frameAt}
 use Rattle.frames.specs.Deques.{size, place, dequeList, placesTo}
 use Rattle.model.specs.Machine.{Name, Frame, Machine, live, deque}
 use Rattle.model.specs.Theory.FrameTree.{FrameTree}
 use Rattle.model.specs.Theory.DequeShape.{Linked, OnlyChild, nothing, DequeInvariant}
 use Rattle.semantics.specs.Core.{Core}
-use Rattle.semantics.specs.Theory.Relation.{Trees, parentPlace, placesOf, Relates}
+use Rattle.semantics.specs.Theory.Relation.{Trees, parentPlace, placesOf, Relates, Links}
 use Rattle.soundness.specs.Theory.Facts.{Lives, FramesFacts}
 use Rattle.semantics.specs.Theory.ToSoundFrames.{recorded, inside, alive, live-frame, parent-named, deque-size, in-live, one-main, parents, outstanding, placed, returning, free-places}
 
@@ -116,14 +117,23 @@ module _ {P : Trees} {M : Machine} {c : Core} (R : Relates P M c) (tree : FrameT
         (x .0) (x .1) (ap (λ q. frameAt fs q .parent) (x .2) ∙ e) in
         (r .0, sym (x .2) ∙ r .1)
 
+  no-length : (n : Name) → length n ≡ 0 → n ≡ []
+  no-length [] e = refl
+  no-length (k ∷ n) e = absurd (omega arith)
+
   -- the sentences on frames and deques
-  pub frames-hold : FramesFacts (c .head .numbers .workers) (c .head .numbers .«free_place») (c .deques) fs
-  frames-hold = record {
+  pub frames-hold : Links (c .frames) (R .at) (live M) → FramesFacts (c .head .numbers .workers) (c .head .numbers .«free_place») (c .deques) fs
+  frames-hold K = record {
     one-main = one-main R tree;
     parents = parents R tree;
     outstanding = outstanding R tree;
     placed = placed R tree inv;
     returning = returning R tree inv;
+    siblings = λ q b l. (let f = live-frame R q b l in let C = K .children (f .0) (f .1) in (C .0, subst (λ (u : ℕ). Children fs u (C .0)) (f .2) (C .1)));
+    main-link = λ p b l d.
+        let f = live-frame R p b l in
+        let short : f .0 .name ≡ [] = no-length (f .0 .name) (sym (recorded R (f .0) (f .1) .1 .depth) ∙ ap (λ (u : ℕ). frameAt fs u .depth) (f .2) ∙ d) in
+        ap (younger fs) (sym (f .2)) ∙ K .main-link (f .0) (f .1) short;
     hold-live = hold-live;
     absent = absent;
     within = R .formed .shaped .within;

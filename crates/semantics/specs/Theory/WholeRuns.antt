@@ -1,8 +1,7 @@
--- Runs with saves and readings among their calls, over any relation `Follows M c` that each record keeps: each call keeps that what the
+-- Runs with saves and readings among their calls, over any relation `Follows P c` that each record keeps: each call keeps that what the
 -- run has behind it was answered as the specification says and has led to its state, and the same of each image that is kept.
-use mathlib.Core.Path.{_≡_, refl, sym, ap, ap₂, _∙_, subst}
-use mathlib.Core.Logic.{_⊎_, inl, inr}
-use mathlib.Core.Bool.{Bool, true, false, cond, not}
+use mathlib.Core.Path.{_≡_, refl, sym, ap, _∙_, subst}
+use mathlib.Core.Bool.{Bool, true, false}
 use mathlib.Core.List.{List, [], _∷_, _++_, map}
 use Prim.Native.Nat.{ℕ, zero, suc, _*_, _≤_}
 use native.Mathlib.Omega.{arith}
@@ -10,16 +9,14 @@ use lib.ListN.{length, take}
 use mathlib.Core.List.{append-nil}
 use lib.Dec.{eqb}
 use borrow.Author.Tests.{eqb-true, eq-eqb}
-use Rattle.words.specs.Tests.{decided, true≢false}
+use Rattle.words.specs.Tests.{true≢false}
 use Rattle.words.specs.Below.{Words}
 use Rattle.image.specs.Image.{imageBytes, imageCheck, wrongLength}
-use Rattle.image.specs.declared.ImageCheck.the-variants.{Good}
-use Rattle.model.specs.Machine.{Machine}
 use Rattle.semantics.specs.Core.{Core}
 use Rattle.semantics.specs.Entries.{State, numbersOf, stateOf, isSound, chainFree}
-use Rattle.semantics.specs.Images.{LoadResult, savedImage, loadOn}
-use Rattle.semantics.specs.Calls.{PoolAt, HostCall, outside, tape, StateAndPool, afterCall, Exchange, exchangesOf, recordsIn, answersIn, poolsAt, coreIn, Past, Saved, Run, Call, call, save, load, imageAt, pastAfter, saveResult, imagesAfter, runAfter, runOf, begun}
-use Rattle.semantics.specs.Demands.{Specification, answersBy, machineBy, Answers, StateWords, HostWords, CallWords, AllCallWords}
+use Rattle.semantics.specs.Images.{savedImage, loadOn}
+use Rattle.semantics.specs.Calls.{PoolAt, HostCall, StateAndPool, afterCall, Exchange, exchangesOf, recordsIn, answersIn, poolsAt, coreIn, Past, Saved, Run, Call, call, save, load, imageAt, pastAfter, saveResult, imagesAfter, runAfter, runOf, begun}
+use Rattle.semantics.specs.Demands.{Plain, Specification, answersBy, machineBy, Answers, StateWords, HostWords, CallWords, AllCallWords}
 use Rattle.semantics.specs.Promises.{Fits}
 use Rattle.semantics.specs.Theory.Pools.{Beyond}
 use Rattle.semantics.specs.Theory.SoundSteps.{Carried, is-sound}
@@ -27,7 +24,7 @@ use Rattle.semantics.specs.Theory.Elsewhere.{withPool}
 use Rattle.semantics.specs.Theory.AllWords.{call-words}
 use Rattle.semantics.specs.Theory.Lengths.{call-fits}
 use Rattle.semantics.specs.Theory.Images.{Refuses, refused-calls, refused-save, accepted-save, sound-room, LoadTaken, load-taken, load-leaves-none, load-fits, SaysCore, saved-says, loaded-state, loaded-nodes, loaded-words, loaded-beyond}
-use Rattle.semantics.specs.Theory.Runs.{stateAndPool, Laws, KeptBy, Fed, Ran, core-fits, beyond-then, fed-then, call-follows}
+use Rattle.semantics.specs.Theory.Runs.{stateAndPool, Laws, KeptBy, Fed, core-fits, beyond-then, fed-then, call-follows}
 
 -- ---- the parts keep their lengths, if those that are lent for readings have them
 
@@ -45,10 +42,10 @@ calls-fit (load i s ws work ∷ cs) r p F = calls-fit cs (runAfter r (load i s w
 
 -- ---- what each call keeps
 
-module _ (S : Specification) (Follows : Machine → Core → Type 0) (L : Laws S Follows) (M : Machine) (N : ℕ) where
+module _ (S : Specification) (Follows : Plain → Core → Type 0) (L : Laws S Follows) (P : Plain) (N : ℕ) where
   -- the past p has led to the state and pool h
   pub record Behind (p : Past) (h : StateAndPool) : Type 0 where
-    pub fed : Fed S Follows M h (p .exchanges) (p .pools)
+    pub fed : Fed S Follows P h (p .exchanges) (p .pools)
     pub words : StateWords (h .state) (h .pool)
     pub nodes : numbersOf (h .state) .nodes ≡ N
 
@@ -59,7 +56,7 @@ module _ (S : Specification) (Follows : Machine → Core → Type 0) (L : Laws S
 
   pub record RunKept (r : Run) : Type 0 where
     pub long : length (r .past .pools) ≡ length (recordsIn (r .past .exchanges))
-    pub same : answersIn (r .past .exchanges) ≡ answersBy S M (recordsIn (r .past .exchanges)) (r .past .pools)
+    pub same : answersIn (r .past .exchanges) ≡ answersBy S P (recordsIn (r .past .exchanges)) (r .past .pools)
     pub standing : r .stateless ≡ false → Behind (r .past) (r .now) × Beyond N (r .lent) (r .now .pool)
     pub none : r .stateless ≡ true → Refuses (r .now)
     pub images : (i : ℕ) → ImageKept (imageAt (r .images) i)
@@ -71,9 +68,9 @@ module _ (S : Specification) (Follows : Machine → Core → Type 0) (L : Laws S
   call-standing r k w K e =
       let B = K .standing e .0 in
       let ks = poolsAt (coreIn (r .now)) (recordsIn (exchangesOf (r .now) k)) in
-      let A = call-follows S Follows L (machineBy S M (recordsIn (r .past .exchanges)) (r .past .pools)) (r .now) k (B .fed .kept) in (
+      let A = call-follows S Follows L (machineBy S P (recordsIn (r .past .exchanges)) (r .past .pools)) (r .now) k (B .fed .kept) in (
         record {
-          fed = fed-then S Follows L M (r .now) (afterCall (r .now) k) (r .past .exchanges) (exchangesOf (r .now) k) (r .past .pools) ks (B .fed) (A .fed);
+          fed = fed-then S Follows L P (r .now) (afterCall (r .now) k) (r .past .exchanges) (exchangesOf (r .now) k) (r .past .pools) ks (B .fed) (A .fed);
           words = call-words (r .now) k (B .words) w;
           nodes = A .nodes ∙ B .nodes;
         },
@@ -98,7 +95,7 @@ module _ (S : Specification) (Follows : Machine → Core → Type 0) (L : Laws S
           let p = sym (same-past r k R) in
           record {
             long = subst (λ (q : Past). length (q .pools) ≡ length (recordsIn (q .exchanges))) p (K .long);
-            same = subst (λ (q : Past). answersIn (q .exchanges) ≡ answersBy S M (recordsIn (q .exchanges)) (q .pools)) p (K .same);
+            same = subst (λ (q : Past). answersIn (q .exchanges) ≡ answersBy S P (recordsIn (q .exchanges)) (q .pools)) p (K .same);
             standing = λ q. absurd (true≢false (sym e ∙ q));
             none = λ q. subst Refuses (sym (refused-calls (r .now) k R .0)) R;
             images = K .images;
@@ -141,7 +138,7 @@ module _ (S : Specification) (Follows : Machine → Core → Type 0) (L : Laws S
     unfolding c
     held = B .fed .kept .held
 
-    carries : Carried (machineBy S M (recordsIn (v .past .exchanges)) (v .past .pools)) c
+    carries : Carried (machineBy S P (recordsIn (v .past .exchanges)) (v .past .pools) .machine) c
     unfolding c
     carries = L .carried _ (B .fed .kept .core) (B .fed .kept .follows)
 
@@ -218,7 +215,7 @@ module _ (S : Specification) (Follows : Machine → Core → Type 0) (L : Laws S
   kept-calls [] r w K = K
   kept-calls (c ∷ cs) r w K = kept-calls cs (runAfter r c) (w .1) (kept-after r c (w .0) K)
 
-  pub kept-begun : (h : StateAndPool) → KeptBy Follows h M → StateWords (h .state) (h .pool) → numbersOf (h .state) .nodes ≡ N → RunKept (begun h)
+  pub kept-begun : (h : StateAndPool) → KeptBy Follows h P → StateWords (h .state) (h .pool) → numbersOf (h .state) .nodes ≡ N → RunKept (begun h)
   kept-begun h K w e = record {
     long = refl;
     same = refl;
@@ -228,17 +225,17 @@ module _ (S : Specification) (Follows : Machine → Core → Type 0) (L : Laws S
   }
 
   -- steps and tapes alone, whatever they hand in
-  pub fed-calls : (ks : List HostCall) (r : Run) → Fed S Follows M (r .now) (r .past .exchanges) (r .past .pools)
-      → let r′ = runOf r (map call ks) in Fed S Follows M (r′ .now) (r′ .past .exchanges) (r′ .past .pools)
+  pub fed-calls : (ks : List HostCall) (r : Run) → Fed S Follows P (r .now) (r .past .exchanges) (r .past .pools)
+      → let r′ = runOf r (map call ks) in Fed S Follows P (r′ .now) (r′ .past .exchanges) (r′ .past .pools)
   fed-calls [] r F = F
   fed-calls (k ∷ ks) r F =
-      let A = call-follows S Follows L (machineBy S M (recordsIn (r .past .exchanges)) (r .past .pools)) (r .now) k (F .kept) in
-      fed-calls ks (runAfter r (call k)) (fed-then S Follows L M (r .now) (afterCall (r .now) k) (r .past .exchanges) (exchangesOf (r .now) k) (r .past .pools) (poolsAt (coreIn (r .now)) (recordsIn (exchangesOf (r .now) k))) F (A .fed))
+      let A = call-follows S Follows L (machineBy S P (recordsIn (r .past .exchanges)) (r .past .pools)) (r .now) k (F .kept) in
+      fed-calls ks (runAfter r (call k)) (fed-then S Follows L P (r .now) (afterCall (r .now) k) (r .past .exchanges) (exchangesOf (r .now) k) (r .past .pools) (poolsAt (coreIn (r .now)) (recordsIn (exchangesOf (r .now) k))) F (A .fed))
 
-  pub fed-sound : {h : StateAndPool} {es : List Exchange} {ks : List PoolAt} → Fed S Follows M h es ks → isSound (h .state) (h .pool) ≡ true
+  pub fed-sound : {h : StateAndPool} {es : List Exchange} {ks : List PoolAt} → Fed S Follows P h es ks → isSound (h .state) (h .pool) ≡ true
   fed-sound F = let E = F .kept in ap (λ (q : StateAndPool). isSound (q .state) (q .pool)) (E .held) ∙ is-sound (L .carried _ (E .core) (E .follows)) .0
 
-  pub answers-by : (r : Run) → RunKept r → Answers S M N r
+  pub answers-by : (r : Run) → RunKept r → Answers S P N r
   answers-by r K = record {
     same-answers = K .same;
     same-free = λ e. (let E = K .standing e .0 .fed .kept in let C = L .carried _ (E .core) (E .follows) in ap (λ (q : StateAndPool). chainFree (q .state) (q .pool)) (E .held) ∙ is-sound C .1 ∙ C .same-free);

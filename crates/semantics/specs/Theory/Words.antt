@@ -8,21 +8,21 @@ use native.Mathlib.Omega.{arith}
 use borrow.Author.Tests.{lt-leb}
 use Rattle.words.specs.Tests.{decided, true≢false}
 use Rattle.model.specs.declared.Step.{Step}
-use Rattle.model.specs.declared.Step.the-variants.{Spawn, Return, Steal, Sync, Read, Write}
+use Rattle.model.specs.declared.Step.the-variants.{Spawn, Return, Steal, Sync, Read, Write, Fold}
 use Rattle.model.specs.declared.Decoded.{Decoded}
 use Rattle.model.specs.declared.Decoded.the-variants.{Valid, Invalid}
 use Rattle.model.specs.Machine.{Frame, Machine, deque}
-use Rattle.model.specs.Steps.{Action, spawn, return, sync, read, write, Turn, acting, stealing, turnOf, firstTrue, turnTests, refusal, actionAnswer, turnAnswer}
+use Rattle.model.specs.Steps.{Action, spawn, return, sync, read, write, fold, Turn, acting, stealing, turnOf, firstTrue, turnTests, refusal, actionAnswer, turnAnswer}
 use Rattle.model.specs.Run.{bottomEntry as plainBottom, turnEntry as plainEntry}
 use Rattle.model.specs.Theory.Effects.{Passes, acts}
-use Rattle.semantics.specs.declared.Done.the-variants.{Spawned, Ended, Stolen, Waited, Value, Written}
+use Rattle.semantics.specs.declared.Done.the-variants.{Spawned, Ended, Stolen, Waited, Value, Written, Folded}
 use Rattle.semantics.specs.declared.Refusal.{Refusal}
 use Rattle.semantics.specs.declared.Answer.{Answer}
 use Rattle.semantics.specs.declared.Answer.the-variants.{Accepted, Refused}
 use Rattle.semantics.specs.Answers.{refusalNumber, answerWords, bothWords, wordsIn}
 use Rattle.frames.specs.declared.Returned.{Returned}
 use Rattle.semantics.specs.Theory.Returning.{return-answers}
-use Rattle.semantics.specs.Core.{Core, StepResult, judged, spawnOn, stealOn, syncOn, readOn, writeOn, stepOn, testsOf, doneBy}
+use Rattle.semantics.specs.Core.{Core, StepResult, judged, spawnOn, stealOn, syncOn, readOn, writeOn, foldOn, stepOn, testsOf, doneBy}
 use Rattle.semantics.specs.Entries.{recordOn}
 use Rattle.semantics.specs.Calls.{refusedWhole, saysAccepted, bottomEntry, turnEntry}
 use Rattle.semantics.specs.Theory.Refusals.{number-range}
@@ -37,6 +37,7 @@ words-low (Accepted (Stolen k)) = omega arith
 words-low (Accepted (Waited o)) = omega arith
 words-low (Accepted (Value v)) = omega arith
 words-low (Accepted (Written k)) = omega arith
+words-low (Accepted Folded) = omega arith
 words-low (Refused r) = omega (arith, number-range r .1)
 
 -- the two words go into one number and come back
@@ -70,6 +71,7 @@ step-not-whole c st = judged-not-whole (testsOf c st) c (doneBy c st) (tests st)
     tests (Sync w) = (refl, (refl, (refl, tt)))
     tests (Read w x) = (refl, (refl, (refl, (refl, tt))))
     tests (Write w x v) = (refl, (refl, (refl, (refl, (refl, tt)))))
+    tests (Fold w r v) = (refl, (refl, (refl, (refl, tt))))
 
     done : (st : Step) → refusedWhole (answerWords (doneBy c st .answer)) ≡ false
     done (Spawn w) = unfold spawnOn in refl
@@ -78,6 +80,7 @@ step-not-whole c st = judged-not-whole (testsOf c st) c (doneBy c st) (tests st)
     done (Sync w) = unfold syncOn in refl
     done (Read w x) = unfold readOn in refl
     done (Write w x v) = unfold writeOn in refl
+    done (Fold w r v) = unfold foldOn in refl
 
 pub not-whole : (c : Core) (d : Decoded) → refusedWhole (answerWords (recordOn c d .answer)) ≡ false
 not-whole c (Valid st) = step-not-whole c st
@@ -99,6 +102,7 @@ done-accepts c (Steal w v) = unfold stealOn in refl
 done-accepts c (Sync w) = unfold syncOn in refl
 done-accepts c (Read w x) = unfold readOn in refl
 done-accepts c (Write w x v) = unfold writeOn in refl
+done-accepts c (Fold w r v) = unfold foldOn in refl
 
 step-keeps : (c : Core) (st : Step) → accepts (stepOn c st .answer) ≡ false → stepOn c st .core ≡ c
 unfolding stepOn
@@ -108,7 +112,7 @@ pub refused-keeps : (c : Core) (d : Decoded) → answerWords (recordOn c d .answ
 refused-keeps c (Valid st) h = step-keeps c st (lt-leb 100 (answerWords (stepOn c st .answer) .0) h)
 refused-keeps c Invalid h = refl
 
--- ---- the plain machine's refusals are 8 to 16
+-- ---- the plain machine's refusals are 8 to 16, and 20
 
 abbrev Low : List (Bool × ℕ) → Type 0
 Low [] = Unit {0}
@@ -129,6 +133,7 @@ tests-low M (acting w a) = (omega arith, (omega arith, (omega arith, own (deque 
     own (q ∷ d) sync = tt
     own (q ∷ d) (read x) = omega arith
     own (q ∷ d) (write x v) = omega arith
+    own (q ∷ d) (fold r v) = omega arith
 
 pub refusal-low : (M : Machine) (st : Step) → refusal M st < 100
 unfolding refusal
@@ -146,3 +151,4 @@ turn-same M (acting w a) h = let x = acts M w a h in rw (x .at) (own (x .actor) 
     own q d sync = (refl, refl)
     own q d (read x) = (refl, refl)
     own q d (write x v) = (refl, refl)
+    own q d (fold r v) = (refl, refl)

@@ -17,15 +17,15 @@ has-room : (p : Bool) (m : ℕ) → cond p (Sound m) Checked.Unsound ≡ NoRoom 
 has-room true m e = let z : _≡_ {A = ℕ} 0 1 = cc in omega arith
 has-room false m e = let z : _≡_ {A = ℕ} 0 1 = cc in omega arith
 
-module _ (s : Numbers) (ds fs ws ks : List ℕ) where
-  pub checked-room : leb (s .nodes) (length ks) ≡ true → checked s ds fs ws ks ≡ cond (sound s ds fs ws) (Sound (freeCount s ws)) Checked.Unsound
+module _ (s : Numbers) (ts ds fs ws ks : List ℕ) where
+  pub checked-room : leb (s .nodes) (length ks) ≡ true → checked s ts ds fs ws ks ≡ cond (sound s ts ds fs ws) (Sound (freeCount s ws)) Checked.Unsound
   unfolding checked
   checked-room e = rw e
 
   -- a work slice that is too short is left alone
-  pub no-room-keeps : checked s ds fs ws ks ≡ NoRoom → cleared (s .nodes) ks ≡ ks
+  pub no-room-keeps : checked s ts ds fs ws ks ≡ NoRoom → cleared (s .nodes) ks ≡ ks
   unfolding cleared
   no-room-keeps e = elim (decided (leb (s .nodes) (length ks))) [
-    | inl t ↦ absurd (has-room (sound s ds fs ws) (freeCount s ws) (sym (checked-room t) ∙ e))
+    | inl t ↦ absurd (has-room (sound s ts ds fs ws) (freeCount s ws) (sym (checked-room t) ∙ e))
     | inr f ↦ rw f
   ]

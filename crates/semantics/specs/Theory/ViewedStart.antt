@@ -1,0 +1,73 @@
+-- R-5: the links and the views at a start: "Main begins with the identities."
+use mathlib.Core.Path.{_≡_, refl, sym, ap, _∙_, subst}
+use mathlib.Core.List.{List·Memᴰ as In, List·Memᴰ·head as here, List·Memᴰ·eq-of-singleton as In-one}
+use mathlib.Core.List.{List, [], cons≢nil}
+use Prim.Native.Nat.{ℕ}
+use native.Mathlib.Omega.{arith}
+use native.Mathlib.Decide.{ℕ-discrete}
+use lib.ListN.{replicate, length-replicate}
+use Rattle.reducers.specs.Reducers.{viewOf}
+use Rattle.frames.specs.Widths.{frameWords}
+use Rattle.frames.specs.declared.Frame.{Frame as FrameWords}
+use Rattle.frames.specs.Frames.{frameAt, mainFrame, initFrames}
+use Rattle.frames.specs.Siblings.{Children}
+use Rattle.frames.specs.Theory.Siblings.{children-empty}
+use Rattle.frames.specs.Theory.Start.{init-main, init-free}
+use Rattle.model.specs.Machine.{Name, Frame, live, main, start}
+use Rattle.model.specs.Views.{View, viewsAtStart}
+use Rattle.model.specs.Theory.Effects.{live-start}
+use Rattle.model.specs.Theory.FrameTree.{tree-start}
+use Rattle.model.specs.Theory.PostOrder.{post-start}
+use Rattle.semantics.specs.Entries.{wholeNodes}
+use Rattle.semantics.specs.Theory.Relation.{childCount, Links}
+use Rattle.semantics.specs.Theory.Starts.{Fit}
+use Rattle.semantics.specs.Theory.StartRelates.{firstCore, start-relates}
+use Rattle.semantics.specs.Theory.ToSoundFrames.{inside, alive, children-is}
+use Rattle.semantics.specs.Theory.Viewed.{Viewed}
+
+module _ (workers : ℕ) (vs ws : List ℕ) (F : Fit workers vs ws) where
+  abbrev L : List Frame
+  L = live (start workers vs (wholeNodes ws))
+
+  abbrev at : Name → ℕ
+  at = start-relates workers vs ws F .at
+
+  abbrev fs : List ℕ
+  fs = initFrames (replicate frameWords 0)
+
+  -- Main lives, and no other frame
+  main-lives : In (main vs) L
+  main-lives = subst (λ (l : List Frame). In (main vs) l) (sym (live-start workers vs (wholeNodes ws))) (here refl)
+
+  is-main : (f : Frame) → In f L → f .name ≡ []
+  is-main f m = ap (λ (z : Frame). z .name) (In-one (subst (λ (l : List Frame). In f l) (live-start workers vs (wholeNodes ws)) m))
+
+  -- "Main in place 0"
+  main-place : at [] ≡ 0
+  main-place = elim (ℕ-discrete (at []) 0) [
+    | yes e ↦ e
+    | no e ↦
+        let free = init-free (replicate frameWords 0) (length-replicate {A = ℕ} frameWords 0) (at []) (omega arith) (inside (start-relates workers vs ws F) (main vs) main-lives) in
+        absurd (omega (arith, alive (start-relates workers vs ws F) (main vs) main-lives, ap (λ (z : FrameWords). z .live) free))
+  ]
+
+  main-record : frameAt fs (at []) ≡ mainFrame 0
+  main-record = ap (frameAt fs) main-place ∙ init-main (replicate frameWords 0) (length-replicate {A = ℕ} frameWords 0)
+
+  no-children : Children fs (at []) []
+  no-children = children-empty fs (at []) (children-is (start-relates workers vs ws F) (tree-start workers vs (wholeNodes ws)) (main vs) main-lives ∙ ap (childCount []) (live-start workers vs (wholeNodes ws)))
+
+  pub start-links : Links (firstCore workers vs ws .frames) (start-relates workers vs ws F .at) (live (start workers vs (wholeNodes ws)))
+  start-links = record {
+    children = λ f m. ([], subst (λ (n : Name). Children fs (at n) []) (sym (is-main f m)) no-children);
+    main-link = λ f m e. ap (λ (n : Name). frameAt fs (at n) .younger) e ∙ ap (λ (z : FrameWords). z .younger) main-record;
+  }
+
+  pub viewed-start : Viewed (start-relates workers vs ws F) viewsAtStart
+  viewed-start = record {
+    ordered = post-start workers vs (wholeNodes ws);
+    views = λ v m. subst (λ (u : View). frameAt fs (at (u .name)) .view ≡ viewOf (u .folds)) (sym (In-one m)) (ap (λ (z : FrameWords). z .view) main-record);
+    siblings = λ f m. rw (is-main f m) no-children;
+    none-yet = λ f m. refl;
+    totals = λ e. absurd (cons≢nil (sym (live-start workers vs (wholeNodes ws)) ∙ e));
+  }
