@@ -1,46 +1,47 @@
--- The check's ways out, and a tape's, over plain variables.
-use mathlib.Core.Path.{_≡_, refl, sym, ap, subst, _∙_}
-use mathlib.Core.Bool.{Bool, true, false, cond, not, _&&_}
-use mathlib.Core.List.{List, []}
-use Prim.Native.Nat.{ℕ, _*_, _/_, _%_, _≤_, _<_}
+-- The check's ways out, over plain variables.
+use mathlib.Core.Path.{_≡_, refl, sym, ap, ap₂, _∙_}
+use mathlib.Core.Logic.{inl, inr}
+use mathlib.Core.Bool.{Bool, true, false, cond, not, _&&_, _||_}
+use mathlib.Core.List.{List}
+use Prim.Native.Nat.{ℕ, _*_, _≤_, _<_}
 use native.Mathlib.Omega.{arith}
-use lib.Dec.{eqb, leb, ltb}
-use lib.ListN.{length, set}
-use borrow.Author.Tests.{le-leb, lt-leb}
-use Rattle.words.specs.Tests.{both, neither, ge-of, true≢false}
+use native.Mathlib.Decide.{ℕ-discrete}
+use lib.Dec.{eqb, leb}
+use lib.ListN.{length, getD}
+use borrow.Author.Tests.{le-leb, lt-leb, eq-eqb, ne-eqb}
+use Rattle.words.specs.Basics.{all, some, howMany}
+use Rattle.words.specs.Counting.{howMany-zero, howMany-some}
+use Rattle.words.specs.Tallies.{some-at, some-of}
+use Rattle.words.specs.Tests.{both, decided, true≢false}
 use Rattle.sizes.specs.Sizes.{treeNodes}
 use Rattle.soundness.specs.declared.Numbers.{Numbers}
 use Rattle.soundness.specs.declared.Checked.{Checked}
 use Rattle.soundness.specs.declared.Checked.the-variants.{NoRoom, Sound}
-use Rattle.soundness.specs.Soundness.{numbersSound, framesSound, poolSound, liveRoots, sound, freeCount, checked, cleared}
+use Rattle.soundness.specs.Numbers.{totalCount, numbersIn, totalsIn}
+use Rattle.soundness.specs.Soundness.{lives, numbersSound, totalsRight, framesSound, poolSound, liveRoots, sound, freeCount, checked, cleared}
 use Rattle.frame_check.specs.declared.FramesChecked.{FramesChecked}
 use Rattle.pool_check.specs.declared.PoolChecked.{PoolChecked}
 use Rattle.pool_check.specs.declared.PoolChecked.the-variants.{Bad, Good}
 use Rattle.pool_check.specs.Answer.{poolChecked}
-use Rattle.frames.specs.Widths.{frameWords, dequeWords}
-use Rattle.soundness.specs.Numbers.{numbersIn, numberWords, setFreeNode, setFreePlace}
-use Rattle.semantics.specs.declared.Head.{Head}
-use Rattle.semantics.specs.declared.Refusal.the-variants.{Tape}
-use Rattle.semantics.specs.Answers.{refusalNumber}
-use Rattle.semantics.specs.Entries.{State, headOf, coreOf, TapeResult, tapeDone, tapeChecked, tapeWith, unfitTape, recordsResult, recordsFrom, runOn, recordsOf}
-use Rattle.semantics.specs.Promises.{parts, Fits, IsTape}
-use Rattle.semantics.specs.Ranges.{Kept}
-use Rattle.semantics.specs.Theory.Fitting.{state-back}
-use Rattle.semantics.specs.Theory.WorkSlice.{checked-room, no-room-keeps}
-use Rattle.semantics.specs.Theory.Kept.{kept-start}
-use Rattle.engine.specs.Promises.{core, renewed, checkNumber, freeIn}
-use Rattle.engine.proofs.Laws.{two-words}
-
--- ---- the check
+use Rattle.frames.specs.Widths.{places}
+use Rattle.semantics.specs.Promises.{parts}
+use Rattle.semantics.specs.Theory.WorkSlice.{checked-room}
+use Rattle.engine.specs.Promises.{IsCheck}
 
 -- what the check promises of the work slice, before and after, and its answer
-abbrev pub Checks : Numbers → List ℕ → List ℕ → List ℕ → List ℕ → List ℕ → Checked → Type 0
-Checks s ds fs ws ks ks′ k = (ks′ ≡ cleared (s .nodes) ks) × (k ≡ checked s ds fs ws ks)
+abbrev IsChecked : Numbers → List ℕ → List ℕ → List ℕ → List ℕ → List ℕ → List ℕ → Checked → Type 0
+IsChecked s ts ds fs ws ks ks′ k = (ks′ ≡ cleared (s .nodes) ks) × (k ≡ checked s ts ds fs ws ks)
 
-unsound-first : (a b c : Bool) → a && b ≡ false → a && (b && c) ≡ false
-unsound-first true true c e = absurd (true≢false e)
-unsound-first true false c e = refl
-unsound-first false b c e = refl
+-- of the four parts of soundness the first and the third fail, or the second
+unsound-tables : (a b c d : Bool) → a && c ≡ false → a && (b && (c && d)) ≡ false
+unsound-tables true true true d e = absurd (true≢false e)
+unsound-tables true true false d e = refl
+unsound-tables true false c d e = refl
+unsound-tables false b c d e = refl
+
+unsound-totals : (a b c : Bool) → b ≡ false → a && (b && c) ≡ false
+unsound-totals true b c e = rw e
+unsound-totals false b c e = refl
 
 -- the fourth and the last two of the tests of the numbers
 in-bounds : (a b c d e f g : Bool) → a && (b && (c && (d && (e && (f && g))))) ≡ true → (d ≡ true) × (f ≡ true) × (g ≡ true)
@@ -81,8 +82,33 @@ pub live-is : (s : Numbers) (ds fs ws : List ℕ) {live live′ : ℕ} {b : Fram
     → b ≡ cond (numbersSound s ws && framesSound (s .workers) (s .«free_place») ds fs) (FramesChecked.Good live) FramesChecked.Bad → b ≡ FramesChecked.Good live′ → live′ ≡ live
 live-is s ds fs ws {live} {live′} eb t = tables-good (numbersSound s ws && framesSound (s .workers) (s .«free_place») ds fs) live live′ (sym t ∙ eb) .1
 
-module _ (s : Numbers) (ds fs ws ks : List ℕ) where
-  pub no-room : length ks < s .nodes → Checks s ds fs ws ks ks NoRoom
+-- none, by their number
+none-of : (n : ℕ) (f : ℕ → Bool) → not (some n f) ≡ eqb (howMany n f) 0
+none-of n f = elim (decided (some n f)) [
+  | inl t ↦ (
+      let r = some-at n f t in
+      let pos : howMany n f ≡ 0 → ⊥ = λ z. true≢false (sym (r .2) ∙ howMany-zero n f z (r .0) (r .1)) in
+      ap not t ∙ sym (ne-eqb (howMany n f) 0 pos))
+  | inr t ↦ elim (ℕ-discrete (howMany n f) 0) [
+    | yes z ↦ ap not t ∙ sym (eq-eqb (howMany n f) 0 z)
+    | no z ↦ (let r = howMany-some n f (omega (arith, z)) in absurd (true≢false (sym (some-of n f (r .0) (r .1) (r .2)) ∙ t)))
+  ]
+]
+
+totals-by : (ts fs : List ℕ) (live : ℕ) → live ≡ howMany places (lives fs) → (eqb live 0 || all totalCount (λ i. eqb (getD ts i 0) 0)) ≡ totalsRight ts fs
+unfolding totalsRight
+totals-by ts fs live e = ap (λ (b : Bool). b || all totalCount (λ i. eqb (getD ts i 0) 0)) (ap (λ (k : ℕ). eqb k 0) e ∙ sym (none-of places (lives fs)))
+
+-- ---- the check of the lent parts
+
+pub state-checked : (ns ts ds fs ws ks ks′ : List ℕ) (n : Numbers) (k : Checked) → n ≡ numbersIn ns → ts ≡ totalsIn ns → IsChecked n ts ds fs ws ks ks′ k → IsCheck (parts ns ds fs) ws ks ks′ k
+state-checked ns ts ds fs ws ks ks′ n k en et e =
+    (e .0 ∙ ap (λ (m : Numbers). cleared (m .nodes) ks) en, e .1 ∙ ap₂ (λ (m : Numbers) (us : List ℕ). checked m us ds fs ws ks) en et)
+
+-- ---- the check
+
+module _ (s : Numbers) (ts ds fs ws ks : List ℕ) where
+  pub no-room : length ks < s .nodes → IsChecked s ts ds fs ws ks ks NoRoom
   unfolding checked cleared
   no-room l = (rw (lt-leb (s .nodes) (length ks) l), rw (lt-leb (s .nodes) (length ks) l))
 
@@ -90,118 +116,50 @@ module _ (s : Numbers) (ds fs ws ks : List ℕ) where
   abbrev tables : Bool
   tables = numbersSound s ws && framesSound (s .workers) (s .«free_place») ds fs
 
+  -- so many frames live
+  abbrev lively : ℕ
+  lively = howMany places (lives fs)
+
   -- what the check of the tables answered
-  module _ (room : s .nodes ≤ length ks) (live : ℕ) (b : FramesChecked) (eb : b ≡ cond tables (FramesChecked.Good live) FramesChecked.Bad) (ks′ : List ℕ) where
-    pub tables-unsound : b ≡ FramesChecked.Bad → ks′ ≡ cleared (s .nodes) ks → Checks s ds fs ws ks ks′ Checked.Unsound
+  module _ (room : s .nodes ≤ length ks) (b : FramesChecked) (eb : b ≡ cond tables (FramesChecked.Good lively) FramesChecked.Bad) (ks′ : List ℕ) where
+    -- not sound
+    unsound : sound s ts ds fs ws ≡ false → ks′ ≡ cleared (s .nodes) ks → IsChecked s ts ds fs ws ks ks′ Checked.Unsound
+    unsound u ek = (ek, sym (checked-room s ts ds fs ws ks (le-leb (s .nodes) (length ks) room) ∙ ap (λ t. cond t (Sound (freeCount s ws)) Checked.Unsound) u))
+
+    pub tables-unsound : b ≡ FramesChecked.Bad → ks′ ≡ cleared (s .nodes) ks → IsChecked s ts ds fs ws ks ks′ Checked.Unsound
     unfolding sound
-    tables-unsound f ek =
-        let u : sound s ds fs ws ≡ false = unsound-first (numbersSound s ws) (framesSound (s .workers) (s .«free_place») ds fs) _ (tables-bad tables live (sym f ∙ eb)) in
-        (ek, sym (checked-room s ds fs ws ks (le-leb (s .nodes) (length ks) room) ∙ ap (λ t. cond t (Sound (freeCount s ws)) Checked.Unsound) u))
+    tables-unsound f ek = unsound (unsound-tables (numbersSound s ws) (totalsRight ts fs) (framesSound (s .workers) (s .«free_place») ds fs) _ (tables-bad tables lively (sym f ∙ eb))) ek
 
-    module _ (live′ : ℕ) (t : b ≡ FramesChecked.Good live′) (a : PoolChecked) (ea : (ks′ ≡ cleared (s .nodes) ks) × (a ≡ poolChecked (s .splitters) (s .nodes) (s .«free_node») fs ws ks)) where
-      abbrev trees : Bool
-      trees = poolSound (s .splitters) (s .nodes) ws (s .«free_node») (liveRoots fs)
+    module _ (live : ℕ) (t : b ≡ FramesChecked.Good live) (z : Bool) (ez : z ≡ (eqb live 0 || all totalCount (λ i. eqb (getD ts i 0) 0))) where
+      totals-are : z ≡ totalsRight ts fs
+      totals-are = ez ∙ totals-by ts fs live (tables-good tables lively live (sym t ∙ eb) .1)
 
-      sound-tables : (numbersSound s ws ≡ true) × (framesSound (s .workers) (s .«free_place») ds fs ≡ true)
-      sound-tables = both (numbersSound s ws) (framesSound (s .workers) (s .«free_place») ds fs) (tables-good tables live live′ (sym t ∙ eb) .0)
-
-      sound-is : sound s ds fs ws ≡ trees
+      pub totals-unsound : z ≡ false → ks′ ≡ cleared (s .nodes) ks → IsChecked s ts ds fs ws ks ks′ Checked.Unsound
       unfolding sound
-      sound-is = rw (sound-tables .0, sound-tables .1)
+      totals-unsound f ek = unsound (unsound-totals (numbersSound s ws) (totalsRight ts fs) _ (sym totals-are ∙ f)) ek
 
-      answer-is : a ≡ cond trees (Good (freeCount s ws)) Bad
-      unfolding poolChecked numbersSound
-      answer-is =
-          let i = in-bounds (leb 1 (s .workers)) (leb (s .workers) 8) (leb 1 (s .splitters)) (leb (s .splitters) 256) (leb (treeNodes (s .splitters)) (s .nodes)) (leb (s .nodes) 16384) (leb (4 * s .nodes) (length ws)) (sound-tables .0) in
-          ea .1 ∙ rw (i .0, i .1, i .2, le-leb (s .nodes) (length ks) room)
+      module _ (right : z ≡ true) (a : PoolChecked) (ea : (ks′ ≡ cleared (s .nodes) ks) × (a ≡ poolChecked (s .splitters) (s .nodes) (s .«free_node») fs ws ks)) where
+        abbrev trees : Bool
+        trees = poolSound (s .splitters) (s .nodes) ws (s .«free_node») (liveRoots fs)
 
-      check-is : checked s ds fs ws ks ≡ cond trees (Sound (freeCount s ws)) Checked.Unsound
-      check-is = checked-room s ds fs ws ks (le-leb (s .nodes) (length ks) room) ∙ ap (λ p. cond p (Sound (freeCount s ws)) Checked.Unsound) sound-is
+        sound-tables : (numbersSound s ws ≡ true) × (framesSound (s .workers) (s .«free_place») ds fs ≡ true)
+        sound-tables = both (numbersSound s ws) (framesSound (s .workers) (s .«free_place») ds fs) (tables-good tables lively live (sym t ∙ eb) .0)
 
-      pub pool-unsound : a ≡ Bad → Checks s ds fs ws ks ks′ Checked.Unsound
-      pool-unsound e = (ea .0, bad trees (freeCount s ws) (sym e ∙ answer-is) ∙ sym check-is)
+        sound-is : sound s ts ds fs ws ≡ trees
+        unfolding sound
+        sound-is = rw (sound-tables .0, sym totals-are ∙ right, sound-tables .1)
 
-      pub all-sound : (free : ℕ) → a ≡ Good free → Checks s ds fs ws ks ks′ (Sound free)
-      all-sound free e = (ea .0, good trees (freeCount s ws) free (sym e ∙ answer-is) ∙ sym check-is)
+        answer-is : a ≡ cond trees (Good (freeCount s ws)) Bad
+        unfolding poolChecked numbersSound
+        answer-is =
+            let i = in-bounds (leb 1 (s .workers)) (leb (s .workers) 8) (leb 1 (s .splitters)) (leb (s .splitters) 256) (leb (treeNodes (s .splitters)) (s .nodes)) (leb (s .nodes) 16384) (leb (4 * s .nodes) (length ws)) (sound-tables .0) in
+            ea .1 ∙ rw (i .0, i .1, i .2, le-leb (s .nodes) (length ks) room)
 
--- ---- a tape over parts that have their lengths
+        check-is : checked s ts ds fs ws ks ≡ cond trees (Sound (freeCount s ws)) Checked.Unsound
+        check-is = checked-room s ts ds fs ws ks (le-leb (s .nodes) (length ks) room) ∙ ap (λ p. cond p (Sound (freeCount s ws)) Checked.Unsound) sound-is
 
--- a call that the check does not refuse
-not-refused : (k : Checked) → checkNumber k ≡ 0 → k ≡ Sound (freeIn k)
-not-refused NoRoom e = absurd (omega arith)
-not-refused Checked.Unsound e = absurd (omega arith)
-not-refused (Sound free) e = refl
+        pub pool-unsound : a ≡ Bad → IsChecked s ts ds fs ws ks ks′ Checked.Unsound
+        pool-unsound e = (ea .0, bad trees (freeCount s ws) (sym e ∙ answer-is) ∙ sym check-is)
 
--- the check found the parts sound
-pub found-sound : (s : Numbers) (ds fs ws ks ks′ : List ℕ) (k : Checked) (r free : ℕ) (h : Head) → length ds ≡ dequeWords → length fs ≡ frameWords
-    → Checks s ds fs ws ks ks′ k → r ≡ checkNumber k → r ≡ 0 → free ≡ freeIn k → h ≡ headOf s free → Kept (core h ds fs ws)
-found-sound s ds fs ws ks ks′ k r free h ed ef ek er z e eh =
-    let found : k ≡ Sound free = not-refused k (sym er ∙ z) ∙ ap Sound (sym e) in
-    subst (λ (g : Head). Kept (core g ds fs ws)) (sym eh) (kept-start s ds fs ws ks free ed ef (sym found ∙ ek .1))
-
--- a tape that fits has room for its answers
-pub fit-answers : (bytes rs : List ℕ) (b : Bool) → b ≡ unfitTape bytes rs → b ≡ false → 2 * (length bytes / 8) ≤ length rs
-fit-answers bytes rs b e f = ge-of (neither (not (eqb (length bytes % 8) 0)) (ltb (length rs) (2 * (length bytes / 8))) (sym e ∙ f) .1)
-
-abbrev result : State → List ℕ → List ℕ → List ℕ → ℕ → TapeResult
-result s ws ks rs r = record { state = s; pool = ws; work = ks; answers = rs; result = r }
-
-by-result : (o : TapeResult) (ns ds fs ws ks rs : List ℕ) (r : ℕ) → result (parts ns ds fs) ws ks rs r ≡ o → IsTape o ns ds fs ws ks rs r
-by-result o ns ds fs ws ks rs r e =
-    record { result = ap (λ q. q .result) e; state = ap (λ q. q .state) e; pool = ap (λ q. q .pool) e; work = ap (λ q. q .work) e; answers = ap (λ q. q .answers) e }
-
-no-records : (bytes : List ℕ) → length bytes ≡ 0 → recordsOf bytes ≡ []
-unfolding recordsFrom
-no-records bytes z = rw z
-
-module _ (ns ds fs ws ks bytes rs : List ℕ) (b : Bool) (eb : b ≡ unfitTape bytes rs) where
-  abbrev s : State
-  s = parts ns ds fs
-
-  pub tape-unfit : (r : ℕ) → b ≡ true → r ≡ refusalNumber Tape → IsTape (tapeWith (parts ns ds fs) ws ks bytes rs) ns ds fs ws ks rs r
-  unfolding tapeWith
-  tape-unfit r t er = rw (sym eb ∙ t, er) (by-result _ ns ds fs ws ks rs (refusalNumber Tape) refl)
-
-  module _ (fit : b ≡ false) (n : Numbers) (en : n ≡ numbersIn ns) (k : Checked) (ks′ : List ℕ) (ek : Checks n ds fs ws ks ks′ k) where
-    checks : Checks (numbersIn ns) ds fs ws ks ks′ k
-    checks = rw en at ek
-
-    -- the tape is what the check's answer says
-    by-check : (o : TapeResult) → o ≡ tapeChecked k s ws ks bytes rs → o ≡ tapeWith s ws ks bytes rs
-    unfolding tapeWith
-    by-check o e = rw (sym eb ∙ fit) (e ∙ ap (λ (j : Checked). tapeChecked j s ws ks bytes rs) (checks .1))
-
-    refused-by : (j : Checked) → k ≡ j → (r : ℕ) → r ≡ checkNumber k → 0 < r → result s ws ks′ rs r ≡ tapeChecked k s ws ks bytes rs
-    refused-by NoRoom e r er l =
-        let kept : ks′ ≡ ks = checks .0 ∙ no-room-keeps (numbersIn ns) ds fs ws ks (sym (checks .1) ∙ e) in
-        rw (er, e, kept)
-    refused-by Checked.Unsound e r er l = rw (er, e, checks .0)
-    refused-by (Sound free) e r er l = absurd (omega (arith, ap checkNumber e))
-
-    pub tape-refused : (r : ℕ) → r ≡ checkNumber k → 0 < r → IsTape (tapeWith (parts ns ds fs) ws ks bytes rs) ns ds fs ws ks′ rs r
-    tape-refused r er l = by-result _ ns ds fs ws ks′ rs r (by-check (result s ws ks′ rs r) (refused-by k refl r er l))
-
-    -- a tape of no records: the check is all
-    empty-by : length bytes ≡ 0 → Fits s → (j : Checked) → k ≡ j → (r : ℕ) → r ≡ checkNumber k → result s ws ks′ rs r ≡ tapeChecked k s ws ks bytes rs
-    unfolding runOn
-    empty-by z F NoRoom e r er = refused-by NoRoom e r er (omega (arith, er, ap checkNumber e))
-    empty-by z F Checked.Unsound e r er = refused-by Checked.Unsound e r er (omega (arith, er, ap checkNumber e))
-    empty-by z F (Sound free) e r er = rw (er, e, checks .0, no-records bytes z) (ap (λ (q : State). result q ws (cleared (numbersIn ns .nodes) ks) rs 0) (sym (state-back s ws free F)))
-
-    pub tape-empty : length bytes ≡ 0 → Fits (parts ns ds fs) → (r : ℕ) → r ≡ checkNumber k → IsTape (tapeWith (parts ns ds fs) ws ks bytes rs) ns ds fs ws ks′ rs r
-    tape-empty z F r er = by-result _ ns ds fs ws ks′ rs r (by-check (result s ws ks′ rs r) (empty-by z F k refl r er))
-
-    pub tape-done : (r free : ℕ) (h h′ : Head) (ns′ ds′ fs′ ws′ rs′ : List ℕ) → r ≡ checkNumber k → r ≡ 0 → free ≡ freeIn k → h ≡ headOf n free
-        → (recordsResult (core h′ ds′ fs′ ws′) rs′ ≡ runOn (recordsResult (core h ds fs ws) rs) 0 (recordsOf bytes))
-        × (h′ ≡ renewed h (h′ .numbers .«free_node») (h′ .numbers .«free_place») (h′ .«free_count»))
-        → length ns ≡ 5 → ns′ ≡ set (set ns 3 (h′ .numbers .«free_node»)) 4 (h′ .numbers .«free_place») → IsTape (tapeWith (parts ns ds fs) ws ks bytes rs) ns′ ds′ fs′ ws′ ks′ rs′ 0
-    tape-done r free h h′ ns′ ds′ fs′ ws′ rs′ ek′ z ef eh er five en′ =
-        let e : k ≡ Sound free = not-refused k (sym ek′ ∙ z) ∙ ap Sound (sym ef) in
-        let o : recordsResult (core h′ ds′ fs′ ws′) rs′ ≡ runOn (recordsResult (coreOf s ws free) rs) 0 (recordsOf bytes) =
-        er .0 ∙ ap (λ (g : Head). runOn (recordsResult (core g ds fs ws) rs) 0 (recordsOf bytes)) (eh ∙ ap (λ (m : Numbers). headOf m free) en) in
-        let d : tapeDone (recordsResult (core h′ ds′ fs′ ws′) rs′) (cleared (numbersIn ns .nodes) ks) ≡ tapeChecked k s ws ks bytes rs = rw e (ap (λ q. tapeDone q (cleared (numbersIn ns .nodes) ks)) o) in
-        let first : h .numbers ≡ numbersIn ns = ap (λ (g : Head). g .numbers) eh ∙ en in
-        let last : h′ .numbers ≡ setFreePlace (setFreeNode (numbersIn ns) (h′ .numbers .«free_node»)) (h′ .numbers .«free_place») =
-        ap (λ (g : Head). g .numbers) (er .1) ∙ ap (λ (m : Numbers). setFreePlace (setFreeNode m (h′ .numbers .«free_node»)) (h′ .numbers .«free_place»)) first in
-        let words : ns′ ≡ numberWords (h′ .numbers) = en′ ∙ two-words ns (h′ .numbers .«free_node») (h′ .numbers .«free_place») five ∙ ap numberWords (sym last) in
-        by-result _ ns′ ds′ fs′ ws′ ks′ rs′ 0 (by-check _ (rw (words, checks .0) d))
+        pub all-sound : (free : ℕ) → a ≡ Good free → IsChecked s ts ds fs ws ks ks′ (Sound free)
+        all-sound free e = (ea .0, good trees (freeCount s ws) free (sym e ∙ answer-is) ∙ sym check-is)

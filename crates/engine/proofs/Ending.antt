@@ -1,13 +1,15 @@
 -- A return's ways out, and the turns of its ends upward, over plain variables.
-use mathlib.Core.Path.{_≡_, sym, ap, ap₂, _∙_, subst}
+use mathlib.Core.Path.{_≡_, refl, sym, ap, ap₂, _∙_, subst}
 use mathlib.Core.Logic.{_≢_, inl, inr}
-use mathlib.Core.Bool.{true, false}
+use mathlib.Core.Bool.{true, false, cond}
 use mathlib.Core.List.{List}
 use Prim.Native.Nat.{ℕ, suc, _-_, _<_}
 use native.Mathlib.Omega.{arith}
+use lib.Dec.{eqb}
 use lib.ListN.{length}
 use borrow.Author.Tests.{eq-eqb, ne-eqb}
 use Rattle.words.specs.Basics.{none}
+use Rattle.reducers.specs.Reducers.{viewWords}
 use Rattle.pool.specs.Pool.{release}
 use Rattle.pool.specs.Links.{Link, LinksIn}
 use Rattle.frames.specs.Widths.{maxWorkers, places, frameWords, dequeWords}
@@ -17,6 +19,7 @@ use Rattle.frames.specs.declared.Returned.the-variants.{Continued, Finished, Wa
 use Rattle.frames.specs.Frames.{frameAt}
 use Rattle.frames.specs.Deques.{size, bottom, pop}
 use Rattle.frames.specs.Steps.{Table, endFrame, endsToo}
+use Rattle.frames.specs.Theory.Ends.{length-end}
 use Rattle.frames.specs.Ranges.{ParentOf, EndsIn}
 use Rattle.frames.specs.Promises.{Waits, GoesOn}
 use Rattle.model.specs.declared.Step.the-variants.{Return}
@@ -26,40 +29,38 @@ use Rattle.semantics.specs.declared.Answer.{Answer}
 use Rattle.semantics.specs.declared.Answer.the-variants.{Accepted}
 use Rattle.semantics.specs.Core.{Core, stepResult, withTable, returned, endAt, upward, endBottom, returnOn}
 use Rattle.semantics.specs.Ranges.{EndsUpward}
-use Rattle.semantics.specs.Theory.Lengths.{length-endFrame}
 use Rattle.engine.specs.declared.Out.{Out}
 use Rattle.engine.specs.Promises.{core, renewed, headAfter, Leaves, LeavesEnded, kindOn, EndsFrom, endsFrom}
 
 -- ---- one end: the core before it has the words fs, ws and the numbers node, place, count
 
-module _ (h : Head) (ds fs ws : List ℕ) (w n node place count p : ℕ) where
+module _ (h : Head) (ts ds fs ws : List ℕ) (w n node place count p : ℕ) where
   abbrev before : Core
-  before = core (renewed h node place count) ds fs ws
+  before = core (renewed h node place count) ts ds fs ws
 
   module _ (r : EndsFrom before w n p) where
     pub frame-asks : (length fs ≡ frameWords) × (p < places)
     frame-asks = (r .can-end .frame .long-frames, r .can-end .frame .within)
 
-  module _ (r : EndsFrom before w n p) (f : Frame) (ef : f ≡ frameAt fs p) where
-    pub release-asks : LinksIn (h .numbers .nodes) ws × (0 < h .numbers .nodes) × Link (h .numbers .nodes) node × Link (h .numbers .nodes) (f .root)
-    release-asks = (r .can-end .links, r .nodes-positive, r .can-end .free-node, inl (subst (λ (g : Frame). g .root < h .numbers .nodes) (sym ef) (r .can-end .root)))
+    pub release-asks : (root : ℕ) → root ≡ frameAt fs p .root → LinksIn (h .numbers .nodes) ws × (0 < h .numbers .nodes) × Link (h .numbers .nodes) node × Link (h .numbers .nodes) root
+    release-asks root e = (r .can-end .links, r .nodes-positive, r .can-end .free-node, inl (subst (λ (x : ℕ). x < h .numbers .nodes) (sym e) (r .can-end .root)))
 
-    pub end-asks : EndsIn fs p (f .parent)
-    end-asks = subst (λ (g : Frame). EndsIn fs p (g .parent)) (sym ef) (r .can-end .frame)
+    pub end-asks : (q : ℕ) → q ≡ frameAt fs p .parent → EndsIn fs p q
+    end-asks q e = subst (λ (x : ℕ). EndsIn fs p x) (sym e) (r .can-end .frame)
 
-    -- afterwards
-    module _ (fs₁ ws₁ : List ℕ) (node₁ count₁ : ℕ)
-        (er : (ws₁ ≡ release (h .height) ws node count (f .root) .0) × (node₁ ≡ release (h .height) ws node count (f .root) .1) × (count₁ ≡ release (h .height) ws node count (f .root) .2))
-        (e₁ : fs₁ ≡ endFrame fs place p) where
+    -- afterwards; root and q are the root and the parent of its record
+    module _ (root q : ℕ) (eo : root ≡ frameAt fs p .root) (eq : q ≡ frameAt fs p .parent) (ts₁ fs₁ ws₁ : List ℕ) (node₁ count₁ : ℕ)
+        (er : (ws₁ ≡ release (h .height) ws node count root .0) × (node₁ ≡ release (h .height) ws node count root .1) × (count₁ ≡ release (h .height) ws node count root .2))
+        (e₁ : fs₁ ≡ endFrame fs place p) (et : ts₁ ≡ cond (eqb q none) (viewWords (frameAt fs p .view)) ts) where
       abbrev after : Core
-      after = core (renewed h node₁ p count₁) ds fs₁ ws₁
+      after = core (renewed h node₁ p count₁) ts₁ ds fs₁ ws₁
 
       after-is : endAt before p ≡ after
       unfolding endAt
-      after-is = rw (er .0, er .1, er .2, e₁, ef)
+      after-is = rw (er .0, er .1, er .2, e₁, et, eo, eq)
 
       -- the other frames of the deque go on
-      pub continues : (o : Out) → n ≢ 1 → LeavesEnded o node₁ p count₁ Continued → Leaves h o ds fs₁ ws₁ (endsFrom before w p)
+      pub continues : (o : Out) → n ≢ 1 → LeavesEnded o node₁ p count₁ Continued → Leaves h o ts₁ ds fs₁ ws₁ (endsFrom before w p)
       continues o z u =
           rw (u .0, u .1, u .2, u .3, ne-eqb (size ds w) 0 (λ y. z (r .has ∙ ap suc y)), after-is)
 
@@ -67,82 +68,94 @@ module _ (h : Head) (ds fs ws : List ℕ) (w n node place count p : ℕ) where
         alone : size ds w ≡ 0
         alone = omega (arith, z, r .has)
 
-        ends-is : endsFrom before w p ≡ upward (f .depth) after w (f .parent)
-        ends-is = rw (eq-eqb (size ds w) 0 alone, after-is, ef)
+        ends-is : endsFrom before w p ≡ upward (frameAt fs p .depth) after w q
+        ends-is = rw (eq-eqb (size ds w) 0 alone, after-is, eq)
 
-        -- Main has ended
-        pub finishes : (o : Out) → f .parent ≡ none → LeavesEnded o node₁ p count₁ Finished → Leaves h o ds fs₁ ws₁ (endsFrom before w p)
-        unfolding upward
-        finishes o m u =
-            let flat : f .depth ≡ 0 = elim (subst (λ (g : Frame). ParentOf p g) (sym ef) (r .can-end .frame .parent)) [ inl y ↦ absurd (omega (arith, m, y .1)) | inr y ↦ y .0 ] in
-            rw (ends-is, flat, u .0, u .1, u .2, u .3)
+        module _ (m : q ≢ none) where
+          deep : 0 < frameAt fs p .depth
+          deep = elim (r .can-end .frame .parent) [ inl y ↦ y .0 | inr y ↦ absurd (m (eq ∙ y .1)) ]
 
-        module _ (m : f .parent ≢ none) where
-          deep : 0 < f .depth
-          deep = elim (subst (λ (g : Frame). ParentOf p g) (sym ef) (r .can-end .frame .parent)) [ inl y ↦ y .0 | inr y ↦ absurd (m (y .1)) ]
-
-          depth-is : f .depth ≡ suc (f .depth - 1)
+          depth-is : frameAt fs p .depth ≡ suc (frameAt fs p .depth - 1)
           depth-is = omega (arith, deep)
 
           -- what is known of the parent
-          rises : EndsUpward (suc (f .depth - 1)) after (f .parent)
+          rises : EndsUpward (suc (frameAt fs p .depth - 1)) after q
           rises =
-              subst (λ (d : ℕ). EndsUpward d after (f .parent)) depth-is
-              (subst (λ (c : Core). EndsUpward (f .depth) c (f .parent)) after-is (subst (λ (g : Frame). EndsUpward (g .depth) (endAt before p) (g .parent)) (sym ef) (r .upward)))
+              subst (λ (d : ℕ). EndsUpward d after q) depth-is
+              (subst (λ (c : Core). EndsUpward (frameAt fs p .depth) c q) after-is (subst (λ (x : ℕ). EndsUpward (frameAt fs p .depth) (endAt before p) x) (sym eq) (r .upward)))
 
-          pub parent-asks : (length fs₁ ≡ frameWords) × (f .parent < places)
+          pub parent-asks : (length fs₁ ≡ frameWords) × (q < places)
           parent-asks = (long, rises .0)
             where
               long : length fs₁ ≡ frameWords
-              long = ap length e₁ ∙ length-endFrame fs place p ∙ r .can-end .frame .long-frames
+              long = ap length e₁ ∙ length-end fs place p ∙ r .can-end .frame .long-frames
 
-          pub go-asks : (length ds ≡ dequeWords) × (length fs₁ ≡ frameWords) × (w < maxWorkers) × (f .parent < places) × (size ds w ≡ 0)
+          pub go-asks : (length ds ≡ dequeWords) × (length fs₁ ≡ frameWords) × (w < maxWorkers) × (q < places) × (size ds w ≡ 0)
           go-asks = (r .long-deques, parent-asks .0, r .worker, parent-asks .1, alone)
 
           -- the parent ends too
-          module _ (t : endsToo (frameAt fs₁ (f .parent)) ≡ true) where
-            pub next-from : EndsFrom after w n (f .parent)
+          module _ (t : endsToo (frameAt fs₁ q) ≡ true) where
+            pub next-from : EndsFrom after w 1 q
             next-from =
                 let x = rises .1 t in
                 record {
                   worker = r .worker;
                   long-deques = r .long-deques;
-                  has = r .has;
+                  has = sym (ap suc alone);
+                  alone = λ _. refl;
                   nodes-positive = r .nodes-positive;
                   can-end = x .0;
-                  upward = subst (λ (d : ℕ). EndsUpward d (endAt after (f .parent)) (frameAt fs₁ (f .parent) .parent)) (sym (x .1)) (x .2);
+                  upward = subst (λ (d : ℕ). EndsUpward d (endAt after q) (frameAt fs₁ q .parent)) (sym (x .1)) (x .2);
                 }
 
-            pub next-same : endsFrom after w (f .parent) ≡ endsFrom before w p
+            pub next-same : endsFrom after w q ≡ endsFrom before w p
             unfolding upward
             next-same = rw (ends-is, depth-is, t, eq-eqb (size ds w) 0 alone, rises .1 t .1)
 
             -- and is nearer to Main
-            pub nearer : frameAt fs₁ (f .parent) .depth < frameAt fs p .depth
-            nearer = omega (arith, rises .1 t .1, deep, ap (λ (g : Frame). g .depth) ef)
+            pub nearer : frameAt fs₁ q .depth < frameAt fs p .depth
+            nearer = omega (arith, rises .1 t .1, deep)
 
           -- it resumes, or the worker is idle
-          pub stops : (o : Out) (ds₂ fs₂ : List ℕ) (s : Returned) → endsToo (frameAt fs₁ (f .parent)) ≡ false → GoesOn ds fs₁ w (f .parent) ds₂ fs₂ s → LeavesEnded o node₁ p count₁ s
-              → Leaves h o ds₂ fs₂ ws₁ (endsFrom before w p)
+          pub stops : (o : Out) (ds₂ fs₂ : List ℕ) (s : Returned) → endsToo (frameAt fs₁ q) ≡ false → GoesOn ds fs₁ w q ds₂ fs₂ s → LeavesEnded o node₁ p count₁ s
+              → Leaves h o ts₁ ds₂ fs₂ ws₁ (endsFrom before w p)
           unfolding upward
           stops o ds₂ fs₂ s t g u =
               rw (ends-is, depth-is, t, u .0, u .1, u .2, u .3, ← g .after p, ← g .outcome p)
 
+      -- Main has ended
+      pub finishes : (o : Out) → q ≡ none → LeavesEnded o node₁ p count₁ Finished → Leaves h o ts₁ ds fs₁ ws₁ (endsFrom before w p)
+      unfolding upward
+      finishes o m u =
+          let flat : frameAt fs p .depth ≡ 0 = elim (r .can-end .frame .parent) [ inl y ↦ absurd (omega (arith, m, eq, y .1)) | inr y ↦ y .0 ] in
+          rw (ends-is (r .alone (sym eq ∙ m)), flat, u .0, u .1, u .2, u .3)
+
+-- the totals after the end of Main, and after another one
+pub main-totals : (ts₁ ts vs : List ℕ) (q : ℕ) → q ≡ none → ts₁ ≡ vs → ts₁ ≡ cond (eqb q none) vs ts
+main-totals ts₁ ts vs q m e = rw (eq-eqb q none m) e
+
+pub same-totals : (ts vs : List ℕ) (q : ℕ) → q ≢ none → ts ≡ cond (eqb q none) vs ts
+same-totals ts vs q m = rw (ne-eqb q none m)
+
+-- they take the view of the record that was read
+pub read-totals : (ts₁ ts : List ℕ) (f g : Frame) → f ≡ g → ts₁ ≡ cond (eqb (f .parent) none) (viewWords (f .view)) ts → ts₁ ≡ cond (eqb (f .parent) none) (viewWords (g .view)) ts
+read-totals ts₁ ts f g e u = u ∙ ap (λ (x : Frame). cond (eqb (f .parent) none) (viewWords (x .view)) ts) e
+
 -- ---- the return
 
-module _ (h : Head) (ds fs ws : List ℕ) (w p : ℕ) (f : Frame) (ep : p ≡ bottom ds w) (ef : f ≡ frameAt fs p) where
+module _ (h : Head) (ts ds fs ws : List ℕ) (w p : ℕ) (f : Frame) (ep : p ≡ bottom ds w) (ef : f ≡ frameAt fs p) where
   outstanding-is : frameAt fs (bottom ds w) .outstanding ≡ f .outstanding
   outstanding-is = sym (ap (λ (g : Frame). g .outstanding) (ef ∙ ap (frameAt fs) ep))
 
   pub return-waits : (o : Out) (ds′ fs′ : List ℕ) → f .outstanding ≢ 0 → Waits ds fs w ds′ fs′ → (headAfter h o ≡ h) × (o .answer ≡ Accepted (Ended Waiting))
-      → Leaves h o ds′ fs′ ws (kindOn (core h ds fs ws) (Return w))
+      → Leaves h o ts ds′ fs′ ws (kindOn (core h ts ds fs ws) (Return w))
   unfolding returnOn
   return-waits o ds′ fs′ z e u =
-      let acts : stepResult h ds′ fs′ ws (Accepted (Ended Waiting)) ≡ kindOn (core h ds fs ws) (Return w) =
-      rw (ne-eqb (frameAt fs (bottom ds w) .outstanding) 0 (λ y. z (sym outstanding-is ∙ y))) (ap (λ (t : Table). returned (withTable (core h ds fs ws) t) Waiting) (e (h .numbers .«free_place»))) in
-      ap₂ (λ (g : Head) (a : Answer). stepResult g ds′ fs′ ws a) (u .0) (u .1) ∙ acts
+      let acts : stepResult h ts ds′ fs′ ws (Accepted (Ended Waiting)) ≡ kindOn (core h ts ds fs ws) (Return w) =
+      rw (ne-eqb (frameAt fs (bottom ds w) .outstanding) 0 (λ y. z (sym outstanding-is ∙ y))) (ap (λ (t : Table). returned (withTable (core h ts ds fs ws) t) Waiting) (e (h .numbers .«free_place»))) in
+      ap₂ (λ (g : Head) (a : Answer). stepResult g ts ds′ fs′ ws a) (u .0) (u .1) ∙ acts
 
-  pub return-ends : (o : Out) (ds₁ ds′ fs′ ws′ : List ℕ) → f .outstanding ≡ 0 → ds₁ ≡ pop ds w → Leaves h o ds′ fs′ ws′ (endsFrom (core h ds₁ fs ws) w p)
-      → Leaves h o ds′ fs′ ws′ (kindOn (core h ds fs ws) (Return w))
+  pub return-ends : (o : Out) (ds₁ ts′ ds′ fs′ ws′ : List ℕ) → f .outstanding ≡ 0 → ds₁ ≡ pop ds w → Leaves h o ts′ ds′ fs′ ws′ (endsFrom (core h ts ds₁ fs ws) w p)
+      → Leaves h o ts′ ds′ fs′ ws′ (kindOn (core h ts ds fs ws) (Return w))
   unfolding returnOn endBottom endAt
-  return-ends o ds₁ ds′ fs′ ws′ z e u = u ∙ rw (eq-eqb (frameAt fs (bottom ds w) .outstanding) 0 (outstanding-is ∙ z), e, ep)
+  return-ends o ds₁ ts′ ds′ fs′ ws′ z e u = u ∙ rw (eq-eqb (frameAt fs (bottom ds w) .outstanding) 0 (outstanding-is ∙ z), e, ep)

@@ -8,6 +8,7 @@ use lib.ListN.{length}
 use borrow.Author.Tests.{eqb-true}
 use Rattle.words.specs.Tests.{both}
 use Rattle.frames.specs.Widths.{frameWords, dequeWords}
+use Rattle.soundness.specs.Numbers.{numberCount}
 use Rattle.semantics.specs.declared.Refusal.the-variants.{Lengths}
 use Rattle.semantics.specs.Answers.{refusalNumber}
 use Rattle.semantics.specs.Entries.{fits, startWith, startOn, tapeWith, tapeOn}
@@ -17,9 +18,9 @@ use Rattle.semantics.specs.Promises.{parts, Fits, IsStart, IsTape, IsSave, IsLo
 module _ (ns ds fs : List ℕ) (b : Bool) (eb : b ≡ fits (parts ns ds fs)) where
   pub fit : b ≡ true → Fits (parts ns ds fs)
   fit t =
-      let q = both (eqb (length ns) 5) _ (sym eb ∙ t) in
+      let q = both (eqb (length ns) numberCount) _ (sym eb ∙ t) in
       let r = both (eqb (length ds) dequeWords) (eqb (length fs) frameWords) (q .1) in
-      record { numbers = eqb-true (length ns) 5 (q .0); deques = eqb-true (length ds) dequeWords (r .0); frames = eqb-true (length fs) frameWords (r .1) }
+      record { numbers = eqb-true (length ns) numberCount (q .0); deques = eqb-true (length ds) dequeWords (r .0); frames = eqb-true (length fs) frameWords (r .1) }
 
   -- ---- another length: nothing changes
 

@@ -2,19 +2,17 @@
 use mathlib.Core.Path.{_≡_, refl, sym, ap, _∙_}
 use mathlib.Core.Logic.{inl, inr}
 use mathlib.Core.Bool.{Bool, true, false, not, _||_, _&&_}
-use mathlib.Core.List.{List, [], _∷_}
+use mathlib.Core.List.{List, []}
 use Prim.Native.Nat.{ℕ, zero, suc, _-_, _≤_, _<_}
 use native.Mathlib.Omega.{arith}
 use native.Mathlib.Decide.{ℕ-discrete}
 use lib.Dec.{eqb, ltb}
-use lib.ListN.{length, set}
 use borrow.Author.Tests.{eq-eqb, ne-eqb, lt-ltb, le-ltb}
 use Rattle.words.specs.Basics.{all}
 use Rattle.words.specs.Tests.{decided, true≢false, neither, not-false, lt-of, ge-of}
 use Rattle.words.specs.Counting.{all-at}
 use Rattle.frames.specs.Widths.{maxWorkers}
 use Rattle.frames.specs.Deques.{size}
-use Rattle.soundness.specs.Numbers.{numbersIn, numberWords, setFreeNode, setFreePlace}
 use Rattle.semantics.specs.declared.Head.{Head}
 use Rattle.semantics.specs.declared.Refusal.the-variants.{NoWorker, MainReturned, WorkerIdle, ThiefBusy, NoVictim}
 use Rattle.semantics.specs.Core.{actingTests, stealTests}
@@ -64,56 +62,36 @@ module _ (h : Head) (ds : List ℕ) where
   busy w n l e z = all-not (h .numbers .workers) (λ v. eqb (size ds v) 0) w l (ne-eqb (size ds w) 0 (λ q. z (e ∙ q)))
 
   module _ (w : ℕ) where
-    pub acting-no-worker : h .numbers .workers ≤ w → verdict (actingTests (core h ds [] []) w) ≡ Refuse NoWorker
+    pub acting-no-worker : h .numbers .workers ≤ w → verdict (actingTests (core h [] ds [] []) w) ≡ Refuse NoWorker
     acting-no-worker l = rw (le-ltb w (h .numbers .workers) l)
 
-    pub acting-passes : (n : ℕ) → w < h .numbers .workers → n ≡ size ds w → (n ≡ 0 → ⊥) → verdict (actingTests (core h ds [] []) w) ≡ Pass
+    pub acting-passes : (n : ℕ) → w < h .numbers .workers → n ≡ size ds w → (n ≡ 0 → ⊥) → verdict (actingTests (core h [] ds [] []) w) ≡ Pass
     acting-passes n l e z = rw (lt-ltb w (h .numbers .workers) l, busy w n l e z, ne-eqb (size ds w) 0 (λ q. z (e ∙ q)))
 
-    pub acting-main-returned : w < h .numbers .workers → idles ≡ true → verdict (actingTests (core h ds [] []) w) ≡ Refuse MainReturned
+    pub acting-main-returned : w < h .numbers .workers → idles ≡ true → verdict (actingTests (core h [] ds [] []) w) ≡ Refuse MainReturned
     acting-main-returned l a = rw (lt-ltb w (h .numbers .workers) l, a)
 
-    pub acting-idle : (n : ℕ) → w < h .numbers .workers → n ≡ size ds w → n ≡ 0 → idles ≡ false → verdict (actingTests (core h ds [] []) w) ≡ Refuse WorkerIdle
+    pub acting-idle : (n : ℕ) → w < h .numbers .workers → n ≡ size ds w → n ≡ 0 → idles ≡ false → verdict (actingTests (core h [] ds [] []) w) ≡ Refuse WorkerIdle
     acting-idle n l e z a = rw (lt-ltb w (h .numbers .workers) l, a, eq-eqb (size ds w) 0 (sym e ∙ z))
 
     module _ (v : ℕ) where
-      pub steal-no-worker : h .numbers .workers ≤ w → Refuse NoWorker ≡ verdict (stealTests (core h ds [] []) w v)
+      pub steal-no-worker : h .numbers .workers ≤ w → Refuse NoWorker ≡ verdict (stealTests (core h [] ds [] []) w v)
       steal-no-worker l = rw (le-ltb w (h .numbers .workers) l)
 
       module _ (l : w < h .numbers .workers) (n : ℕ) (e : n ≡ size ds w) where
-        pub steal-busy : (n ≡ 0 → ⊥) → Refuse ThiefBusy ≡ verdict (stealTests (core h ds [] []) w v)
+        pub steal-busy : (n ≡ 0 → ⊥) → Refuse ThiefBusy ≡ verdict (stealTests (core h [] ds [] []) w v)
         steal-busy z = rw (lt-ltb w (h .numbers .workers) l, busy w n l e z, ne-eqb (size ds w) 0 (λ q. z (e ∙ q)))
 
         module _ (z : n ≡ 0) (b : Bool) (eb : b ≡ (not (ltb v (h .numbers .workers)) || ltb (size ds v) 2)) where
-          pub steal-passes : b ≡ false → Pass ≡ verdict (stealTests (core h ds [] []) w v)
+          pub steal-passes : b ≡ false → Pass ≡ verdict (stealTests (core h [] ds [] []) w v)
           steal-passes f =
               let q = neither (not (ltb v (h .numbers .workers))) (ltb (size ds v) 2) (sym eb ∙ f) in
               let lv : v < h .numbers .workers = lt-of (not-false (ltb v (h .numbers .workers)) (q .0)) in
               let two : 2 ≤ size ds v = ge-of (q .1) in
               rw (lt-ltb w (h .numbers .workers) l, busy v (size ds v) lv refl (λ o. omega arith), eq-eqb (size ds w) 0 (sym e ∙ z), lt-ltb v (h .numbers .workers) lv, q .1)
 
-          pub steal-main-returned : idles ≡ true → Refuse MainReturned ≡ verdict (stealTests (core h ds [] []) w v)
+          pub steal-main-returned : idles ≡ true → Refuse MainReturned ≡ verdict (stealTests (core h [] ds [] []) w v)
           steal-main-returned a = rw (lt-ltb w (h .numbers .workers) l, a)
 
-          pub steal-no-victim : b ≡ true → idles ≡ false → Refuse NoVictim ≡ verdict (stealTests (core h ds [] []) w v)
+          pub steal-no-victim : b ≡ true → idles ≡ false → Refuse NoVictim ≡ verdict (stealTests (core h [] ds [] []) w v)
           steal-no-victim t a = rw (lt-ltb w (h .numbers .workers) l, a, eq-eqb (size ds w) 0 (sym e ∙ z), ← eb, t)
-
--- ---- the numbers' words
-
-pub five-words : (l : List ℕ) (a b d e f : ℕ) → length l ≡ 5 → set (set (set (set (set l 0 a) 1 b) 2 d) 3 e) 4 f ≡ a ∷ b ∷ d ∷ e ∷ f ∷ []
-five-words [] a b d e f h = absurd (omega arith)
-five-words (q ∷ []) a b d e f h = absurd (omega arith)
-five-words (q ∷ r ∷ []) a b d e f h = absurd (omega arith)
-five-words (q ∷ r ∷ s ∷ []) a b d e f h = absurd (omega arith)
-five-words (q ∷ r ∷ s ∷ t ∷ []) a b d e f h = absurd (omega arith)
-five-words (q ∷ r ∷ s ∷ t ∷ u ∷ []) a b d e f h = refl
-five-words (q ∷ r ∷ s ∷ t ∷ u ∷ v ∷ l) a b d e f h = absurd (omega arith)
-
-pub two-words : (l : List ℕ) (e f : ℕ) → length l ≡ 5 → set (set l 3 e) 4 f ≡ numberWords (setFreePlace (setFreeNode (numbersIn l) e) f)
-two-words [] e f h = absurd (omega arith)
-two-words (q ∷ []) e f h = absurd (omega arith)
-two-words (q ∷ r ∷ []) e f h = absurd (omega arith)
-two-words (q ∷ r ∷ s ∷ []) e f h = absurd (omega arith)
-two-words (q ∷ r ∷ s ∷ t ∷ []) e f h = absurd (omega arith)
-two-words (q ∷ r ∷ s ∷ t ∷ u ∷ []) e f h = refl
-two-words (q ∷ r ∷ s ∷ t ∷ u ∷ v ∷ l) e f h = absurd (omega arith)

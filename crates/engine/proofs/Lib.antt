@@ -1,9 +1,12 @@
+pub mod AnyTotals
 pub mod Laws
+pub mod NumberWords
 pub mod Steps
 pub mod Ending
 pub mod Turns
 pub mod Starts
 pub mod Checks
+pub mod Taping
 pub mod SaveLoad
 pub mod Passing
 pub mod Fitting

@@ -3,7 +3,7 @@ use mathlib.Core.Path.{_≡_, refl, sym, ap, _∙_, subst}
 use mathlib.Core.Logic.{inl, inr}
 use mathlib.Core.Bool.{Bool, true, false, cond, not, _||_}
 use mathlib.Core.List.{List, [], _∷_}
-use Prim.Native.Nat.{ℕ, suc, _+_, _-_, _*_, _≤_, _<_}
+use Prim.Native.Nat.{ℕ, zero, suc, _+_, _-_, _*_, _≤_, _<_}
 use native.Mathlib.Omega.{arith}
 use lib.Dec.{eqb, ltb}
 use lib.ListN.{length}
@@ -55,6 +55,11 @@ acts-at c w n p r l a =
           (sym (a .acting)) (r .writes w x w8 some lx);
     }
 
+just-one : (n : ℕ) → 0 < n → (1 < n → ⊥) → n ≡ 1
+just-one zero l f = absurd (omega (arith, l))
+just-one (suc zero) l f = refl
+just-one (suc (suc k)) l f = absurd (f (omega arith))
+
 module _ (c : Core) (w n p : ℕ) (r : Ready c) (a : ActsAt c w n p) (f : Frame) (ef : f ≡ frameAt (c .frames) p) where
   pub acts : Acts (c .deques) (c .frames) w n p f
   acts = record { long-deques = r .long-deques; long-frames = r .long-frames; worker = a .worker; has = a .has; some = a .busy; most = a .most; acting = a .acting; within = a .within; is = ef }
@@ -68,14 +73,19 @@ module _ (c : Core) (w n p : ℕ) (r : Ready c) (a : ActsAt c w n p) (f : Frame)
       (acts, a .room l, l)
 
   -- once it has left its deque
-  pub ends-asks : (ds′ : List ℕ) → ds′ ≡ pop (c .deques) w → f .outstanding ≡ 0 → EndsFrom (core (c .head) ds′ (c .frames) (c .pool)) w n p
+  -- Main has no frame above it
+  top-alone : frameAt (c .frames) p .parent ≡ none → n ≡ 1
+  top-alone e = just-one n (a .busy) (λ l. r .below w (a .worker) (omega (arith, l, a .has)) (ap (λ (x : ℕ). frameAt (c .frames) x .parent) (sym (a .acting)) ∙ e))
+
+  pub ends-asks : (ds′ : List ℕ) → ds′ ≡ pop (c .deques) w → f .outstanding ≡ 0 → EndsFrom (core (c .head) (c .totals) ds′ (c .frames) (c .pool)) w n p
   unfolding endAt
   ends-asks ds′ e z =
-      subst (λ (ds : List ℕ). EndsFrom (core (c .head) ds (c .frames) (c .pool)) w n p) (sym e)
+      subst (λ (ds : List ℕ). EndsFrom (core (c .head) (c .totals) ds (c .frames) (c .pool)) w n p) (sym e)
       (record {
         worker = a .worker;
         long-deques = length-pop (c .deques) w ∙ r .long-deques;
         has = omega (arith, a .has, a .busy, size-pop (c .deques) w (r .long-deques) (a .worker));
+        alone = top-alone;
         nodes-positive = r .nodes-positive;
         can-end = record {
           links = r .links;
@@ -95,11 +105,11 @@ pass-four false false true d q r s t e = let z : _≡_ {A = ℕ} 0 1 = cc in abs
 pass-four false false false true q r s t e = let z : _≡_ {A = ℕ} 0 1 = cc in absurd (omega arith)
 pass-four false false false false q r s t e = (refl, refl, refl)
 
-module _ (h : Head) (ds fs ws : List ℕ) (w v : ℕ) (ready : Ready (core h ds fs ws)) (u : Verdict) (eu : u ≡ verdict (stealTests (core h ds [] []) w v)) (pass : u ≡ Pass) where
+module _ (h : Head) (ts ds fs ws : List ℕ) (w v : ℕ) (ready : Ready (core h ts ds fs ws)) (u : Verdict) (eu : u ≡ verdict (stealTests (core h [] ds [] []) w v)) (pass : u ≡ Pass) where
   pub steal-asks : (length ds ≡ dequeWords) × (w < maxWorkers) × (v < maxWorkers) × (size ds w ≡ 0) × (2 ≤ size ds v) × (size ds v ≤ dequePlaces)
   steal-asks =
       let n = h .numbers .workers in
-      let t = pass-four (not (ltb w n)) (allIdle (core h ds [] [])) (not (eqb (size ds w) 0)) (not (ltb v n) || ltb (size ds v) 2) NoWorker MainReturned ThiefBusy NoVictim (sym pass ∙ eu) in
+      let t = pass-four (not (ltb w n)) (allIdle (core h [] ds [] [])) (not (eqb (size ds w) 0)) (not (ltb v n) || ltb (size ds v) 2) NoWorker MainReturned ThiefBusy NoVictim (sym pass ∙ eu) in
       let d = neither (not (ltb v n)) (ltb (size ds v) 2) (t .2) in
       let lw : w < n = lt-of (not-false (ltb w n) (t .0)) in
       let lv : v < n = lt-of (not-false (ltb v n) (d .0)) in

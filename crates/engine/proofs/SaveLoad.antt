@@ -1,87 +1,78 @@
 -- The ways out of a save and of a reading, over plain variables.
-use mathlib.Core.Path.{_≡_, refl, sym, ap, _∙_, subst}
+use mathlib.Core.Path.{_≡_, refl, sym, ap, _∙_}
 use mathlib.Core.Logic.{inl, inr}
 use mathlib.Core.Bool.{Bool, true, false, cond}
 use mathlib.Core.List.{List, _++_}
 use Prim.Native.Nat.{ℕ, _+_, _-_, _*_, _/_, _≤_, _<_}
 use native.Mathlib.Omega.{arith}
-use native.Mathlib.Nat.{mul-div-le}
 use lib.Dec.{leb, ltb}
 use lib.ListN.{length, drop, replicate, length-append, length-drop}
 use lib.Seq.{drop-at, drop-drop}
 use borrow.Author.Tests.{le-leb, lt-leb, le-ltb, lt-ltb}
-use Rattle.words.specs.Tests.{decided, true≢false}
-use Rattle.frames.specs.Widths.{frameWords, dequeWords}
+use Rattle.words.specs.Tests.{decided}
 use Rattle.soundness.specs.declared.Numbers.{Numbers}
 use Rattle.soundness.specs.declared.Checked.{Checked}
 use Rattle.soundness.specs.declared.Checked.the-variants.{NoRoom, Sound}
-use Rattle.soundness.specs.Numbers.{numbersIn}
+use Rattle.soundness.specs.Numbers.{numbersIn, totalsIn}
 use Rattle.soundness.specs.Soundness.{sound, freeCount, checked, cleared}
 use Rattle.image.specs.declared.ImageCheck.{ImageCheck}
 use Rattle.image.specs.declared.ImageCheck.the-variants.{WrongLength, WrongCheck}
-use Rattle.image.specs.Image.{Lengths, IsRead, imageOf, imageBytes, imageCheck, nodeCount, nodesIn, numberWordsIn, dequesIn, framesIn, poolIn, stored}
-use Rattle.image.specs.Theory.Promises.{whole-block, same-nodes, pool-length}
+use Rattle.image.specs.Image.{Lengths, IsRead, imageOf, imageBytes, imageCheck, nodeCount, nodesIn, poolIn, stored}
+use Rattle.image.specs.Theory.Promises.{same-nodes, pool-length}
 use Rattle.semantics.specs.declared.Refusal.{Refusal}
 use Rattle.semantics.specs.declared.Refusal.the-variants.{Work, Target}
 use Rattle.semantics.specs.Answers.{refusalNumber}
-use Rattle.semantics.specs.Entries.{State, zeros, isSound, wholeNodes, checkedState}
+use Rattle.semantics.specs.Entries.{State, zeros, isSound, wholeNodes}
 use Rattle.semantics.specs.Images.{SaveResult, saveChecked, saveWith, LoadResult, stateIn, poolWith, nodesZero, loadRefused, loadRead, loadChecked, loadWith}
 use Rattle.semantics.specs.Promises.{parts, Fits, IsSave, IsLoad}
 use Rattle.semantics.specs.Theory.WorkSlice.{checked-room, no-room-keeps}
 use Rattle.semantics.specs.Theory.Images.{sound-room}
-use Rattle.engine.specs.Promises.{checkNumber, imageNumber, IsLoading}
-use Rattle.engine.proofs.Checks.{Checks}
+use Rattle.engine.specs.Promises.{IsCheck, checkNumber, imageNumber, IsLoading}
 
 pub lengths-of : (ns ds fs : List ℕ) → Fits (parts ns ds fs) → Lengths ns ds fs
 lengths-of ns ds fs F = record { numbers = F .numbers; deques = F .deques; frames = F .frames }
 
 -- what the check's answer says
-no-room : (s : Numbers) (ds fs ws ks : List ℕ) → leb (s .nodes) (length ks) ≡ false → checked s ds fs ws ks ≡ NoRoom
+no-room : (s : Numbers) (ts ds fs ws ks : List ℕ) → leb (s .nodes) (length ks) ≡ false → checked s ts ds fs ws ks ≡ NoRoom
 unfolding checked
-no-room s ds fs ws ks l = rw l
+no-room s ts ds fs ws ks l = rw l
 
 -- with room, an answer that refuses is that state or pool is not sound
-answer-unsound : (s : Numbers) (ds fs ws ks : List ℕ) (k : Checked) → k ≡ checked s ds fs ws ks → s .nodes ≤ length ks → 0 < checkNumber k → (sound s ds fs ws ≡ false) × (checkNumber k ≡ 6)
-answer-unsound s ds fs ws ks k e room p =
-    let q = e ∙ checked-room s ds fs ws ks (le-leb (s .nodes) (length ks) room) in
-    elim (decided (sound s ds fs ws)) [
+answer-unsound : (s : Numbers) (ts ds fs ws ks : List ℕ) (k : Checked) → k ≡ checked s ts ds fs ws ks → s .nodes ≤ length ks → 0 < checkNumber k → (sound s ts ds fs ws ≡ false) × (checkNumber k ≡ 6)
+answer-unsound s ts ds fs ws ks k e room p =
+    let q = e ∙ checked-room s ts ds fs ws ks (le-leb (s .nodes) (length ks) room) in
+    elim (decided (sound s ts ds fs ws)) [
       | inl t ↦ (let z : k ≡ Sound (freeCount s ws) = q ∙ ap (λ (b : Bool). cond b (Sound (freeCount s ws)) Checked.Unsound) t in absurd (omega (arith, p, ap checkNumber z)))
       | inr t ↦ (let z : k ≡ Checked.Unsound = q ∙ ap (λ (b : Bool). cond b (Sound (freeCount s ws)) Checked.Unsound) t in (t, ap checkNumber z))
     ]
 
-answer-sound : (s : Numbers) (ds fs ws ks : List ℕ) (k : Checked) → k ≡ checked s ds fs ws ks → checkNumber k ≡ 0 → sound s ds fs ws ≡ true
-answer-sound s ds fs ws ks k e z = elim (decided (leb (s .nodes) (length ks))) [
-  | inr l ↦ absurd (omega (arith, z, ap checkNumber (e ∙ no-room s ds fs ws ks l)))
-  | inl l ↦ elim (decided (sound s ds fs ws)) [
+answer-sound : (s : Numbers) (ts ds fs ws ks : List ℕ) (k : Checked) → k ≡ checked s ts ds fs ws ks → checkNumber k ≡ 0 → sound s ts ds fs ws ≡ true
+answer-sound s ts ds fs ws ks k e z = elim (decided (leb (s .nodes) (length ks))) [
+  | inr l ↦ absurd (omega (arith, z, ap checkNumber (e ∙ no-room s ts ds fs ws ks l)))
+  | inl l ↦ elim (decided (sound s ts ds fs ws)) [
     | inl q ↦ q
     | inr q ↦ (
-        let u : k ≡ Checked.Unsound = e ∙ checked-room s ds fs ws ks l ∙ ap (λ (b : Bool). cond b (Sound (freeCount s ws)) Checked.Unsound) q in
+        let u : k ≡ Checked.Unsound = e ∙ checked-room s ts ds fs ws ks l ∙ ap (λ (b : Bool). cond b (Sound (freeCount s ws)) Checked.Unsound) q in
         absurd (omega (arith, z, ap checkNumber u)))
   ]
 ]
 
 -- ---- a save
 
-module _ (ns ds fs ws ks ts : List ℕ) (n : Numbers) (en : n ≡ numbersIn ns) (k : Checked) (ks′ : List ℕ) (ek : Checks n ds fs ws ks ks′ k) (r : ℕ) (er : r ≡ checkNumber k) where
+module _ (ns ds fs ws ks ts : List ℕ) (k : Checked) (ks′ : List ℕ) (ek : IsCheck (parts ns ds fs) ws ks ks′ k) (r : ℕ) (er : r ≡ checkNumber k) where
   abbrev s : State
   s = parts ns ds fs
 
-  answered : k ≡ checkedState (parts ns ds fs) ws ks
-  answered = ek .1 ∙ ap (λ (m : Numbers). checked m ds fs ws ks) en
-
-  emptied : ks′ ≡ cleared (numbersIn ns .nodes) ks
-  emptied = ek .0 ∙ ap (λ (m : Numbers). cleared (m .nodes) ks) en
-
   by-answer : (o : SaveResult) → o ≡ saveChecked k s ws ks ts → o ≡ saveWith (parts ns ds fs) ws ks ts
   unfolding saveWith
-  by-answer o e = e ∙ ap (λ (j : Checked). saveChecked j s ws ks ts) answered
+  by-answer o e = e ∙ ap (λ (j : Checked). saveChecked j s ws ks ts) (ek .1)
 
   is-save : (ks₁ ts₁ : List ℕ) (r₁ : ℕ) → record { work = ks₁; target = ts₁; result = r₁ } ≡ saveWith (parts ns ds fs) ws ks ts → IsSave (saveWith (parts ns ds fs) ws ks ts) ks₁ ts₁ r₁
   is-save ks₁ ts₁ r₁ e = record { result = ap (λ (o : SaveResult). o .result) e; work = ap (λ (o : SaveResult). o .work) e; target = ap (λ (o : SaveResult). o .target) e }
 
   refused-by : (j : Checked) → k ≡ j → 0 < r → _≡_ {A = SaveResult} (record { work = ks′; target = ts; result = r }) (saveChecked k s ws ks ts)
-  refused-by NoRoom e l = let kept : ks′ ≡ ks = emptied ∙ no-room-keeps (numbersIn ns) ds fs ws ks (sym answered ∙ e) in rw (er, e, kept)
-  refused-by Checked.Unsound e l = rw (er, e, emptied)
+  refused-by NoRoom e l = let kept : ks′ ≡ ks = ek .0 ∙ no-room-keeps (numbersIn ns) (totalsIn ns) ds fs ws ks (sym (ek .1) ∙ e) in rw (er, e, kept)
+  refused-by Checked.Unsound e l = rw (er, e, ek .0)
   refused-by (Sound free) e l = absurd (omega (arith, l, er, ap checkNumber e))
 
   pub save-refused : 0 < r → IsSave (saveWith (parts ns ds fs) ws ks ts) ks′ ts r
@@ -90,22 +81,22 @@ module _ (ns ds fs ws ks ts : List ℕ) (n : Numbers) (en : n ≡ numbersIn ns) 
   module _ (z : r ≡ 0) where
     -- the nodes are in the pool
     pub save-room : 4 * nodeCount ns ≤ length ws
-    save-room = sound-room (parts ns ds fs) ws (answer-sound (numbersIn ns) ds fs ws ks k answered (sym er ∙ z))
+    save-room = sound-room (parts ns ds fs) ws (answer-sound (numbersIn ns) (totalsIn ns) ds fs ws ks k (ek .1) (sym er ∙ z))
 
     sound-answer : (j : Checked) → k ≡ j → (o : SaveResult) → ((free : ℕ) → k ≡ Sound free → o ≡ saveChecked (Sound free) s ws ks ts) → o ≡ saveChecked k s ws ks ts
     sound-answer NoRoom e o h = absurd (omega (arith, z, er, ap checkNumber e))
     sound-answer Checked.Unsound e o h = absurd (omega (arith, z, er, ap checkNumber e))
     sound-answer (Sound free) e o h = h free e ∙ ap (λ (j : Checked). saveChecked j s ws ks ts) (sym e)
 
-    pub save-short : (t : ℕ) → t ≡ refusalNumber Target → length ts < imageBytes (n .nodes) → IsSave (saveWith (parts ns ds fs) ws ks ts) ks′ ts t
-    save-short t et l =
+    pub save-short : (t : ℕ) → t ≡ refusalNumber Target → (n : Numbers) → n ≡ numbersIn ns → length ts < imageBytes (n .nodes) → IsSave (saveWith (parts ns ds fs) ws ks ts) ks′ ts t
+    save-short t et n en l =
         let short : ltb (length ts) (imageBytes (numbersIn ns .nodes)) ≡ true = ap (λ (m : Numbers). ltb (length ts) (imageBytes (m .nodes))) (sym en) ∙ lt-ltb (length ts) (imageBytes (n .nodes)) l in
-        is-save ks′ ts t (by-answer _ (sound-answer k refl _ (λ free e. rw (short, emptied, et))))
+        is-save ks′ ts t (by-answer _ (sound-answer k refl _ (λ free e. rw (short, ek .0, et))))
 
-    pub save-done : (ts′ : List ℕ) → imageBytes (n .nodes) ≤ length ts → ts′ ≡ stored (imageOf ns ds fs ws) ts → IsSave (saveWith (parts ns ds fs) ws ks ts) ks′ ts′ 0
-    save-done ts′ l e′ =
+    pub save-done : (ts′ : List ℕ) (n : Numbers) → n ≡ numbersIn ns → imageBytes (n .nodes) ≤ length ts → ts′ ≡ stored (imageOf ns ds fs ws) ts → IsSave (saveWith (parts ns ds fs) ws ks ts) ks′ ts′ 0
+    save-done ts′ n en l e′ =
         let long : ltb (length ts) (imageBytes (numbersIn ns .nodes)) ≡ false = ap (λ (m : Numbers). ltb (length ts) (imageBytes (m .nodes))) (sym en) ∙ le-ltb (length ts) (imageBytes (n .nodes)) l in
-        is-save ks′ ts′ 0 (by-answer _ (sound-answer k refl _ (λ free e. rw (long, emptied, e′))))
+        is-save ks′ ts′ 0 (by-answer _ (sound-answer k refl _ (λ free e. rw (long, ek .0, e′))))
 
 -- ---- a reading
 
@@ -157,15 +148,15 @@ module _ (ns ds fs ws ks image : List ℕ) where
       ]) ws₁ ks₁ r ew ek er
 
       -- what was read, and the check of it
-      module _ (fits-in : 4 * N ≤ length ws) (ns₁ ds₁ fs₁ ws₁ : List ℕ) (is : IsRead image ns₁ ds₁ fs₁ ws ws₁) (n : Numbers) (en : n ≡ numbersIn ns₁) (k : Checked) (ks₁ : List ℕ) (ek : Checks n ds₁ fs₁ ws₁ ks ks₁ k) (r : ℕ) (er : r ≡ checkNumber k) where
+      module _ (fits-in : 4 * N ≤ length ws) (ns₁ ds₁ fs₁ ws₁ : List ℕ) (is : IsRead image ns₁ ds₁ fs₁ ws ws₁) (k : Checked) (ks₁ : List ℕ) (ek : IsCheck (parts ns₁ ds₁ fs₁) ws₁ ks ks₁ k) (r : ℕ) (er : r ≡ checkNumber k) where
         pool-is : ws₁ ≡ poolWith ws image
         pool-is = is .pool ∙ sym (ap (λ (b : Bool). cond b (stored (poolIn image) ws) ws) (le-leb (4 * nodesIn image) (length ws) (omega (arith, fits-in, eN))))
 
-        nodes-are : n .nodes ≡ N
-        nodes-are = ap (λ (m : Numbers). m .nodes) (en ∙ ap numbersIn (is .numbers)) ∙ same-nodes image good ∙ sym eN
+        nodes-are : numbersIn ns₁ .nodes ≡ N
+        nodes-are = ap (λ (ms : List ℕ). numbersIn ms .nodes) (is .numbers) ∙ same-nodes image good ∙ sym eN
 
-        sound-is : sound n ds₁ fs₁ ws₁ ≡ isSound (stateIn image) (poolWith ws image)
-        sound-is = (λ i. sound (en i) ds₁ fs₁ ws₁) ∙ (λ i. sound (numbersIn (is .numbers i)) (is .deques i) (is .frames i) (pool-is i))
+        sound-is : sound (numbersIn ns₁) (totalsIn ns₁) ds₁ fs₁ ws₁ ≡ isSound (stateIn image) (poolWith ws image)
+        sound-is = λ i. sound (numbersIn (is .numbers i)) (totalsIn (is .numbers i)) (is .deques i) (is .frames i) (pool-is i)
 
         work-is : ks₁ ≡ cleared (nodesIn image) ks
         work-is = ek .0 ∙ ap (λ (m : ℕ). cleared m ks) (nodes-are ∙ eN)
@@ -185,12 +176,12 @@ module _ (ns ds fs ws ks image : List ℕ) where
 
         pub load-unsound : 0 < r → (ws₂ : List ℕ) → ws₂ ≡ nodesZero ws₁ → IsLoading (loadWith ws ks image) ns ds fs ws₂ ks₁ r
         load-unsound l ws₂ e =
-            let u = answer-unsound n ds₁ fs₁ ws₁ ks k (ek .1) (omega (arith, nodes-are, room)) (omega (arith, l, er)) in
+            let u = answer-unsound (numbersIn ns₁) (totalsIn ns₁) ds₁ fs₁ ws₁ ks k (ek .1) (omega (arith, nodes-are, room)) (omega (arith, l, er)) in
             not-read (sym sound-is ∙ u .0) ws₂ ks₁ r (e ∙ same-end) (work-is ∙ ap (λ (m : ℕ). cleared m ks) (sym eN)) (er ∙ u .1)
 
         pub load-read : r ≡ 0 → IsLoading (loadWith ws ks image) ns₁ ds₁ fs₁ ws₁ ks₁ r
         load-read z =
-            let u : isSound (stateIn image) (poolWith ws image) ≡ true = sym sound-is ∙ answer-sound n ds₁ fs₁ ws₁ ks k (ek .1) (sym er ∙ z) in
+            let u : isSound (stateIn image) (poolWith ws image) ≡ true = sym sound-is ∙ answer-sound (numbersIn ns₁) (totalsIn ns₁) ds₁ fs₁ ws₁ ks k (ek .1) (sym er ∙ z) in
             let o : LoadResult = record { state = stateIn image; pool = poolWith ws image; work = cleared (nodesIn image) ks; result = 0 } in
             let e : o ≡ loadWith ws ks image = by-reading o (sym (ap (λ (b : Bool). cond b o (loadRefused (nodesZero ws) (cleared (nodesIn image) ks) Refusal.Unsound)) u)) in
             record {

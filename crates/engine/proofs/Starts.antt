@@ -1,7 +1,7 @@
 -- The start's ways out, over plain variables.
 use mathlib.Core.Path.{_≡_, refl, sym, ap, _∙_}
 use mathlib.Core.Bool.{Bool, true, false, cond, _||_}
-use mathlib.Core.List.{List, [], _∷_}
+use mathlib.Core.List.{List, [], _∷_, _++_}
 use Prim.Native.Nat.{ℕ, _≤_}
 use native.Mathlib.Omega.{arith}
 use lib.Dec.{eqb, ltb}
@@ -12,7 +12,7 @@ use Rattle.pool.specs.Pool.{initPool}
 use Rattle.frames.specs.Widths.{frameWords, dequeWords}
 use Rattle.frames.specs.Frames.{initFrames}
 use Rattle.frames.specs.Deques.{initDeques}
-use Rattle.soundness.specs.Numbers.{numberWords}
+use Rattle.soundness.specs.Numbers.{numberWords, totalCount}
 use Rattle.semantics.specs.declared.Refusal.{Refusal}
 use Rattle.semantics.specs.declared.Refusal.the-variants.{Values, Workers, Nodes}
 use Rattle.semantics.specs.Answers.{refusalNumber}
@@ -85,7 +85,7 @@ module _ (workers : ℕ) (vs ws : List ℕ) (v : Verdict) (ev : v ≡ verdict (s
 
     pub started : (free : ℕ) (ws′ : List ℕ) → v ≡ Pass
         → (ws′ ≡ initPool ws (length vs) (wholeNodes ws) vs .0) × (free ≡ initPool ws (length vs) (wholeNodes ws) vs .1)
-        → ns ≡ numberWords (firstNumbers workers (length vs) (wholeNodes ws) free) → ds ≡ initDeques (replicate dequeWords 0) → fs ≡ initFrames (replicate frameWords 0)
+        → ns ≡ numberWords (firstNumbers workers (length vs) (wholeNodes ws) free) ++ replicate totalCount 0 → ds ≡ initDeques (replicate dequeWords 0) → fs ≡ initFrames (replicate frameWords 0)
         → IsStart (startWith workers vs ws) ns ds fs ws′ 0
     unfolding startBy
     started free ws′ e ei en ed ef =

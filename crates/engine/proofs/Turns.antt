@@ -47,21 +47,21 @@ module _ (tape : List ℕ) (n : ℕ) where
       ap (λ (m : ℕ). runOn r 0 (recordsFrom m tape 0)) z
 
   -- a record, from a sound core: what is left, and that the core is sound again
-  pub turn-kept : (h head : Head) (ds fs ws ds′ fs′ ws′ a a′ : List ℕ) (node place count node′ place′ count′ : ℕ) (r : Answer) (i x y : ℕ) → head ≡ renewed h node place count
-      → Kept (core (renewed h node place count) ds fs ws) → i < n → stepResult (renewed head node′ place′ count′) ds′ fs′ ws′ r ≡ recordOn (core head ds fs ws) (decodeAt tape (i * 8))
+  pub turn-kept : (h head : Head) (ts ds fs ws ts′ ds′ fs′ ws′ a a′ : List ℕ) (node place count node′ place′ count′ : ℕ) (r : Answer) (i x y : ℕ) → head ≡ renewed h node place count
+      → Kept (core (renewed h node place count) ts ds fs ws) → i < n → stepResult (renewed head node′ place′ count′) ts′ ds′ fs′ ws′ r ≡ recordOn (core head ts ds fs ws) (decodeAt tape (i * 8))
       → x ≡ answerWords r .0 → y ≡ answerWords r .1 → a′ ≡ set (set a (i * 2) x) (i * 2 + 1) y
-      → Kept (core (renewed h node′ place′ count′) ds′ fs′ ws′)
-      × (runOn (recordsResult (core (renewed h node′ place′ count′) ds′ fs′ ws′) a′) ((i + 1) * 2) (recordsFrom (n - (i + 1)) tape ((i + 1) * 8))
-      ≡ runOn (recordsResult (core (renewed h node place count) ds fs ws) a) (i * 2) (recordsFrom (n - i) tape (i * 8)))
-  turn-kept h head ds fs ws ds′ fs′ ws′ a a′ node place count node′ place′ count′ r i x y eh K l eo ex ey ea =
-      let c : Core = core (renewed h node place count) ds fs ws in
-      let o : StepResult = stepResult (renewed h node′ place′ count′) ds′ fs′ ws′ r in
-      let e : o ≡ recordOn c (decodeAt tape (i * 8)) = subst (λ (g : Head). stepResult (renewed g node′ place′ count′) ds′ fs′ ws′ r ≡ recordOn (core g ds fs ws) (decodeAt tape (i * 8))) eh eo in
+      → Kept (core (renewed h node′ place′ count′) ts′ ds′ fs′ ws′)
+      × (runOn (recordsResult (core (renewed h node′ place′ count′) ts′ ds′ fs′ ws′) a′) ((i + 1) * 2) (recordsFrom (n - (i + 1)) tape ((i + 1) * 8))
+      ≡ runOn (recordsResult (core (renewed h node place count) ts ds fs ws) a) (i * 2) (recordsFrom (n - i) tape (i * 8)))
+  turn-kept h head ts ds fs ws ts′ ds′ fs′ ws′ a a′ node place count node′ place′ count′ r i x y eh K l eo ex ey ea =
+      let c : Core = core (renewed h node place count) ts ds fs ws in
+      let o : StepResult = stepResult (renewed h node′ place′ count′) ts′ ds′ fs′ ws′ r in
+      let e : o ≡ recordOn c (decodeAt tape (i * 8)) = subst (λ (g : Head). stepResult (renewed g node′ place′ count′) ts′ ds′ fs′ ws′ r ≡ recordOn (core g ts ds fs ws) (decodeAt tape (i * 8))) eh eo in
       (subst (λ (q : StepResult). Kept (q .core)) (sym e) (kept-record c K (decodeAt tape (i * 8))), turn c a a′ i x y o l e ex ey ea)
 
 -- the numbers are those of a sound core
-pub ready-head : (h head : Head) (ds fs ws : List ℕ) → head ≡ h → Kept (core h ds fs ws) → Ready (core head ds fs ws)
-ready-head h head ds fs ws e K = subst (λ (g : Head). Ready (core g ds fs ws)) (sym e) (kept-ready (core h ds fs ws) K)
+pub ready-head : (h head : Head) (ts ds fs ws : List ℕ) → head ≡ h → Kept (core h ts ds fs ws) → Ready (core head ts ds fs ws)
+ready-head h head ts ds fs ws e K = subst (λ (g : Head). Ready (core g ts ds fs ws)) (sym e) (kept-ready (core h ts ds fs ws) K)
 
-pub kept-head : (h head : Head) (ds fs ws : List ℕ) → head ≡ h → Kept (core h ds fs ws) → Kept (core head ds fs ws)
-kept-head h head ds fs ws e K = subst (λ (g : Head). Kept (core g ds fs ws)) (sym e) K
+pub kept-head : (h head : Head) (ts ds fs ws : List ℕ) → head ≡ h → Kept (core h ts ds fs ws) → Kept (core head ts ds fs ws)
+kept-head h head ts ds fs ws e K = subst (λ (g : Head). Kept (core g ts ds fs ws)) (sym e) K

@@ -4,6 +4,7 @@ use mathlib.Core.Bool.{Bool, cond, _||_}
 use mathlib.Core.List.{List, [], _∷_}
 use Prim.Native.Nat.{ℕ, suc, _≤_, _<_}
 use lib.ListN.{length}
+use Rattle.words.specs.Basics.{none}
 use Rattle.pool.specs.Pool.{firstShared, rest}
 use Rattle.pool.specs.Links.{PathIn, WriteIn}
 use Rattle.frames.specs.Widths.{maxWorkers, places, dequePlaces, dequeWords}
@@ -18,12 +19,14 @@ use Rattle.frames.specs.Deques.{size, bottom}
 use Rattle.soundness.specs.declared.Checked.{Checked}
 use Rattle.soundness.specs.declared.Checked.the-variants.{NoRoom, Sound}
 use Rattle.soundness.specs.Numbers.{setFreeNode, setFreePlace}
+use Rattle.soundness.specs.Soundness.{cleared}
 use Rattle.model.specs.declared.Step.{Step}
 use Rattle.semantics.specs.declared.Head.{Head}
 use Rattle.semantics.specs.declared.Refusal.{Refusal}
 use Rattle.semantics.specs.declared.Refusal.the-variants.{Values, Workers, Nodes, Work, Blocks, BlockCheck}
 use Rattle.image.specs.declared.ImageCheck.{ImageCheck}
 use Rattle.image.specs.declared.ImageCheck.the-variants.{WrongLength, WrongCheck}
+use Rattle.semantics.specs.Entries.{State, numbersOf, stateOf, checkedState, RecordsResult}
 use Rattle.semantics.specs.Images.{LoadResult}
 use Rattle.semantics.specs.Promises.{parts}
 use Rattle.semantics.specs.Answers.{refusalNumber}
@@ -37,8 +40,9 @@ use Rattle.engine.specs.declared.Verdict.the-variants.{Pass}
 use Rattle.engine.specs.declared.Acting.{Acting}
 use Rattle.engine.specs.declared.Acting.the-variants.{At}
 
-abbrev pub core : Head → List ℕ → List ℕ → List ℕ → Core
-core h ds fs ws = record { head = h; deques = ds; frames = fs; pool = ws }
+-- ts are the words of the totals
+abbrev pub core : Head → List ℕ → List ℕ → List ℕ → List ℕ → Core
+core h ts ds fs ws = record { head = h; totals = ts; deques = ds; frames = fs; pool = ws }
 
 -- the numbers with another first free node, first free place and number of free nodes
 abbrev pub renewed : Head → ℕ → ℕ → ℕ → Head
@@ -48,10 +52,14 @@ renewed h node place count = record { numbers = setFreePlace (setFreeNode (h .nu
 abbrev pub headAfter : Head → Out → Head
 headAfter h o = renewed h (o .«free_node») (o .«free_place») (o .«free_count»)
 
--- ---- a step: the numbers h, the words ds, fs, ws and the answer become those of the result d
+-- ---- a step: the numbers h, the words ts, ds, fs, ws and the answer become those of the result d
 
-abbrev pub Leaves : Head → Out → List ℕ → List ℕ → List ℕ → StepResult → Type 0
-Leaves h o ds fs ws d = stepResult (headAfter h o) ds fs ws (o .answer) ≡ d
+abbrev pub Leaves : Head → Out → List ℕ → List ℕ → List ℕ → List ℕ → StepResult → Type 0
+Leaves h o ts ds fs ws d = stepResult (headAfter h o) ts ds fs ws (o .answer) ≡ d
+
+-- a step of another kind than a return leaves the totals, whatever they are; d is its result from a core
+abbrev pub LeavesOthers : Head → Out → (ds fs ws ds′ fs′ ws′ : List ℕ) → (Core → StepResult) → Type 0
+LeavesOthers h o ds fs ws ds′ fs′ ws′ d = (ts : List ℕ) → Leaves h o ts ds′ fs′ ws′ (d (core h ts ds fs ws))
 
 -- a step of worker w's bottom frame, once refusals 8, 9 and 10 are tested: those of the kind, then the step
 abbrev pub kindOn : Core → Step → StepResult
@@ -87,6 +95,8 @@ pub record EndsFrom (c : Core) (w n p : ℕ) : Type 0 where
   pub worker : w < maxWorkers
   pub long-deques : length (c .deques) ≡ dequeWords
   pub has : n ≡ suc (size (c .deques) w)
+  -- Main is the top of its deque
+  pub alone : frameAt (c .frames) p .parent ≡ none → n ≡ 1
   pub nodes-positive : 0 < c .head .numbers .nodes
   pub can-end : EndsAt c p
   pub upward : EndsUpward (frameAt (c .frames) p .depth) (endAt c p) (frameAt (c .frames) p .parent)
@@ -125,6 +135,16 @@ IsActing c w (Acting.Refuse r) = verdict (actingTests c w) ≡ Verdict.Refuse r
 abbrev pub startTests : ℕ → ℕ → ℕ → List (Bool × Refusal)
 startTests workers n nodes =
     (eqb n 0 || ltb 256 n, Values) ∷ (eqb workers 0 || ltb 8 workers, Workers) ∷ (ltb nodes (treeNodes n) || ltb 16384 nodes, Nodes) ∷ []
+
+-- the answer k of the check of the state s and the pool ws, and the work slice, before and after it
+abbrev pub IsCheck : State → List ℕ → List ℕ → List ℕ → Checked → Type 0
+IsCheck s ws ks ks′ k = (ks′ ≡ cleared (numbersOf s .nodes) ks) × (k ≡ checkedState s ws ks)
+
+-- the parts, the pool ws and the answer words rs are those that a tape's records leave
+pub record IsRun (o : RecordsResult) (ns ds fs ws rs : List ℕ) : Type 0 where
+  pub state : parts ns ds fs ≡ stateOf (o .core)
+  pub pool : ws ≡ o .core .pool
+  pub answers : rs ≡ o .answers
 
 -- the number that the check's answer refuses a call by, or 0
 abbrev pub checkNumber : Checked → ℕ

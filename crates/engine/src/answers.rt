@@ -31,6 +31,7 @@ pub fn refusal_number(refusal: Refusal) -> u32
         Refusal::Blocks => 17,
         Refusal::BlockCheck => 18,
         Refusal::Target => 19,
+        Refusal::NoReducer => 20,
         Refusal::Lengths => 99,
     }
 }
@@ -67,6 +68,7 @@ pub fn done_kind(done: Done) -> u32
         Done::Waited(_) => 104,
         Done::Value(_) => 105,
         Done::Written(_) => 106,
+        Done::Folded => 107,
     }
 }
 
@@ -81,6 +83,7 @@ pub fn done_number(done: Done) -> u32
         Done::Waited(outcome) => synced_number(outcome),
         Done::Value(value) => value,
         Done::Written(free) => free,
+        Done::Folded => 0,
     }
 }
 

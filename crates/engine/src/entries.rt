@@ -11,13 +11,15 @@ use crate::images::save_on;
 use crate::tapes::tape_on;
 use frames::DEQUE_WORDS;
 use frames::FRAME_WORDS;
+use image::NUMBER_COUNT;
 use semantics::Refusal;
 
 // Has each part its length?
 fn fit(numbers: &[u32], deques: &[u32], frames: &[u32]) -> bool
     ensures { λ r. ⌜ r ≡ fits (parts (now (numbers .entry)) (now (deques .entry)) (now (frames .entry))) ⌝ }
 {
-    (numbers.len() == 5) & ((deques.len() == DEQUE_WORDS) & (frames.len() == FRAME_WORDS))
+    (numbers.len() == NUMBER_COUNT)
+        & ((deques.len() == DEQUE_WORDS) & (frames.len() == FRAME_WORDS))
 }
 
 pub fn start(

@@ -1,12 +1,10 @@
 // Saving and reading an image, over parts that have their lengths: document 02's R-1.
 ghost use mathlib.Core.Path.{_≡_};
-ghost use Prim.Native.Nat.{_<_};
-ghost use lib.ListN.{length};
 ghost use Rattle.semantics.specs.Images.{nodesZero, saveWith, loadWith};
 ghost use Rattle.semantics.specs.Promises.{parts, Fits, IsSave, IsLoad};
 ghost use Rattle.engine.specs.Promises.{imageNumber, IsLoading};
 use crate::answers::refusal_number;
-use crate::checking::check;
+use crate::checking::check_state;
 use crate::numbers::numbers_in;
 use crate::tapes::check_number;
 use image::ImageCheck;
@@ -33,11 +31,11 @@ pub fn save_on(
     ensures { λ r. ⌜ IsSave (saveWith (parts (now (numbers .entry)) (now (deques .entry)) (now (frames .entry))) (now (pool .entry)) (now (work .entry)) (now (target .entry)))
         (now (work .exit)) (now (target .exit)) r ⌝ }
 {
-    let first = numbers_in(numbers);
-    let refused = check_number(check(first, deques, frames, pool, work));
+    let refused = check_number(check_state(numbers, deques, frames, pool, work));
     if refused != 0 {
         return refused;
     }
+    let first = numbers_in(numbers);
     if (target.len() as u64) < image_bytes(first.nodes) {
         return refusal_number(Refusal::Target);
     }
@@ -91,8 +89,7 @@ fn read_image(
         return refusal_number(Refusal::Unsound);
     }
     read_parts(image, numbers, deques, frames, pool);
-    let first = numbers_in(numbers);
-    let refused = check_number(check(first, deques, frames, pool, work));
+    let refused = check_number(check_state(numbers, deques, frames, pool, work));
     if refused != 0 {
         clear_nodes(pool);
     }

@@ -1,12 +1,15 @@
-// The six kinds of steps, but for what a return does (returns.rt), over the numbers h and the lent words of the deques, the frame table and the pool: each is refused, and
+// The seven kinds of steps, but for what a return does (returns.rt), over the numbers h and the lent words of the deques, the frame table and the pool: each is refused, and
 // changes nothing, or acts. The core is ready (it is sound), so that reads and stores test no index. For a kind that acts on a worker's
 // bottom frame, `.._at` is the step once that frame's place p and the worker's number n of frames are known.
 ghost use mathlib.Core.Path.{_≡_};
-ghost use Rattle.model.specs.declared.Step.the-variants.{Spawn, Return, Steal, Sync, Read, Write};
+ghost use mathlib.Core.List.{[]};
+ghost use lib.ListN.{length};
+ghost use Rattle.soundness.specs.Numbers.{totalCount};
+ghost use Rattle.model.specs.declared.Step.the-variants.{Spawn, Return, Steal, Sync, Read, Write, Fold};
 ghost use Rattle.semantics.specs.Core.{stepOn};
 ghost use Rattle.semantics.specs.Ranges.{Ready};
-ghost use Rattle.semantics.specs.declared.Answer.the-variants.{Accepted, Refused};
-ghost use Rattle.engine.specs.Promises.{core, headAfter, Leaves, kindOn, ActsAt};
+ghost use Rattle.semantics.specs.declared.Answer.the-variants.{Refused};
+ghost use Rattle.engine.specs.Promises.{core, headAfter, Leaves, LeavesOthers, kindOn, ActsAt};
 use crate::Acting;
 use crate::Out;
 use crate::Verdict;
@@ -14,6 +17,7 @@ use crate::refusals::acting;
 use crate::refusals::steal_verdict;
 use crate::returns::return_at;
 use frames::NONE;
+use frames::fold_at;
 use frames::frame_at;
 use frames::root_at;
 use frames::set_root;
@@ -30,6 +34,9 @@ use semantics::Answer;
 use semantics::Done;
 use semantics::Head;
 use semantics::Refusal;
+
+// How many reducers there are.
+const REDUCERS: u32 = 3;
 
 // The numbers stay as they are.
 pub fn unchanged(h: Head, answer: Answer) -> Out
@@ -59,9 +66,9 @@ fn spawn_at(
     n: u32,
     p: u32,
 ) -> Out
-    requires { ⌜ Ready (core h (now deques) (now frames) (now pool)) × ActsAt (core h (now deques) (now frames) (now pool)) w n p ⌝ }
-    ensures { λ r. ⌜ Leaves h r (now (deques .exit)) (now (frames .exit)) (now (pool .exit))
-        (kindOn (core h (now (deques .entry)) (now (frames .entry)) (now (pool .entry))) (Spawn w)) ⌝ }
+    requires { ⌜ Ready (core h [] (now deques) (now frames) (now pool)) × ActsAt (core h [] (now deques) (now frames) (now pool)) w n p ⌝ }
+    ensures { λ r. ⌜ LeavesOthers h r (now (deques .entry)) (now (frames .entry)) (now (pool .entry)) (now (deques .exit)) (now (frames .exit)) (now (pool .exit))
+        (λ c. kindOn c (Spawn w)) ⌝ }
 {
     if h.numbers.free_place == NONE {
         return refused(h, Refusal::FramesFull);
@@ -86,9 +93,9 @@ fn sync_at(
     n: u32,
     p: u32,
 ) -> Out
-    requires { ⌜ Ready (core h (now deques) (now frames) (now pool)) × ActsAt (core h (now deques) (now frames) (now pool)) w n p ⌝ }
-    ensures { λ r. ⌜ Leaves h r (now (deques .exit)) (now (frames .exit)) (now (pool .exit))
-        (kindOn (core h (now (deques .entry)) (now (frames .entry)) (now (pool .entry))) (Sync w)) ⌝ }
+    requires { ⌜ Ready (core h [] (now deques) (now frames) (now pool)) × ActsAt (core h [] (now deques) (now frames) (now pool)) w n p ⌝ }
+    ensures { λ r. ⌜ LeavesOthers h r (now (deques .entry)) (now (frames .entry)) (now (pool .entry)) (now (deques .exit)) (now (frames .exit)) (now (pool .exit))
+        (λ c. kindOn c (Sync w)) ⌝ }
 {
     let outcome = sync_frame(deques, frames, w, n, p, frame_at(frames, p));
     unchanged(h, Answer::Accepted(Done::Waited(outcome)))
@@ -104,9 +111,9 @@ fn value_at(
     p: u32,
     x: u32,
 ) -> Out
-    requires { ⌜ Ready (core h (now deques) (now frames) (now pool)) × ActsAt (core h (now deques) (now frames) (now pool)) w n p ⌝ }
-    ensures { λ r. ⌜ Leaves h r (now (deques .exit)) (now (frames .exit)) (now (pool .exit))
-        (kindOn (core h (now (deques .entry)) (now (frames .entry)) (now (pool .entry))) (Read w x)) ⌝ }
+    requires { ⌜ Ready (core h [] (now deques) (now frames) (now pool)) × ActsAt (core h [] (now deques) (now frames) (now pool)) w n p ⌝ }
+    ensures { λ r. ⌜ LeavesOthers h r (now (deques .entry)) (now (frames .entry)) (now (pool .entry)) (now (deques .exit)) (now (frames .exit)) (now (pool .exit))
+        (λ c. kindOn c (Read w x)) ⌝ }
 {
     if x >= h.numbers.splitters {
         return refused(h, Refusal::NoSplitter);
@@ -126,9 +133,9 @@ fn write_at(
     x: u32,
     v: u32,
 ) -> Out
-    requires { ⌜ Ready (core h (now deques) (now frames) (now pool)) × ActsAt (core h (now deques) (now frames) (now pool)) w n p ⌝ }
-    ensures { λ r. ⌜ Leaves h r (now (deques .exit)) (now (frames .exit)) (now (pool .exit))
-        (kindOn (core h (now (deques .entry)) (now (frames .entry)) (now (pool .entry))) (Write w x v)) ⌝ }
+    requires { ⌜ Ready (core h [] (now deques) (now frames) (now pool)) × ActsAt (core h [] (now deques) (now frames) (now pool)) w n p ⌝ }
+    ensures { λ r. ⌜ LeavesOthers h r (now (deques .entry)) (now (frames .entry)) (now (pool .entry)) (now (deques .exit)) (now (frames .exit)) (now (pool .exit))
+        (λ c. kindOn c (Write w x v)) ⌝ }
 {
     if x >= h.numbers.splitters {
         return refused(h, Refusal::NoSplitter);
@@ -162,10 +169,33 @@ fn write_at(
     }
 }
 
+// "folds its value into the reducer named in its splitter field"
+fn fold_in(
+    h: Head,
+    deques: &mut [u32],
+    frames: &mut [u32],
+    pool: &mut [u32],
+    w: u32,
+    n: u32,
+    p: u32,
+    reducer: u32,
+    v: u32,
+) -> Out
+    requires { ⌜ Ready (core h [] (now deques) (now frames) (now pool)) × ActsAt (core h [] (now deques) (now frames) (now pool)) w n p ⌝ }
+    ensures { λ r. ⌜ LeavesOthers h r (now (deques .entry)) (now (frames .entry)) (now (pool .entry)) (now (deques .exit)) (now (frames .exit)) (now (pool .exit))
+        (λ c. kindOn c (Fold w reducer v)) ⌝ }
+{
+    if reducer >= REDUCERS {
+        return refused(h, Refusal::NoReducer);
+    }
+    fold_at(frames, p, reducer, v);
+    unchanged(h, Answer::Accepted(Done::Folded))
+}
+
 pub fn step_spawn(h: Head, deques: &mut [u32], frames: &mut [u32], pool: &mut [u32], w: u32) -> Out
-    requires { ⌜ Ready (core h (now deques) (now frames) (now pool)) ⌝ }
-    ensures { λ r. ⌜ Leaves h r (now (deques .exit)) (now (frames .exit)) (now (pool .exit))
-        (stepOn (core h (now (deques .entry)) (now (frames .entry)) (now (pool .entry))) (Spawn w)) ⌝ }
+    requires { ⌜ Ready (core h [] (now deques) (now frames) (now pool)) ⌝ }
+    ensures { λ r. ⌜ LeavesOthers h r (now (deques .entry)) (now (frames .entry)) (now (pool .entry)) (now (deques .exit)) (now (frames .exit)) (now (pool .exit))
+        (λ c. stepOn c (Spawn w)) ⌝ }
 {
     let acting = acting(h, deques, w);
     match acting {
@@ -174,22 +204,29 @@ pub fn step_spawn(h: Head, deques: &mut [u32], frames: &mut [u32], pool: &mut [u
     }
 }
 
-pub fn step_return(h: Head, deques: &mut [u32], frames: &mut [u32], pool: &mut [u32], w: u32) -> Out
-    requires { ⌜ Ready (core h (now deques) (now frames) (now pool)) ⌝ }
-    ensures { λ r. ⌜ Leaves h r (now (deques .exit)) (now (frames .exit)) (now (pool .exit))
-        (stepOn (core h (now (deques .entry)) (now (frames .entry)) (now (pool .entry))) (Return w)) ⌝ }
+pub fn step_return(
+    h: Head,
+    totals: &mut [u32],
+    deques: &mut [u32],
+    frames: &mut [u32],
+    pool: &mut [u32],
+    w: u32,
+) -> Out
+    requires { ⌜ (length (now totals) ≡ totalCount) × Ready (core h (now totals) (now deques) (now frames) (now pool)) ⌝ }
+    ensures { λ r. ⌜ Leaves h r (now (totals .exit)) (now (deques .exit)) (now (frames .exit)) (now (pool .exit))
+        (stepOn (core h (now (totals .entry)) (now (deques .entry)) (now (frames .entry)) (now (pool .entry))) (Return w)) ⌝ }
 {
     let acting = acting(h, deques, w);
     match acting {
         Acting::Refuse(refusal) => refused(h, refusal),
-        Acting::At(p, n) => return_at(h, deques, frames, pool, w, n, p),
+        Acting::At(p, n) => return_at(h, totals, deques, frames, pool, w, n, p),
     }
 }
 
 pub fn step_sync(h: Head, deques: &mut [u32], frames: &mut [u32], pool: &mut [u32], w: u32) -> Out
-    requires { ⌜ Ready (core h (now deques) (now frames) (now pool)) ⌝ }
-    ensures { λ r. ⌜ Leaves h r (now (deques .exit)) (now (frames .exit)) (now (pool .exit))
-        (stepOn (core h (now (deques .entry)) (now (frames .entry)) (now (pool .entry))) (Sync w)) ⌝ }
+    requires { ⌜ Ready (core h [] (now deques) (now frames) (now pool)) ⌝ }
+    ensures { λ r. ⌜ LeavesOthers h r (now (deques .entry)) (now (frames .entry)) (now (pool .entry)) (now (deques .exit)) (now (frames .exit)) (now (pool .exit))
+        (λ c. stepOn c (Sync w)) ⌝ }
 {
     let acting = acting(h, deques, w);
     match acting {
@@ -206,9 +243,9 @@ pub fn step_read(
     w: u32,
     x: u32,
 ) -> Out
-    requires { ⌜ Ready (core h (now deques) (now frames) (now pool)) ⌝ }
-    ensures { λ r. ⌜ Leaves h r (now (deques .exit)) (now (frames .exit)) (now (pool .exit))
-        (stepOn (core h (now (deques .entry)) (now (frames .entry)) (now (pool .entry))) (Read w x)) ⌝ }
+    requires { ⌜ Ready (core h [] (now deques) (now frames) (now pool)) ⌝ }
+    ensures { λ r. ⌜ LeavesOthers h r (now (deques .entry)) (now (frames .entry)) (now (pool .entry)) (now (deques .exit)) (now (frames .exit)) (now (pool .exit))
+        (λ c. stepOn c (Read w x)) ⌝ }
 {
     let acting = acting(h, deques, w);
     match acting {
@@ -226,14 +263,34 @@ pub fn step_write(
     x: u32,
     v: u32,
 ) -> Out
-    requires { ⌜ Ready (core h (now deques) (now frames) (now pool)) ⌝ }
-    ensures { λ r. ⌜ Leaves h r (now (deques .exit)) (now (frames .exit)) (now (pool .exit))
-        (stepOn (core h (now (deques .entry)) (now (frames .entry)) (now (pool .entry))) (Write w x v)) ⌝ }
+    requires { ⌜ Ready (core h [] (now deques) (now frames) (now pool)) ⌝ }
+    ensures { λ r. ⌜ LeavesOthers h r (now (deques .entry)) (now (frames .entry)) (now (pool .entry)) (now (deques .exit)) (now (frames .exit)) (now (pool .exit))
+        (λ c. stepOn c (Write w x v)) ⌝ }
 {
     let acting = acting(h, deques, w);
     match acting {
         Acting::Refuse(refusal) => refused(h, refusal),
         Acting::At(p, n) => write_at(h, deques, frames, pool, w, n, p, x, v),
+    }
+}
+
+pub fn step_fold(
+    h: Head,
+    deques: &mut [u32],
+    frames: &mut [u32],
+    pool: &mut [u32],
+    w: u32,
+    reducer: u32,
+    v: u32,
+) -> Out
+    requires { ⌜ Ready (core h [] (now deques) (now frames) (now pool)) ⌝ }
+    ensures { λ r. ⌜ LeavesOthers h r (now (deques .entry)) (now (frames .entry)) (now (pool .entry)) (now (deques .exit)) (now (frames .exit)) (now (pool .exit))
+        (λ c. stepOn c (Fold w reducer v)) ⌝ }
+{
+    let acting = acting(h, deques, w);
+    match acting {
+        Acting::Refuse(refusal) => refused(h, refusal),
+        Acting::At(p, n) => fold_in(h, deques, frames, pool, w, n, p, reducer, v),
     }
 }
 
@@ -245,9 +302,9 @@ pub fn step_steal(
     w: u32,
     v: u32,
 ) -> Out
-    requires { ⌜ Ready (core h (now deques) (now frames) (now pool)) ⌝ }
-    ensures { λ r. ⌜ Leaves h r (now (deques .exit)) (now (frames .exit)) (now (pool .exit))
-        (stepOn (core h (now (deques .entry)) (now (frames .entry)) (now (pool .entry))) (Steal w v)) ⌝ }
+    requires { ⌜ Ready (core h [] (now deques) (now frames) (now pool)) ⌝ }
+    ensures { λ r. ⌜ LeavesOthers h r (now (deques .entry)) (now (frames .entry)) (now (pool .entry)) (now (deques .exit)) (now (frames .exit)) (now (pool .exit))
+        (λ c. stepOn c (Steal w v)) ⌝ }
 {
     let verdict = steal_verdict(h, deques, w, v);
     if let Verdict::Refuse(refusal) = verdict {

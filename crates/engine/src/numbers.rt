@@ -1,11 +1,21 @@
-// The state's five numbers in their lent words.
+// The state's numbers and totals in their lent words.
 ghost use mathlib.Core.Path.{_≡_};
-ghost use lib.ListN.{length, set};
-ghost use Rattle.soundness.specs.Numbers.{numbersIn, numberWords};
+ghost use mathlib.Core.Bool.{cond};
+ghost use mathlib.Core.List.{_++_};
+ghost use lib.Dec.{eqb};
+ghost use lib.ListN.{length, getD, set, replicate};
+ghost use Rattle.words.specs.Basics.{none, all};
+ghost use Rattle.soundness.specs.Numbers.{numbersIn, numberWords, numberCount, totalCount};
+ghost use Rattle.reducers.specs.Reducers.{viewWords};
+use frames::NONE;
+use reducers::View;
 use soundness::Numbers;
 
+// The words before the totals.
+pub const HEAD_COUNT: usize = 5;
+
 pub fn numbers_in(numbers: &[u32]) -> Numbers
-    requires { ⌜ length (now numbers) ≡ 5 ⌝ }
+    requires { ⌜ length (now numbers) ≡ numberCount ⌝ }
     ensures { λ r. ⌜ r ≡ numbersIn (now (numbers .entry)) ⌝ }
 {
     Numbers {
@@ -17,22 +27,56 @@ pub fn numbers_in(numbers: &[u32]) -> Numbers
     }
 }
 
+// The totals are zero: no search has ended.
 pub fn put_numbers(numbers: &mut [u32], n: Numbers)
-    requires { ⌜ length (now numbers) ≡ 5 ⌝ }
-    ensures { λ _. ⌜ now (numbers .exit) ≡ numberWords n ⌝ }
+    requires { ⌜ length (now numbers) ≡ numberCount ⌝ }
+    ensures { λ _. ⌜ now (numbers .exit) ≡ numberWords n ++ replicate totalCount 0 ⌝ }
 {
     numbers[0] = n.workers;
     numbers[1] = n.splitters;
     numbers[2] = n.nodes;
     numbers[3] = n.free_node;
     numbers[4] = n.free_place;
+    numbers[5] = 0;
+    numbers[6] = 0;
+    numbers[7] = 0;
+    numbers[8] = 0;
 }
 
 // The first free node and the first free place, which alone change in a run.
 pub fn put_free(numbers: &mut [u32], node: u32, place: u32)
-    requires { ⌜ length (now numbers) ≡ 5 ⌝ }
+    requires { ⌜ length (now numbers) ≡ numberCount ⌝ }
     ensures { λ _. ⌜ now (numbers .exit) ≡ set (set (now (numbers .entry)) 3 node) 4 place ⌝ }
 {
     numbers[3] = node;
     numbers[4] = place;
+}
+
+// Main's view, at its end.
+pub fn put_totals(totals: &mut [u32], view: View)
+    requires { ⌜ length (now totals) ≡ totalCount ⌝ }
+    ensures { λ _. ⌜ now (totals .exit) ≡ viewWords view ⌝ }
+{
+    totals[0] = view.sum.value;
+    totals[1] = view.min.value;
+    totals[2] = view.affine.multiplier;
+    totals[3] = view.affine.addend;
+}
+
+// A frame ends: if it is Main, its view becomes the totals.
+pub fn end_totals(totals: &mut [u32], parent: u32, view: View)
+    requires { ⌜ length (now totals) ≡ totalCount ⌝ }
+    ensures { λ _. ⌜ now (totals .exit) ≡ cond (eqb parent none) (viewWords view) (now (totals .entry)) ⌝ }
+{
+    if parent == NONE {
+        put_totals(totals, view);
+    }
+}
+
+// Are all four zero?
+pub fn totals_zero(totals: &[u32]) -> bool
+    requires { ⌜ length (now totals) ≡ totalCount ⌝ }
+    ensures { λ r. ⌜ r ≡ all totalCount (λ i. eqb (getD (now (totals .entry)) i 0) 0) ⌝ }
+{
+    (((totals[0] == 0) & (totals[1] == 0)) & (totals[2] == 0)) & (totals[3] == 0)
 }

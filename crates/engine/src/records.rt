@@ -2,6 +2,7 @@
 ghost use mathlib.Core.Path.{_≡_};
 ghost use Prim.Native.Nat.{_+_, _*_, _/_, _≤_, _<_};
 ghost use lib.ListN.{length, set};
+ghost use Rattle.soundness.specs.Numbers.{totalCount};
 ghost use Rattle.model.specs.Record.{decodeAt};
 ghost use Rattle.semantics.specs.Core.{stepOn};
 ghost use Rattle.semantics.specs.Entries.{recordOn, recordsOf, recordsResult, runOn};
@@ -12,6 +13,7 @@ use crate::answers::done_kind;
 use crate::answers::done_number;
 use crate::answers::first_word;
 use crate::kinds::refused;
+use crate::kinds::step_fold;
 use crate::kinds::step_read;
 use crate::kinds::step_return;
 use crate::kinds::step_spawn;
@@ -27,43 +29,46 @@ use semantics::Refusal;
 
 pub fn take_step(
     h: Head,
+    totals: &mut [u32],
     deques: &mut [u32],
     frames: &mut [u32],
     pool: &mut [u32],
     step: Step,
 ) -> Out
-    requires { ⌜ Ready (core h (now deques) (now frames) (now pool)) ⌝ }
-    ensures { λ r. ⌜ Leaves h r (now (deques .exit)) (now (frames .exit)) (now (pool .exit))
-        (stepOn (core h (now (deques .entry)) (now (frames .entry)) (now (pool .entry))) step) ⌝ }
+    requires { ⌜ (length (now totals) ≡ totalCount) × Ready (core h (now totals) (now deques) (now frames) (now pool)) ⌝ }
+    ensures { λ r. ⌜ Leaves h r (now (totals .exit)) (now (deques .exit)) (now (frames .exit)) (now (pool .exit))
+        (stepOn (core h (now (totals .entry)) (now (deques .entry)) (now (frames .entry)) (now (pool .entry))) step) ⌝ }
 {
     match step {
         Step::Spawn(w) => step_spawn(h, deques, frames, pool, w),
-        Step::Return(w) => step_return(h, deques, frames, pool, w),
+        Step::Return(w) => step_return(h, totals, deques, frames, pool, w),
         Step::Steal(w, v) => step_steal(h, deques, frames, pool, w, v),
         Step::Sync(w) => step_sync(h, deques, frames, pool, w),
         Step::Read(w, x) => step_read(h, deques, frames, pool, w, x),
         Step::Write(w, x, v) => step_write(h, deques, frames, pool, w, x, v),
+        Step::Fold(w, r, v) => step_fold(h, deques, frames, pool, w, r, v),
     }
 }
 
 // The record at a place of the tape.
 pub fn step_record(
     h: Head,
+    totals: &mut [u32],
     deques: &mut [u32],
     frames: &mut [u32],
     pool: &mut [u32],
     tape: &[u8],
     at: usize,
 ) -> Out
-    requires { ⌜ Ready (core h (now deques) (now frames) (now pool)) × (at + 8 ≤ length (now tape)) ⌝ }
-    ensures { λ r. ⌜ Leaves h r (now (deques .exit)) (now (frames .exit)) (now (pool .exit))
-        (recordOn (core h (now (deques .entry)) (now (frames .entry)) (now (pool .entry))) (decodeAt (now (tape .entry)) at)) ⌝ }
+    requires { ⌜ (length (now totals) ≡ totalCount) × Ready (core h (now totals) (now deques) (now frames) (now pool)) × (at + 8 ≤ length (now tape)) ⌝ }
+    ensures { λ r. ⌜ Leaves h r (now (totals .exit)) (now (deques .exit)) (now (frames .exit)) (now (pool .exit))
+        (recordOn (core h (now (totals .entry)) (now (deques .entry)) (now (frames .entry)) (now (pool .entry))) (decodeAt (now (tape .entry)) at)) ⌝ }
 {
     let decoded = decode(tape, at);
     let Decoded::Valid(step) = decoded else {
         return refused(h, Refusal::Record);
     };
-    take_step(h, deques, frames, pool, step)
+    take_step(h, totals, deques, frames, pool, step)
 }
 
 // "Each record gives two answer words"
@@ -92,15 +97,16 @@ fn head_with(h: Head, node: u32, place: u32, count: u32) -> Head
 // The tape's records in order, from a sound core. "A refused record gives its refusal and 0, and the tape goes on."
 pub fn run_tape(
     h: Head,
+    totals: &mut [u32],
     deques: &mut [u32],
     frames: &mut [u32],
     pool: &mut [u32],
     tape: &[u8],
     answers: &mut [u32],
 ) -> Head
-    requires { ⌜ Kept (core h (now deques) (now frames) (now pool)) × (2 * (length (now tape) / 8) ≤ length (now answers)) ⌝ }
-    ensures { λ r. ⌜ (recordsResult (core r (now (deques .exit)) (now (frames .exit)) (now (pool .exit))) (now (answers .exit))
-        ≡ runOn (recordsResult (core h (now (deques .entry)) (now (frames .entry)) (now (pool .entry))) (now (answers .entry))) 0 (recordsOf (now (tape .entry))))
+    requires { ⌜ Kept (core h (now totals) (now deques) (now frames) (now pool)) × (2 * (length (now tape) / 8) ≤ length (now answers)) ⌝ }
+    ensures { λ r. ⌜ (recordsResult (core r (now (totals .exit)) (now (deques .exit)) (now (frames .exit)) (now (pool .exit))) (now (answers .exit))
+        ≡ runOn (recordsResult (core h (now (totals .entry)) (now (deques .entry)) (now (frames .entry)) (now (pool .entry))) (now (answers .entry))) 0 (recordsOf (now (tape .entry))))
         × (r ≡ renewed h (r .numbers .«free_node») (r .numbers .«free_place») (r .«free_count»)) ⌝ }
 {
     let mut free_node = h.numbers.free_node;
@@ -112,7 +118,7 @@ pub fn run_tape(
         let at = i * 8;
         i += 1;
         let head = head_with(h, free_node, free_place, free_count);
-        let out = step_record(head, deques, frames, pool, tape, at);
+        let out = step_record(head, totals, deques, frames, pool, tape, at);
         free_node = out.free_node;
         free_place = out.free_place;
         free_count = out.free_count;

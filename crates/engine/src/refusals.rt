@@ -6,7 +6,7 @@ ghost use Prim.Native.Nat.{_≤_};
 ghost use lib.Dec.{eqb, ltb};
 ghost use lib.ListN.{length};
 ghost use Rattle.words.specs.Basics.{all};
-ghost use Rattle.frames.specs.Widths.{maxWorkers, dequePlaces, dequeWords};
+ghost use Rattle.frames.specs.Widths.{maxWorkers, dequeWords};
 ghost use Rattle.frames.specs.Deques.{size};
 ghost use Rattle.semantics.specs.Core.{stealTests};
 ghost use Rattle.engine.specs.Promises.{core, verdict, SizesIn, IsActing};
@@ -36,7 +36,7 @@ fn all_idle(deques: &[u32]) -> bool
 // 8, 9 and 10, or the place of the frame that worker w executes, and how many it has.
 pub fn acting(h: Head, deques: &[u32], w: u32) -> Acting
     requires { ⌜ SizesIn (h .numbers .workers) (now deques) ⌝ }
-    ensures { λ r. ⌜ IsActing (core h (now (deques .entry)) [] []) w r ⌝ }
+    ensures { λ r. ⌜ IsActing (core h [] (now (deques .entry)) [] []) w r ⌝ }
 {
     if w >= h.numbers.workers {
         return Acting::Refuse(Refusal::NoWorker);
@@ -65,7 +65,7 @@ fn no_victim(workers: u32, deques: &[u32], v: u32) -> bool
 // 8, 9, 11 and 12: of a steal.
 pub fn steal_verdict(h: Head, deques: &[u32], w: u32, v: u32) -> Verdict
     requires { ⌜ SizesIn (h .numbers .workers) (now deques) ⌝ }
-    ensures { λ r. ⌜ r ≡ verdict (stealTests (core h (now (deques .entry)) [] []) w v) ⌝ }
+    ensures { λ r. ⌜ r ≡ verdict (stealTests (core h [] (now (deques .entry)) [] []) w v) ⌝ }
 {
     if w >= h.numbers.workers {
         return Verdict::Refuse(Refusal::NoWorker);

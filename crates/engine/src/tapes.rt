@@ -1,10 +1,14 @@
 // A tape, over parts that have their lengths: refusals 4, 5 and 6, then the records.
 ghost use mathlib.Core.Path.{_≡_};
-ghost use Rattle.semantics.specs.Entries.{headOf, tapeWith, unfitTape};
+ghost use Prim.Native.Nat.{_*_, _/_, _≤_};
+ghost use lib.ListN.{length};
+ghost use Rattle.semantics.specs.Entries.{headOf, coreOf, recordsResult, recordsOf, runOn, tapeWith, unfitTape};
 ghost use Rattle.semantics.specs.Promises.{parts, Fits, IsTape};
-ghost use Rattle.engine.specs.Promises.{checkNumber, freeIn};
+ghost use Rattle.semantics.specs.Ranges.{Kept};
+ghost use Rattle.engine.specs.Promises.{checkNumber, freeIn, IsRun};
 use crate::answers::refusal_number;
-use crate::checking::check;
+use crate::checking::check_state;
+use crate::numbers::HEAD_COUNT;
 use crate::numbers::numbers_in;
 use crate::numbers::put_free;
 use crate::records::run_tape;
@@ -55,6 +59,34 @@ fn free_in(checked: Checked) -> u32
     }
 }
 
+// The records of a tape, from a sound state with so many free nodes.
+fn run_on(
+    numbers: &mut [u32],
+    deques: &mut [u32],
+    frames: &mut [u32],
+    pool: &mut [u32],
+    bytes: &[u8],
+    answers: &mut [u32],
+    free_count: u32,
+)
+    requires { ⌜ Fits (parts (now numbers) (now deques) (now frames)) × Kept (coreOf (parts (now numbers) (now deques) (now frames)) (now pool) «free_count»)
+        × (2 * (length (now bytes) / 8) ≤ length (now answers)) ⌝ }
+    ensures { λ _. ⌜ IsRun (runOn (recordsResult (coreOf (parts (now (numbers .entry)) (now (deques .entry)) (now (frames .entry))) (now (pool .entry)) «free_count») (now (answers .entry))) 0 (recordsOf (now (bytes .entry))))
+        (now (numbers .exit)) (now (deques .exit)) (now (frames .exit)) (now (pool .exit)) (now (answers .exit)) ⌝ }
+{
+    let first = head_of(numbers_in(numbers), free_count);
+    let last = run_tape(
+        first,
+        &mut numbers[HEAD_COUNT..],
+        deques,
+        frames,
+        pool,
+        bytes,
+        answers,
+    );
+    put_free(numbers, last.numbers.free_node, last.numbers.free_place);
+}
+
 // "a tape checks once"
 pub fn tape_on(
     numbers: &mut [u32],
@@ -72,24 +104,23 @@ pub fn tape_on(
     if unfit_tape(bytes, answers) {
         return refusal_number(Refusal::Tape);
     }
-    let first = numbers_in(numbers);
     if bytes.len() == 0 {
-        let only = check(first, deques, frames, pool, work);
+        let only = check_state(numbers, deques, frames, pool, work);
         return check_number(only);
     }
-    let checked = check(first, deques, frames, pool, work);
+    let checked = check_state(numbers, deques, frames, pool, work);
     let refused = check_number(checked);
     if refused != 0 {
         return refused;
     }
-    let last = run_tape(
-        head_of(first, free_in(checked)),
+    run_on(
+        numbers,
         deques,
         frames,
         pool,
         bytes,
         answers,
+        free_in(checked),
     );
-    put_free(numbers, last.numbers.free_node, last.numbers.free_place);
     0
 }

@@ -1,5 +1,4 @@
 -- Refused, with the parts cleared, or started: the ways out are in `proofs.Starts`.
-use mathlib.Core.Path.{_≡_}
 use Prim.Native.Nat.{_≤_, _/_}
 use native.Mathlib.Omega.{arith}
 use lib.ListN.{length}

@@ -1,4 +1,4 @@
--- A part has another length, or the engine's start: the ways out are in `proofs.Ways`.
+-- A part has another length, or the engine's start: the ways out are in `proofs.Fitting`.
 use borrow.Author.Tests.{not-true, not-false}
 use Rattle.engine.proofs.Fitting.{fit, start-unfit, start-fit}
 use borrow.Author.Needs.{needs}

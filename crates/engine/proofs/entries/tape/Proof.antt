@@ -1,4 +1,4 @@
--- A part has another length, or the engine's tape: the ways out are in `proofs.Ways`.
+-- A part has another length, or the engine's tape: the ways out are in `proofs.Fitting`.
 use borrow.Author.Tests.{not-true, not-false}
 use Rattle.engine.proofs.Fitting.{fit, tape-unfit, tape-fit}
 use borrow.Author.Needs.{needs}

@@ -1,5 +1,4 @@
 -- Read, or zeros: the ways out are in `proofs.SaveLoad`.
-use mathlib.Core.Path.{_≡_, ap, _∙_}
 use native.Mathlib.Omega.{arith}
 use Rattle.engine.proofs.SaveLoad.{zero-parts, load-zeros, load-kept}
 use borrow.Author.Needs.{needs}

@@ -1,10 +1,10 @@
 -- Refused by 17 or 18, by 5, by a pool that is too small, by the check, or read: the ways out are in `proofs.SaveLoad`.
-use mathlib.Core.Path.{_≡_, sym, ap, _∙_}
+use mathlib.Core.Path.{_≡_}
 use mathlib.Core.List.{[]}
 use native.Mathlib.Omega.{arith}
 use Rattle.image.specs.Image.{imageCheck}
 use Rattle.image.specs.declared.ImageCheck.{ImageCheck}
-use Rattle.image.specs.Theory.Promises.{whole-block, same-nodes}
+use Rattle.image.specs.Theory.Promises.{whole-block}
 use Rattle.engine.proofs.SaveLoad.{lengths-of, image-refused, image-good, load-short, load-small, load-unsound, load-read}
 use borrow.Author.Needs.{needs}
 use Rattle.engine.proofs.images.read_image.Statement.{statement}
@@ -27,13 +27,10 @@ nodes-of c = c .before
 abbrev room-of : tie.After-read-parts → tie.Else2
 room-of c = c .before .before .before .before .before .before
 
-abbrev read-of : tie.After-numbers-in → tie.After-read-parts
-read-of c = c .before .before .before .before .before .before .before .before .before .before
+abbrev read-of : tie.After-check-state → tie.After-read-parts
+read-of c = c .before .before .before .before .before .before .before .before .before .before .before .before .before .before
 
-abbrev numbers-of : tie.After-check → tie.After-numbers-in
-numbers-of c = c .before .before .before .before .before
-
-abbrev check-of : tie.After-check-number → tie.After-check
+abbrev check-of : tie.After-check-number → tie.After-check-state
 check-of c = c .before .before .before
 
 right : (c : tie.Else1) → let b = bytes-of (c .before) in imageCheck (start-of b .args .image .now) ≡ ImageCheck.Good
@@ -81,23 +78,21 @@ returns-4 c =
     let t = z .before .before in
     let r = t .before in
     let k = check-of r in
-    let u = numbers-of k in
-    let p = read-of u in
+    let p = read-of k in
     let m = room-of p in
     let n = nodes-of m in
     let s = start-of (bytes-of (right-of n .before)) in
-    load-unsound _ _ _ (s .args .pool .now) (s .args .work .now) (s .args .image .now) (right (right-of n)) _ (n .nodes-in .ensures) (m .if2 .left) (omega (arith, p .before .before .before .before .before .if3 .left)) _ _ _ _ (p .read-parts .ensures) _ (u .numbers-in .ensures) _ _ (k .check .ensures) _ (r .check-number .ensures) (omega (arith, t .if4 .taken)) _ (z .clear-nodes2 .ensures)
+    load-unsound _ _ _ (s .args .pool .now) (s .args .work .now) (s .args .image .now) (right (right-of n)) _ (n .nodes-in .ensures) (m .if2 .left) (omega (arith, p .before .before .before .before .before .if3 .left)) _ _ _ _ (p .read-parts .ensures) _ _ (k .check-state .ensures) _ (r .check-number .ensures) (omega (arith, t .if4 .taken)) _ (z .clear-nodes2 .ensures)
 
 returns-5 : tie.Need-returns-5
 returns-5 c =
     let r = c .before in
     let k = check-of r in
-    let u = numbers-of k in
-    let p = read-of u in
+    let p = read-of k in
     let m = room-of p in
     let n = nodes-of m in
     let s = start-of (bytes-of (right-of n .before)) in
-    load-read (s .args .numbers .now) (s .args .deques .now) (s .args .frames .now) (s .args .pool .now) (s .args .work .now) (s .args .image .now) (right (right-of n)) _ (n .nodes-in .ensures) (m .if2 .left) (omega (arith, p .before .before .before .before .before .if3 .left)) _ _ _ _ (p .read-parts .ensures) _ (u .numbers-in .ensures) _ _ (k .check .ensures) _ (r .check-number .ensures) (c .if4 .left)
+    load-read (s .args .numbers .now) (s .args .deques .now) (s .args .frames .now) (s .args .pool .now) (s .args .work .now) (s .args .image .now) (right (right-of n)) _ (n .nodes-in .ensures) (m .if2 .left) (omega (arith, p .before .before .before .before .before .if3 .left)) _ _ _ _ (p .read-parts .ensures) _ _ (k .check-state .ensures) _ (r .check-number .ensures) (c .if4 .left)
 
 pub read-image-spec : {M : Type 1} → statement M
 read-image-spec =
@@ -119,7 +114,6 @@ read-image-spec =
     (λ c. search needs)
     returns-3
     read-parts-requires
-    (λ c κs. search needs)
     (λ c κs. search needs)
     (λ c κs. search needs)
     (λ c κs. search needs)

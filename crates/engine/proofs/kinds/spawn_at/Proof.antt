@@ -17,7 +17,7 @@ refused-requires c κs = search needs
 returns : tie.Need-returns
 returns c =
     let s = c .before .before .before .before .before .before in
-    spawn-full (s .args .h) _ _ _ (s .args .w) _ (c .before .if1 .taken) (c .refused .ensures)
+    λ ts. spawn-full (s .args .h) ts _ _ _ (s .args .w) _ (c .before .if1 .taken) (c .refused .ensures)
 
 frame-at-requires : tie.Need-frame-at-requires
 frame-at-requires c κs = search needs
@@ -54,7 +54,7 @@ returns-2 c =
     let f = retained .before .before in
     let e = else-of f in
     let s = start-of e in
-    spawn-done (s .args .h) _ _ _ (s .args .w) _ _ (s .pre .1 .acting) (f .frame-at .ensures) (e .if1 .left) _ _ _ _ _ (retained .retain .ensures) (spawned .spawn-frame .ensures) (c .add .ensures)
+    λ ts. spawn-done (s .args .h) ts _ _ _ (s .args .w) _ _ (s .pre .1 .acting) (f .frame-at .ensures) (e .if1 .left) _ _ _ _ _ (retained .retain .ensures) (spawned .spawn-frame .ensures) (c .add .ensures)
 
 pub spawn-at-spec : {M : Type 1} → statement M
 spawn-at-spec =

@@ -27,7 +27,7 @@ returns : tie.Need-returns
 returns c =
     let v = c .before .before .before .before in
     let s = start-of v in
-    steal-refused (s .args .h) _ _ _ (s .args .w) (s .args .v) _ _ _ (v .steal-verdict .ensures) (c .before .before .verdict .given .1) (c .refused .ensures)
+    λ ts. steal-refused (s .args .h) ts _ _ _ (s .args .w) (s .args .v) _ _ _ (v .steal-verdict .ensures) (c .before .before .verdict .given .1) (c .refused .ensures)
 
 enum-told : tie.Need-enum-told
 enum-told c = search needs
@@ -37,7 +37,7 @@ top-at-requires c κs =
     let t = c .before .before in
     let v = verdict-of t in
     let s = start-of v in
-    let a = steal-asks (s .args .h) _ _ _ (s .args .w) (s .args .v) (s .pre) _ (v .steal-verdict .ensures) (t .enum-told .given .1) in
+    let a = steal-asks (s .args .h) _ _ _ _ (s .args .w) (s .args .v) (s .pre) _ (v .steal-verdict .ensures) (t .enum-told .given .1) in
     (a .0, a .2)
 
 frame-at-requires : tie.Need-frame-at-requires
@@ -45,14 +45,14 @@ frame-at-requires c κs =
     let t = c .before .before .before in
     let v = verdict-of t in
     let s = start-of v in
-    top-asks (s .args .h) _ _ _ (s .args .w) (s .args .v) (s .pre) _ (v .steal-verdict .ensures) (t .enum-told .given .1) _ (c .top-at .ensures)
+    top-asks (s .args .h) _ _ _ _ (s .args .w) (s .args .v) (s .pre) _ (v .steal-verdict .ensures) (t .enum-told .given .1) _ (c .top-at .ensures)
 
 steal-frame-requires : tie.Need-steal-frame-requires
 steal-frame-requires c κs =
     let t = c .before .before .before .before .before in
     let v = verdict-of t in
     let s = start-of v in
-    steal-asks (s .args .h) _ _ _ (s .args .w) (s .args .v) (s .pre) _ (v .steal-verdict .ensures) (t .enum-told .given .1)
+    steal-asks (s .args .h) _ _ _ _ (s .args .w) (s .args .v) (s .pre) _ (v .steal-verdict .ensures) (t .enum-told .given .1)
 
 unchanged-requires : tie.Need-unchanged-requires
 unchanged-requires c κs = search needs
@@ -69,7 +69,7 @@ returns-2 c =
     let t = f .before .before .before .before in
     let v = verdict-of t in
     let s = start-of v in
-    steal-done (s .args .h) _ _ _ (s .args .w) (s .args .v) _ _ _ _ _ (v .steal-verdict .ensures) (t .enum-told .given .1) (f .before .top-at .ensures) (f .frame-at .ensures) (c .before .before .before .steal-frame .ensures) (c .unchanged .ensures)
+    λ ts. steal-done (s .args .h) ts _ _ _ (s .args .w) (s .args .v) _ _ _ _ _ (v .steal-verdict .ensures) (t .enum-told .given .1) (f .before .top-at .ensures) (f .frame-at .ensures) (c .before .before .before .steal-frame .ensures) (c .unchanged .ensures)
 
 pub step-steal-spec : {M : Type 1} → statement M
 step-steal-spec =

@@ -22,7 +22,7 @@ same-length-2 c = search needs
 returns : tie.Need-returns
 returns c =
     let s = c .before .before .before .before .before .before .before .before .before .before .before .before .before in
-    sync-done (s .args .h) _ _ _ (s .args .w) _ _ _ _ (c .before .before .before .before .before .sync-frame .ensures) (c .unchanged .ensures)
+    λ ts. sync-done (s .args .h) ts _ _ _ (s .args .w) _ _ _ _ (c .before .before .before .before .before .sync-frame .ensures) (c .unchanged .ensures)
 
 pub sync-at-spec : {M : Type 1} → statement M
 sync-at-spec =

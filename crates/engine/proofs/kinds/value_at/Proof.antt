@@ -14,7 +14,7 @@ refused-requires c κs = search needs
 returns : tie.Need-returns
 returns c =
     let s = c .before .before .before .before .before .before in
-    read-none (s .args .h) _ _ _ (s .args .w) _ (s .args .x) (c .before .if1 .taken) (c .refused .ensures)
+    λ ts. read-none (s .args .h) ts _ _ _ (s .args .w) _ (s .args .x) (c .before .if1 .taken) (c .refused .ensures)
 
 root-at-requires : tie.Need-root-at-requires
 root-at-requires c κs = search needs
@@ -40,7 +40,7 @@ returns-2 c =
     let root = read .before in
     let e = root .before .before .before in
     let s = start-of e in
-    read-done (s .args .h) _ _ _ (s .args .w) _ _ (s .args .x) (s .pre .1 .acting) (root .root-at .ensures) (e .if1 .left) _ _ (read .read-at .ensures) (c .unchanged .ensures)
+    λ ts. read-done (s .args .h) ts _ _ _ (s .args .w) _ _ (s .args .x) (s .pre .1 .acting) (root .root-at .ensures) (e .if1 .left) _ _ (read .read-at .ensures) (c .unchanged .ensures)
 
 pub value-at-spec : {M : Type 1} → statement M
 value-at-spec =

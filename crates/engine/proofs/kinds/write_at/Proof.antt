@@ -29,7 +29,7 @@ refused-requires c κs = search needs
 returns : tie.Need-returns
 returns c =
     let s = c .before .before .before .before .before .before in
-    write-none (s .args .h) _ _ _ (s .args .w) _ (s .args .x) (s .args .v) (c .before .if1 .taken) (c .refused .ensures)
+    λ ts. write-none (s .args .h) ts _ _ _ (s .args .w) _ (s .args .x) (s .args .v) (c .before .if1 .taken) (c .refused .ensures)
 
 root-at-requires : tie.Need-root-at-requires
 root-at-requires c κs = search needs
@@ -58,7 +58,7 @@ returns-2 c =
     let root = root-of found in
     let e = within-of root in
     let s = start-of e in
-    write-leaf (s .args .h) _ _ _ (s .args .w) _ _ (s .args .x) (s .pre .1 .acting) (root .root-at .ensures) (e .if1 .left) (found .first-shared .ensures) (not-true _ (alone .if2 .taken)) _ _ (s .args .v) (stored .set-value .ensures) (c .unchanged .ensures)
+    λ ts. write-leaf (s .args .h) ts _ _ _ (s .args .w) _ _ (s .args .x) (s .pre .1 .acting) (root .root-at .ensures) (e .if1 .left) (found .first-shared .ensures) (not-true _ (alone .if2 .taken)) _ _ (s .args .v) (stored .set-value .ensures) (c .unchanged .ensures)
 
 refused-requires-2 : tie.Need-refused-requires-2
 refused-requires-2 c κs = search needs
@@ -71,7 +71,7 @@ returns-3 c =
     let root = root-of found in
     let e = within-of root in
     let s = start-of e in
-    write-full (s .args .h) _ _ _ (s .args .w) _ _ (s .args .x) (s .pre .1 .acting) (root .root-at .ensures) (e .if1 .left) (found .first-shared .ensures) (not-false _ (shared .if2 .left)) _ (s .args .v) (full .if3 .taken) (c .refused2 .ensures)
+    λ ts. write-full (s .args .h) ts _ _ _ (s .args .w) _ _ (s .args .x) (s .pre .1 .acting) (root .root-at .ensures) (e .if1 .left) (found .first-shared .ensures) (not-false _ (shared .if2 .left)) _ (s .args .v) (full .if3 .taken) (c .refused2 .ensures)
 
 write-shared-requires : tie.Need-write-shared-requires
 write-shared-requires c κs =
@@ -99,7 +99,7 @@ returns-4 c =
     let root = root-of found in
     let e = within-of root in
     let s = start-of e in
-    write-done (s .args .h) _ _ _ (s .args .w) _ _ (s .args .x) (s .pre .1 .acting) (root .root-at .ensures) (e .if1 .left) (found .first-shared .ensures) (not-false _ (shared .if2 .left)) (room .if3 .left) _ _ (s .args .v) _ _ _
+    λ ts. write-done (s .args .h) ts _ _ _ (s .args .w) _ _ (s .args .x) (s .pre .1 .acting) (root .root-at .ensures) (e .if1 .left) (found .first-shared .ensures) (not-false _ (shared .if2 .left)) (room .if3 .left) _ _ (s .args .v) _ _ _
     (written .write-shared .ensures) (stored .set-root .ensures)
 
 pub write-at-spec : {M : Type 1} → statement M

@@ -1,9 +1,8 @@
 -- The tests in order; the ways out are in `proofs.Laws`.
-use mathlib.Core.Path.{_≡_, sym, _∙_}
+use mathlib.Core.Path.{sym, _∙_}
 use Prim.Native.Nat.{_<_}
 use native.Mathlib.Omega.{arith}
 use Rattle.frames.specs.Widths.{maxWorkers}
-use Rattle.frames.specs.Deques.{size}
 use Rattle.engine.proofs.Laws.{idles-is, acting-no-worker, acting-passes, acting-main-returned, acting-idle}
 use borrow.Author.Needs.{needs}
 use Rattle.engine.proofs.refusals.acting.Statement.{statement}
