@@ -4,27 +4,24 @@ use mathlib.Core.Logic.{_≢_}
 use mathlib.Core.List.{List}
 use Prim.Native.Nat.{ℕ}
 use native.Mathlib.Omega.{arith}
-use lib.ListN.{length, getD}
+use lib.ListN.{length}
 use borrow.Author.Tests.{eq-eqb, ne-eqb}
-use Rattle.soundness.specs.Soundness.{freeNodes}
-use Rattle.semantics.specs.Entries.{State, zeros, startOn, TapeResult, tapeOn}
+use Rattle.semantics.specs.Entries.{State, zeros, totalsOf, chainFree, startOn, TapeResult, tapeOn}
 use Rattle.lines.specs.Lines.{refusedLine, acceptedLines, tapeLines, runLines}
 use Rattle.lines.specs.Output.{storeAll, StoresUpTo}
 
 -- the same bytes
-same : {m : ℕ} (o : List ℕ) (at : ℕ) {o' : List ℕ} {k : ℕ} (xs ys : List ℕ) → ys ≡ xs → StoresUpTo m o at xs o' k → StoresUpTo m o at ys o' k
+pub same : {m : ℕ} (o : List ℕ) (at : ℕ) {o' : List ℕ} {k : ℕ} (xs ys : List ℕ) → ys ≡ xs → StoresUpTo m o at xs o' k → StoresUpTo m o at ys o' k
 same o at xs ys e s = (s .0 ∙ ap (λ (bs : List ℕ). storeAll (o, at) bs) (sym e), omega (arith, s .1, ap length e))
 
 module _ {m : ℕ} (o : List ℕ) (at : ℕ) {o' : List ℕ} {k : ℕ} (r : ℕ) where
   pub tape-refused : (p : TapeResult) → r ≡ p .result → r ≢ 0 → StoresUpTo m o at (refusedLine r) o' k → StoresUpTo m o at (tapeLines p) o' k
   tape-refused p e d s = same o at (refusedLine r) (tapeLines p) (rw (← e, ne-eqb r 0 d)) s
 
-  -- the free nodes are counted by the numbers 2 and 3 of the state
-  pub tape-accepted : (p : TapeResult) (answers : List ℕ) (state : State) (ws : List ℕ) (nodes first : ℕ) → r ≡ p .result → r ≡ 0
-      → answers ≡ p .answers → state ≡ p .state → ws ≡ p .pool → nodes ≡ getD (state .numbers) 2 0 → first ≡ getD (state .numbers) 3 0
-      → StoresUpTo m o at (acceptedLines answers (length (freeNodes nodes ws first))) o' k → StoresUpTo m o at (tapeLines p) o' k
-  tape-accepted p answers state ws nodes first e d an st po n f s =
-      same o at (acceptedLines answers (length (freeNodes nodes ws first))) (tapeLines p) (rw (n, f, ← e, eq-eqb r 0 d, ← an, ← st, ← po)) s
+  pub tape-accepted : (p : TapeResult) (answers : List ℕ) (state : State) (ws : List ℕ) → r ≡ p .result → r ≡ 0 → answers ≡ p .answers → state ≡ p .state → ws ≡ p .pool
+      → StoresUpTo m o at (acceptedLines answers (chainFree state ws) (totalsOf state)) o' k → StoresUpTo m o at (tapeLines p) o' k
+  tape-accepted p answers state ws e d an st po s =
+      same o at (acceptedLines answers (chainFree state ws) (totalsOf state)) (tapeLines p) (rw (← e, eq-eqb r 0 d, ← an, ← st, ← po)) s
 
   module _ (workers : ℕ) (vs vs' ws work records answers : List ℕ) (v : vs' ≡ vs) (e : r ≡ startOn zeros workers vs' ws .result) where
     pub run-refused : r ≢ 0 → StoresUpTo m o at (refusedLine r) o' k → StoresUpTo m o at (runLines workers vs ws work records answers) o' k

@@ -3,3 +3,4 @@ pub mod Loops
 pub mod Whole
 pub mod Calls
 pub mod Sizes
+pub mod LastLines

@@ -7,14 +7,12 @@ use native.Mathlib.Numerals.{add-one}
 use native.Mathlib.Omega.{arith}
 use lib.ListN.{length, getD, take, drop, set, drop-of-length-le}
 use lib.Dec.{ltb}
-use lib.Seq.{drop-cons, take-all, take-suc-set}
+use lib.Seq.{take-all, take-suc-set}
 use borrow.Author.Tests.{eq-eqb, ne-eqb}
 use Rattle.words.specs.Basics.{none, follow}
 use Rattle.words.specs.Tests.{decided, lt-of, ge-of}
 use Rattle.lines.specs.Lines.{decimal, line, number32At, numbersAt, answerLines}
-
-pub drop-more : (bs : List ℕ) (i : ℕ) → i < length bs → drop i bs ≡ getD bs i 0 ∷ drop (i + 1) bs
-drop-more bs i h = rw (add-one, drop-cons bs i 0)
+use Rattle.lines.specs.Theory.Returned.{drop-more, drop-two}
 
 -- ---- the values
 
@@ -42,9 +40,7 @@ values-end vs i m input at h l e = let z : m - i ≡ 0 = omega arith in sym (rw 
 pub answers-turn : (ws : List ℕ) (i : ℕ) → i + 1 < length ws
     → answerLines (drop i ws) ≡ line (decimal (getD ws i 0) ∷ decimal (getD ws (i + 1) 0) ∷ []) ++ answerLines (drop (i + 2) ws)
 unfolding answerLines
-answers-turn ws i h =
-    let e : i + 1 + 1 ≡ i + 2 = omega arith in
-    ap answerLines (drop-more ws i (omega arith) ∙ ap (λ (l : List ℕ). getD ws i 0 ∷ l) (drop-more ws (i + 1) h ∙ ap (λ (k : ℕ). getD ws (i + 1) 0 ∷ drop k ws) e))
+answers-turn ws i h = ap answerLines (drop-two ws i h)
 
 pub answers-end : (ws : List ℕ) (i : ℕ) → length ws ≤ i + 1 → answerLines (drop i ws) ≡ []
 unfolding answerLines

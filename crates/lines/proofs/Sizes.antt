@@ -2,7 +2,7 @@
 use mathlib.Core.Path.{ap}
 use mathlib.Core.Logic.{inl, inr}
 use mathlib.Core.List.{List, [], _∷_, _++_}
-use Prim.Native.Nat.{ℕ, zero, suc, _+_, _*_, _/_, _≤_, _<_}
+use Prim.Native.Nat.{ℕ, zero, suc, _*_, _/_, _≤_, _<_}
 use native.Mathlib.Omega.{arith}
 use lib.ListN.{length, getD, length-append}
 use lib.Dec.{eqb, ltb}
@@ -10,7 +10,7 @@ use Rattle.words.specs.Basics.{none, follow}
 use Rattle.words.specs.Tests.{decided, lt-of, ge-of}
 use Rattle.pool.specs.Pool.{nextFree}
 use Rattle.soundness.specs.Soundness.{freeNodes}
-use Rattle.lines.specs.Lines.{refusedLine, digit, decimal, line, freeWord, answerLines, acceptedLines}
+use Rattle.lines.specs.Lines.{refusedLine, digit, decimal, line, answerLines, freeLine}
 use Rattle.lines.proofs.Numbers.{decimal-one, decimal-more}
 
 -- 10, 100, ..
@@ -35,7 +35,10 @@ two-short a b p q =
 pub three-short : (a b c : ℕ) → a < 4294967296 → b < 4294967296 → c < 4294967296 → length (line (decimal a ∷ decimal b ∷ decimal c ∷ [])) ≤ 33
 three-short a b c p q r = omega (arith, length-append (decimal a) (32 ∷ line (decimal b ∷ decimal c ∷ [])), two-short b c q r, word-short a (omega arith))
 
-answers-short : (ws : List ℕ) → ((i : ℕ) → getD ws i 0 < 4294967296) → length (answerLines ws) ≤ 11 * length ws
+pub four-short : (a b c d : ℕ) → a < 4294967296 → b < 4294967296 → c < 4294967296 → d < 4294967296 → length (line (decimal a ∷ decimal b ∷ decimal c ∷ decimal d ∷ [])) ≤ 44
+four-short a b c d p q r s = omega (arith, length-append (decimal a) (32 ∷ line (decimal b ∷ decimal c ∷ decimal d ∷ [])), three-short b c d q r s, word-short a (omega arith))
+
+pub answers-short : (ws : List ℕ) → ((i : ℕ) → getD ws i 0 < 4294967296) → length (answerLines ws) ≤ 11 * length ws
 unfolding answerLines
 answers-short [] h = omega arith
 answers-short (a ∷ []) h = omega arith
@@ -52,9 +55,8 @@ follow-short (suc c) next a = elim (decided (eqb a none)) [
 pub refused-short : (k : ℕ) → k < 4294967296 → length (refusedLine k) ≤ 19
 refused-short k h = omega (arith, length-append (decimal k) (10 ∷ []), word-short k (omega arith))
 
-pub accepted-short : (ws : List ℕ) (nodes : ℕ) (pool : List ℕ) (first : ℕ) → ((i : ℕ) → getD ws i 0 < 4294967296) → nodes < 4294967296
-    → length (acceptedLines ws (length (freeNodes nodes pool first))) ≤ 11 * length ws + 19
-accepted-short ws nodes pool first h n =
+pub free-short : (nodes : ℕ) (pool : List ℕ) (first : ℕ) → nodes < 4294967296 → length (freeLine (length (freeNodes nodes pool first))) ≤ 19
+free-short nodes pool first n =
     let free : ℕ = length (freeNodes nodes pool first) in
     let f : free ≤ suc nodes = follow-short (suc nodes) (nextFree pool) first in
-    omega (arith, length-append (answerLines ws) (line (freeWord ∷ decimal free ∷ [])), length-append (decimal free) (10 ∷ []), answers-short ws h, word-short free (omega arith))
+    omega (arith, length-append (decimal free) (10 ∷ []), word-short free (omega arith))

@@ -27,9 +27,9 @@ lines-fit input workers n nodes w p q h = rw (← w, ← p, ← q, h)
 
 pub output-fit : (input old : List ℕ) (workers n nodes : ℕ) {mid new : List ℕ} {to r : ℕ} → workers ≡ workersIn input → n ≡ splittersIn input → nodes ≡ nodesIn input
     → unfit (length input) n nodes ≡ false → StoresUpTo 33 old 0 (line (decimal workers ∷ decimal n ∷ decimal nodes ∷ [])) mid to
-    → StoresUpTo 45075 mid to (fitLines workers n nodes input) new r → IsOutput input old new r
+    → StoresUpTo 45127 mid to (fitLines workers n nodes input) new r → IsOutput input old new r
 output-fit input old workers n nodes w p q h s t =
-    is-output {most = 45108} input old (omega arith)
+    is-output {most = 45160} input old (omega arith)
     (rw (lines-fit input workers n nodes w p q h) (up-to-then old 0 (line (decimal workers ∷ decimal n ∷ decimal nodes ∷ [])) (fitLines workers n nodes input) s t))
 
 pub fit-numbers : (size n nodes : ℕ) → unfit size n nodes ≡ false → (n ≤ 256) × (nodes ≤ 1024) × (recordsStart n ≤ size) × (size - recordsStart n ≤ 16384)
@@ -59,10 +59,10 @@ length-part k m h = sym (ap length (take-replicate k m h) ∙ length-replicate k
 -- lent as parts of arrays of zeros, and the records as a part of the input
 pub fit-stored : (workers n nodes at : ℕ) (input o : List ℕ) {o' : List ℕ} {r : ℕ} (mv mp mw ma : ℕ)
     → n ≤ mv → 4 * nodes ≤ mp → nodes ≤ mw → 2 * ((length input - recordsStart n) / 8) ≤ ma
-    → StoresUpTo (11 * length (take (2 * ((length input - recordsStart n) / 8)) (replicate {A = ℕ} ma 0)) + 19) o at
+    → StoresUpTo (11 * length (take (2 * ((length input - recordsStart n) / 8)) (replicate {A = ℕ} ma 0)) + 71) o at
     (runLines workers (numbersAt (length (take n (replicate {A = ℕ} mv 0))) input 8) (take (4 * nodes) (replicate mp 0)) (take nodes (replicate mw 0))
     (take (length input - recordsStart n) (drop (recordsStart n) input)) (take (2 * ((length input - recordsStart n) / 8)) (replicate ma 0))) o' r
-    → StoresUpTo (11 * ma + 19) o at (fitLines workers n nodes input) o' r
+    → StoresUpTo (11 * ma + 71) o at (fitLines workers n nodes input) o' r
 fit-stored workers n nodes at input o mv mp mw ma v p w a s =
     let records : List ℕ = drop (recordsStart n) input in
     let size : ℕ = length input - recordsStart n in

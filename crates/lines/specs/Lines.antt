@@ -1,11 +1,11 @@
 -- Document 01's "The program splitrun and its lines": the whole output of an input, as bytes. Definitions only.
-use mathlib.Core.Bool.{Bool, true, false, cond, _||_}
+use mathlib.Core.Bool.{Bool, true, false, cond, _||_, _&&_}
 use mathlib.Core.List.{List, [], _∷_, _++_}
 use Prim.Native.Nat.{ℕ, zero, suc, _+_, _-_, _*_, _/_, _%_}
 use lib.ListN.{length, getD, drop, replicate}
 use lib.Dec.{eqb, ltb}
 use Rattle.model.specs.Record.{little}
-use Rattle.semantics.specs.Entries.{zeros, chainFree, StartResult, startOn, TapeResult, tapeOn}
+use Rattle.semantics.specs.Entries.{zeros, totalsOf, chainFree, StartResult, startOn, TapeResult, tapeOn}
 
 -- ---- text
 
@@ -28,7 +28,7 @@ line [] = 10 ∷ []
 line (f ∷ []) = f ++ 10 ∷ []
 line (f ∷ g ∷ fs) = f ++ 32 ∷ line (g ∷ fs)
 
--- `unfit`, `refused`, `free`
+-- `unfit`, `refused`, `free`, and R-5's `reduced`
 abbrev pub unfitWord : List ℕ
 unfitWord = 117 ∷ 110 ∷ 102 ∷ 105 ∷ 116 ∷ []
 
@@ -37,6 +37,9 @@ refusedWord = 114 ∷ 101 ∷ 102 ∷ 117 ∷ 115 ∷ 101 ∷ 100 ∷ []
 
 abbrev pub freeWord : List ℕ
 freeWord = 102 ∷ 114 ∷ 101 ∷ 101 ∷ []
+
+abbrev pub reducedWord : List ℕ
+reducedWord = 114 ∷ 101 ∷ 100 ∷ 117 ∷ 99 ∷ 101 ∷ 100 ∷ []
 
 -- ---- the input
 
@@ -87,12 +90,29 @@ refusedLine k = line (refusedWord ∷ decimal k ∷ [])
 abbrev pub callLines : ℕ → List ℕ → List ℕ
 callLines k ls = cond (eqb k 0) ls (refusedLine k)
 
--- the lines of the answer words, "last `free` and the free nodes"
-abbrev pub acceptedLines : List ℕ → ℕ → List ℕ
-acceptedLines answers free = answerLines answers ++ line (freeWord ∷ decimal free ∷ [])
+-- "Main has returned once a return of the run was answered with outcome 3.": the two words of such an answer, among the answer words
+abbrev pub isEnd : ℕ → ℕ → Bool
+isEnd a b = eqb a 102 && eqb b 3
+
+unfoldable pub mainReturned : List ℕ → Bool
+mainReturned [] = false
+mainReturned (a ∷ []) = false
+mainReturned (a ∷ b ∷ ws) = isEnd a b || mainReturned ws
+
+-- R-5: "Only then splitrun prints, as a line after `free`, `reduced`, the sum, the minimum, the multiplier and the addend", of the totals ts
+abbrev pub reducedLine : List ℕ → List ℕ
+reducedLine ts = line (reducedWord ∷ decimal (getD ts 0 0) ∷ decimal (getD ts 1 0) ∷ decimal (getD ts 2 0) ∷ decimal (getD ts 3 0) ∷ [])
+
+-- "last `free` and the free nodes"
+abbrev pub freeLine : ℕ → List ℕ
+freeLine free = line (freeWord ∷ decimal free ∷ [])
+
+-- the lines of the answer words, that line and the totals
+abbrev pub acceptedLines : List ℕ → ℕ → List ℕ → List ℕ
+acceptedLines answers free ts = answerLines answers ++ (freeLine free ++ cond (mainReturned answers) (reducedLine ts) [])
 
 abbrev pub tapeLines : TapeResult → List ℕ
-tapeLines p = callLines (p .result) (acceptedLines (p .answers) (chainFree (p .state) (p .pool)))
+tapeLines p = callLines (p .result) (acceptedLines (p .answers) (chainFree (p .state) (p .pool)) (totalsOf (p .state)))
 
 -- what follows the first line: of the start, over parts of zeros, then of the tape
 unfoldable pub runLines : ℕ → List ℕ → List ℕ → List ℕ → List ℕ → List ℕ → List ℕ

@@ -12,8 +12,10 @@ use borrow.Author.Tests.{lt-ltb, le-ltb}
 use Rattle.lines.specs.Output.{Buffer, storeByte, storeAll, Stores, StoresUpTo, IsOutput}
 use Rattle.lines.specs.Lines.{linesOf}
 use Rattle.words.specs.Tests.{decided, lt-of}
--- Cut: the first 20,000 bytes of an input print what the whole prints
+-- Cut: the first 20,000 bytes of an input print what the whole prints. Returned, Reduced: when the totals are printed, and which they are (R-5)
 pub mod Cut
+pub mod Returned
+pub mod Reduced
 
 pub store-append : (o : Buffer) (xs ys : List ℕ) → storeAll o (xs ++ ys) ≡ storeAll (storeAll o xs) ys
 unfolding storeAll

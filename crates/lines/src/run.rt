@@ -1,11 +1,14 @@
 // The start, the tape, and the lines that they print.
 ghost use mathlib.Core.Path.{_≡_};
+ghost use mathlib.Core.Bool.{cond};
+ghost use mathlib.Core.List.{[]};
 ghost use Prim.Native.Nat.{_+_, _-_, _*_, _≤_};
 ghost use lib.ListN.{length};
-ghost use Rattle.soundness.specs.Soundness.{freeNodes};
+ghost use Rattle.soundness.specs.Numbers.{numbersIn, totalsIn};
+ghost use Rattle.soundness.specs.Soundness.{freeNodes, freeCount};
 ghost use Rattle.semantics.specs.Entries.{tapeOn};
 ghost use Rattle.semantics.specs.Promises.{parts};
-ghost use Rattle.lines.specs.Lines.{numbersAt, recordsStart, answerLines, refusedLine, acceptedLines, tapeLines, runLines, fitLines};
+ghost use Rattle.lines.specs.Lines.{numbersAt, recordsStart, answerLines, refusedLine, freeLine, mainReturned, reducedLine, acceptedLines, tapeLines, runLines, fitLines};
 ghost use Rattle.lines.specs.Output.{Stores, StoresUpTo, IsOutput};
 use crate::input::is_unfit;
 use crate::input::nodes_in;
@@ -13,16 +16,21 @@ use crate::input::read_values;
 use crate::input::splitters_in;
 use crate::input::workers_in;
 use crate::text::put_bytes;
+use crate::text::put_four;
 use crate::text::put_named;
 use crate::text::put_three;
 use crate::text::put_two;
 use frames::DEQUE_WORDS;
 use frames::FRAME_WORDS;
+use image::NUMBER_COUNT;
 use pool::NONE;
 use pool::left_of;
 use splitter::splitter_start;
 use splitter::splitter_tape;
 use words::word;
+
+// The words of the state's numbers before the totals.
+const HEAD_COUNT: usize = 5;
 
 // "one line per record with its two answer words"
 fn put_answers(out: &mut [u8], at: usize, answers: &[u32]) -> usize
@@ -62,20 +70,54 @@ fn put_refused(out: &mut [u8], at: usize, refusal: u32) -> usize
     put_named(out, at, b"refused ", refusal as usize)
 }
 
-// The lines of the answer words, "last `free` and the free nodes".
-fn put_accepted(
-    out: &mut [u8],
-    at: usize,
-    answers: &[u32],
-    nodes: u32,
-    pool: &[u32],
-    first: u32,
-) -> usize
-    ensures { λ r. ⌜ StoresUpTo (11 * length (now (answers .entry)) + 19) (now (out .entry)) at
-        (acceptedLines (now (answers .entry)) (length (freeNodes nodes (now (pool .entry)) first))) (now (out .exit)) r ⌝ }
+// "a return of the run was answered with outcome 3"
+fn main_returned(answers: &[u32]) -> bool
+    ensures { λ r. ⌜ r ≡ mainReturned (now (answers .entry)) ⌝ }
+{
+    let mut i: usize = 0;
+    while i + 1 < answers.len() {
+        if (answers[i] == 102) & (answers[i + 1] == 3) {
+            return true;
+        }
+        i += 2;
+    }
+    false
+}
+
+// R-5: `reduced` and the totals, once Main has returned.
+fn put_reduced(out: &mut [u8], at: usize, answers: &[u32], numbers: &[u32]) -> usize
+    ensures { λ r. ⌜ StoresUpTo 52 (now (out .entry)) at (cond (mainReturned (now (answers .entry))) (reducedLine (totalsIn (now (numbers .entry)))) []) (now (out .exit)) r ⌝ }
+{
+    if !main_returned(answers) {
+        return at;
+    }
+    let to = put_bytes(out, at, b"reduced ");
+    put_four(
+        out,
+        to,
+        word(numbers, HEAD_COUNT),
+        word(numbers, HEAD_COUNT + 1),
+        word(numbers, HEAD_COUNT + 2),
+        word(numbers, HEAD_COUNT + 3),
+    )
+}
+
+// `free` and the free nodes.
+fn put_free(out: &mut [u8], at: usize, numbers: &[u32], pool: &[u32]) -> usize
+    ensures { λ r. ⌜ StoresUpTo 19 (now (out .entry)) at (freeLine (freeCount (numbersIn (now (numbers .entry))) (now (pool .entry)))) (now (out .exit)) r ⌝ }
+{
+    let free = count_free(word(numbers, 2), pool, word(numbers, 3));
+    put_named(out, at, b"free ", free)
+}
+
+// The lines of the answer words, "last `free` and the free nodes", and the totals.
+fn put_accepted(out: &mut [u8], at: usize, answers: &[u32], numbers: &[u32], pool: &[u32]) -> usize
+    ensures { λ r. ⌜ StoresUpTo (11 * length (now (answers .entry)) + 71) (now (out .entry)) at
+        (acceptedLines (now (answers .entry)) (freeCount (numbersIn (now (numbers .entry))) (now (pool .entry))) (totalsIn (now (numbers .entry)))) (now (out .exit)) r ⌝ }
 {
     let to = put_answers(out, at, answers);
-    put_named(out, to, b"free ", count_free(nodes, pool, first))
+    let next = put_free(out, to, numbers, pool);
+    put_reduced(out, next, answers, numbers)
 }
 
 // The lines of a tape.
@@ -90,16 +132,14 @@ fn run_tape(
     out: &mut [u8],
     at: usize,
 ) -> usize
-    ensures { λ r. ⌜ StoresUpTo (11 * length (now (answers .entry)) + 19) (now (out .entry)) at
+    ensures { λ r. ⌜ StoresUpTo (11 * length (now (answers .entry)) + 71) (now (out .entry)) at
         (tapeLines (tapeOn (parts (now (numbers .entry)) (now (deques .entry)) (now (frames .entry))) (now (pool .entry)) (now (work .entry)) (now (records .entry)) (now (answers .entry)))) (now (out .exit)) r ⌝ }
 {
     let refused = splitter_tape(numbers, deques, frames, pool, work, records, answers);
     if refused != 0 {
         return put_refused(out, at, refused);
     }
-    let nodes = word(numbers, 2);
-    let first = word(numbers, 3);
-    put_accepted(out, at, answers, nodes, pool, first)
+    put_accepted(out, at, answers, numbers, pool)
 }
 
 // The lines after the first: of the start, then of the tape.
@@ -114,11 +154,11 @@ fn run_on(
     out: &mut [u8],
     at: usize,
 ) -> usize
-    ensures { λ r. ⌜ StoresUpTo (11 * length (now (answers .entry)) + 19) (now (out .entry)) at (runLines workers (numbersAt (length (now (values .entry))) (now (input .entry)) 8)
+    ensures { λ r. ⌜ StoresUpTo (11 * length (now (answers .entry)) + 71) (now (out .entry)) at (runLines workers (numbersAt (length (now (values .entry))) (now (input .entry)) 8)
         (now (pool .entry)) (now (work .entry)) (now (records .entry)) (now (answers .entry))) (now (out .exit)) r ⌝ }
 {
     read_values(input, values);
-    let mut numbers = [0u32; 5];
+    let mut numbers = [0u32; NUMBER_COUNT];
     let mut deques = [0u32; DEQUE_WORDS];
     let mut frames = [0u32; FRAME_WORDS];
     let refused = splitter_start(
@@ -148,7 +188,7 @@ fn run_on(
 // The same, with a pool, a work slice and answer words of the right lengths, all zero.
 fn run_fit(input: &[u8], workers: u32, n: u32, nodes: u32, out: &mut [u8], at: usize) -> usize
     requires { ⌜ (n ≤ 256) × (nodes ≤ 1024) × (recordsStart n ≤ length (now input)) × (length (now input) - recordsStart n ≤ 16384) ⌝ }
-    ensures { λ r. ⌜ StoresUpTo 45075 (now (out .entry)) at (fitLines workers n nodes (now (input .entry))) (now (out .exit)) r ⌝ }
+    ensures { λ r. ⌜ StoresUpTo 45127 (now (out .entry)) at (fitLines workers n nodes (now (input .entry))) (now (out .exit)) r ⌝ }
 {
     let mut values = [0u32; 256];
     let mut pool = [0u32; 4096];

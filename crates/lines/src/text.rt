@@ -79,6 +79,16 @@ pub fn put_three(out: &mut [u8], at: usize, a: u32, b: u32, c: u32) -> usize
     put_last(out, next, c as usize)
 }
 
+// A line of four numbers.
+pub fn put_four(out: &mut [u8], at: usize, a: u32, b: u32, c: u32, d: u32) -> usize
+    ensures { λ r. ⌜ StoresUpTo 44 (now (out .entry)) at (line (decimal a ∷ decimal b ∷ decimal c ∷ decimal d ∷ [])) (now (out .exit)) r ⌝ }
+{
+    let to = put_field(out, at, a);
+    let next = put_field(out, to, b);
+    let then = put_field(out, next, c);
+    put_last(out, then, d as usize)
+}
+
 // A word with its space, and a number.
 pub fn put_named(out: &mut [u8], at: usize, word: &[u8], n: usize) -> usize
     ensures { λ r. ⌜ Stores (now (out .entry)) at (now (word .entry) ++ (decimal n ++ 10 ∷ [])) (now (out .exit)) r ⌝ }

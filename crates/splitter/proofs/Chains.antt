@@ -12,7 +12,7 @@ use Rattle.words.specs.Loops.{follow-none, follow-step}
 use Rattle.pool.specs.Pool.{nextFree}
 use Rattle.soundness.specs.Numbers.{numbersIn}
 use Rattle.soundness.specs.Soundness.{freeCount}
-use Rattle.image.specs.Widths.{numberCount}
+use Rattle.soundness.specs.Numbers.{numberCount}
 use Rattle.splitter.specs.Queries.{freeOn}
 
 module _ (next : ℕ → ℕ) (m k a : ℕ) where

@@ -5,7 +5,7 @@ use Prim.Native.Nat.{ℕ, min}
 use lib.ListN.{length, getD}
 use Rattle.model.specs.Record.{recordOf, decodeAt}
 use Rattle.semantics.specs.Entries.{State, TapeResult, outsideOn, tapeOn}
-use Rattle.semantics.specs.Promises.{parts, IsOutside, IsTape}
+use Rattle.semantics.specs.Promises.{IsOutside, IsTape}
 use Rattle.splitter.specs.OneRecord.{resultWords}
 use Rattle.splitter.specs.Theory.OneRecord.{one-step}
 use Rattle.splitter.specs.Theory.Narrow.{same-cut}

@@ -10,19 +10,23 @@ use Rattle.splitter.specs.Queries.{freeOn}
 abbrev threeNodes : List ℕ
 threeNodes = 1 ∷ none ∷ none ∷ 7 ∷ 0 ∷ 2 ∷ 0 ∷ 0 ∷ 0 ∷ none ∷ 0 ∷ 0 ∷ []
 
-two-free : freeOn (1 ∷ 1 ∷ 3 ∷ 1 ∷ 1 ∷ []) threeNodes ≡ 2
+-- the nodes, the first free one, and R-5's totals, which are zero
+abbrev numbers : ℕ → ℕ → List ℕ
+numbers nodes first = 1 ∷ 1 ∷ nodes ∷ first ∷ 1 ∷ 0 ∷ 0 ∷ 0 ∷ 0 ∷ []
+
+two-free : freeOn (numbers 3 1) threeNodes ≡ 2
 unfolding freeOn left
 two-free = refl
 
--- no free node; a pool that holds fewer nodes than recorded; numbers that are not five
-none-free : freeOn (1 ∷ 1 ∷ 3 ∷ none ∷ 1 ∷ []) threeNodes ≡ 0
+-- no free node; a pool that holds fewer nodes than recorded; numbers that are not nine
+none-free : freeOn (numbers 3 none) threeNodes ≡ 0
 unfolding freeOn left
 none-free = refl
 
-short-pool : freeOn (1 ∷ 1 ∷ 4 ∷ 1 ∷ 1 ∷ []) threeNodes ≡ 0
+short-pool : freeOn (numbers 4 1) threeNodes ≡ 0
 unfolding freeOn left
 short-pool = refl
 
-four-numbers : freeOn (1 ∷ 1 ∷ 3 ∷ 1 ∷ []) threeNodes ≡ 0
+five-numbers : freeOn (1 ∷ 1 ∷ 3 ∷ 1 ∷ 1 ∷ []) threeNodes ≡ 0
 unfolding freeOn left
-four-numbers = refl
+five-numbers = refl

@@ -4,9 +4,8 @@ use mathlib.Core.List.{List}
 use Prim.Native.Nat.{ℕ}
 use lib.ListN.{length}
 use lib.Dec.{eqb, leb}
-use Rattle.soundness.specs.Numbers.{numbersIn}
+use Rattle.soundness.specs.Numbers.{numberCount, numbersIn}
 use Rattle.soundness.specs.Soundness.{freeCount}
-use Rattle.image.specs.Widths.{numberCount}
 use Rattle.semantics.specs.Entries.{wholeNodes}
 
 -- the nodes on the free chain of the state with the numbers ns and the pool ws; 0 where ns have another length than they must have, or the pool

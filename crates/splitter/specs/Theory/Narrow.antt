@@ -1,4 +1,4 @@
--- The fields of a step, cut to what a record can hold: no answer changes. A kind above 6 is no kind, and in a sound state there are
+-- The fields of a step, cut to what a record can hold: no answer changes. A kind above 7 is no kind, there are 3 reducers, and in a sound state there are
 -- at most 8 workers and 256 splitters.
 use mathlib.Core.Path.{_≡_, refl, sym, ap, _∙_}
 use mathlib.Core.Logic.{inl, inr}
@@ -16,14 +16,14 @@ use Rattle.soundness.specs.declared.Checked.{Checked}
 use Rattle.soundness.specs.declared.Checked.the-variants.{NoRoom, Sound}
 use Rattle.soundness.specs.Soundness.{sound, checked, cleared}
 use Rattle.model.specs.declared.Step.{Step}
-use Rattle.model.specs.declared.Step.the-variants.{Spawn, Return, Steal, Sync, Read, Write}
+use Rattle.model.specs.declared.Step.the-variants.{Spawn, Return, Steal, Sync, Read, Write, Fold}
 use Rattle.model.specs.declared.Decoded.{Decoded}
 use Rattle.model.specs.declared.Decoded.the-variants.{Valid, Invalid}
-use Rattle.model.specs.Steps.{firstTrue}
+use Rattle.model.specs.Steps.{firstTrue, reducers}
 use Rattle.model.specs.Record.{validIf, recordOf}
-use Rattle.semantics.specs.declared.Refusal.the-variants.{NoWorker, MainReturned, ThiefBusy, NoVictim, NoSplitter, Lengths}
+use Rattle.semantics.specs.declared.Refusal.the-variants.{NoWorker, MainReturned, ThiefBusy, NoVictim, NoSplitter, NoReducer, Lengths}
 use Rattle.semantics.specs.Core.{Core, StepResult, noWorker, allIdle, idle, judged, actingTests, stepOn}
-use Rattle.semantics.specs.Entries.{State, numbersOf, coreOf, checkedState, fits, recordOn, OutsideResult, outsideDone, outsideRefused, outsideChecked, outsideWith, outsideOn}
+use Rattle.semantics.specs.Entries.{State, numbersOf, totalsOf, coreOf, checkedState, fits, recordOn, OutsideResult, outsideDone, outsideRefused, outsideChecked, outsideWith, outsideOn}
 use Rattle.semantics.specs.Theory.Refusals.{refusedBy}
 use Rattle.soundness.specs.Theory.Sentences.{sound-facts}
 
@@ -45,6 +45,7 @@ workerOf (Steal w v) = w
 workerOf (Sync w) = w
 workerOf (Read w x) = w
 workerOf (Write w x v) = w
+workerOf (Fold w r v) = w
 
 -- the choices of recordOf
 abbrev kinds : ℕ → ℕ → ℕ → ℕ → List (Bool × Decoded)
@@ -55,6 +56,7 @@ kinds kind w x v =
     ∷ (eqb kind 4, validIf (eqb x 0 && eqb v 0) (Sync w))
     ∷ (eqb kind 5, validIf (eqb v 0) (Read w x))
     ∷ (eqb kind 6, Valid (Write w x v))
+    ∷ (eqb kind 7, Valid (Fold w x v))
     ∷ []
 
 module _ (c : Core) where
@@ -66,6 +68,7 @@ module _ (c : Core) where
   no-worker (Sync w) e = rw e
   no-worker (Read w x) e = rw e
   no-worker (Write w x v) e = rw e
+  no-worker (Fold w r v) e = rw e
 
   no-victim : (w v : ℕ) → ltb v (c .head .numbers .workers) ≡ false
       → stepOn c (Steal w v) ≡ judged ((noWorker c w, NoWorker) ∷ (allIdle c, MainReturned) ∷ (not (idle c w), ThiefBusy) ∷ []) c (refusedBy c NoVictim)
@@ -79,6 +82,10 @@ module _ (c : Core) where
   no-write : (w x v : ℕ) → ltb x (c .head .numbers .splitters) ≡ false → stepOn c (Write w x v) ≡ judged (actingTests c w) c (refusedBy c NoSplitter)
   unfolding stepOn
   no-write w x v e = rw e
+
+  no-fold : (w r v : ℕ) → ltb r reducers ≡ false → stepOn c (Fold w r v) ≡ judged (actingTests c w) c (refusedBy c NoReducer)
+  unfolding stepOn
+  no-fold w r v e = rw e
 
   -- a number cut to m: past its bound n the step is refused, whatever the number
   cut : (f : ℕ → Step) (d : StepResult) (x m n : ℕ) → n ≤ m → ((y : ℕ) → ltb y n ≡ false → stepOn c (f y) ≡ d) → stepOn c (f (min x m)) ≡ stepOn c (f x)
@@ -120,6 +127,11 @@ module _ (c : Core) where
         worker-cut (λ u. Write u (min x 65535) v) (λ y e. no-worker (Write y (min x 65535) v) e)
         ∙ cut (λ u. Write w u v) _ x 65535 (c .head .numbers .splitters) (omega arith) (λ y e. no-write w y v e)
 
+    fold-cut : stepOn c (Fold (min w 255) (min x 65535) v) ≡ stepOn c (Fold w x v)
+    fold-cut =
+        worker-cut (λ u. Fold u (min x 65535) v) (λ y e. no-worker (Fold y (min x 65535) v) e)
+        ∙ cut (λ u. Fold w u v) _ x 65535 reducers (omega arith) (λ y e. no-fold w y v e)
+
     record-cut : (kind : ℕ) → recordOn c (recordOf (min kind 255) (min w 255) (min x 65535) v) ≡ recordOn c (recordOf kind w x v)
     unfolding recordOf
     record-cut kind =
@@ -130,13 +142,14 @@ module _ (c : Core) where
         (also (same-test kind 255 3 (omega arith)) (valid-cut (eqb v 0) _ _ _ refl steal-cut)
         (also (same-test kind 255 4 (omega arith)) (valid-cut _ _ _ _ zero-field (worker-cut (λ u. Sync u) (λ y e. no-worker (Sync y) e)))
         (also (same-test kind 255 5 (omega arith)) (valid-cut (eqb v 0) _ _ _ refl read-cut)
-        (also (same-test kind 255 6 (omega arith)) write-cut end))))))
+        (also (same-test kind 255 6 (omega arith)) write-cut
+        (also (same-test kind 255 7 (omega arith)) fold-cut end)))))))
 
 -- ---- a step by the fields of a record
 
-checked-sound : (N : Numbers) (ds fs ws ks : List ℕ) (k : ℕ) → checked N ds fs ws ks ≡ Sound k → sound N ds fs ws ≡ true
+checked-sound : (N : Numbers) (ts ds fs ws ks : List ℕ) (k : ℕ) → checked N ts ds fs ws ks ≡ Sound k → sound N ts ds fs ws ≡ true
 unfolding checked
-checked-sound N ds fs ws ks k e = elim (decided (sound N ds fs ws)) [
+checked-sound N ts ds fs ws ks k e = elim (decided (sound N ts ds fs ws)) [
   | inl t ↦ t
   | inr t ↦ elim (decided (leb (N .nodes) (length ks))) [
     | inl r ↦ absurd (let z : _≡_ {A = ℕ} 0 1 = (let q : Checked.Unsound ≡ Sound k = rw (r, t) at e in cc) in omega arith)
@@ -150,7 +163,7 @@ module _ (s : State) (ws ks : List ℕ) (kind w x v : ℕ) where
   check-cut NoRoom e = refl
   check-cut Checked.Unsound e = refl
   check-cut (Sound k) e =
-      let F = sound-facts (numbersOf s) (s .deques) (s .frames) ws (checked-sound (numbersOf s) (s .deques) (s .frames) ws ks k e) .numbers in
+      let F = sound-facts (numbersOf s) (totalsOf s) (s .deques) (s .frames) ws (checked-sound (numbersOf s) (totalsOf s) (s .deques) (s .frames) ws ks k e) .numbers in
       ap (λ d. outsideDone d (cleared (numbersOf s .nodes) ks)) (record-cut (coreOf s ws k) (F .workers-le) (F .splitters-le) w x v kind)
 
   -- the fields cut to 8, 8 and 16 bits

@@ -7,24 +7,24 @@ use native.Mathlib.Omega.{arith}
 use lib.ListN.{length}
 use borrow.Author.Tests.{eq-eqb, le-leb}
 use Rattle.model.specs.Machine.{freeNodes as plainFree}
-use Rattle.semantics.specs.Entries.{State, numbersOf, isSound, chainFree, wholeNodes}
-use Rattle.semantics.specs.Calls.{Start, Call, recordsIn}
-use Rattle.semantics.specs.Demands.{Demand2, runFrom, plainStart, machineBy, fromStart}
+use Rattle.semantics.specs.Entries.{State, numbersOf, totalsOf, isSound, chainFree, wholeNodes}
+use Rattle.semantics.specs.Calls.{Start, Call}
+use Rattle.semantics.specs.Demands.{Demand2, runFrom, plainNow}
 use Rattle.soundness.specs.Theory.Sentences.{sound-facts}
-use Rattle.image.specs.Widths.{numberCount}
+use Rattle.soundness.specs.Numbers.{numberCount}
 use Rattle.splitter.specs.Queries.{freeOn}
 
 -- of a sound state: the nodes on its free chain
 pub free-sound : (s : State) (ws : List ℕ) → length (s .numbers) ≡ numberCount → isSound s ws ≡ true → freeOn (s .numbers) ws ≡ chainFree s ws
 unfolding freeOn
 free-sound s ws l e =
-    let F = sound-facts (numbersOf s) (s .deques) (s .frames) ws e in
+    let F = sound-facts (numbersOf s) (totalsOf s) (s .deques) (s .frames) ws e in
     let held : 4 * numbersOf s .nodes ≤ length ws = F .numbers .room in
     let room : numbersOf s .nodes ≤ wholeNodes ws = omega arith in
     rw (eq-eqb (length (s .numbers)) numberCount l, le-leb (numbersOf s .nodes) (wholeNodes ws) room)
 
 -- of a run from a start, whose numbers have their length as every call asks: the plain machine's free nodes
 pub free-in-run : (b : Start) (calls : List Call) → Demand2 b calls → runFrom b calls .stateless ≡ false → length (runFrom b calls .now .state .numbers) ≡ numberCount
-    → freeOn (runFrom b calls .now .state .numbers) (runFrom b calls .now .pool) ≡ plainFree (machineBy fromStart (plainStart b) (recordsIn (runFrom b calls .past .exchanges)) (runFrom b calls .past .pools))
+    → freeOn (runFrom b calls .now .state .numbers) (runFrom b calls .now .pool) ≡ plainFree (plainNow b calls)
 free-in-run b calls d s l =
     let r = runFrom b calls in free-sound (r .now .state) (r .now .pool) l (d .still-sound s) ∙ d .same-free s

@@ -1,43 +1,30 @@
--- The lines of the answer words, then that of the free nodes.
-use Rattle.lines.proofs.Sizes.{accepted-short}
-use Rattle.lines.specs.Theory.{stores-then}
+-- The lines of the answer words, that of the free nodes, and that of the totals.
+use Rattle.lines.proofs.Sizes.{answers-short}
+use Rattle.lines.specs.Theory.{up-to-then}
 use borrow.Author.Needs.{needs}
 use Rattle.lines.proofs.run.put_accepted.Statement.{statement}
 use Rattle.lines.proofs.run.put_accepted.Tie as tie
 
-put-answers-requires : tie.Need-put-answers-requires
-put-answers-requires c κs = search needs
+-- the places that the answers speak of, each by its way from the next
+abbrev free-of : tie.After-put-reduced → tie.After-put-free
+free-of r = r .before .before .before .before
 
-slice-aggregate-put-named : tie.Need-slice-aggregate-put-named
-slice-aggregate-put-named c = search needs
+abbrev answers-of : tie.After-put-free → tie.After-put-answers
+answers-of f = f .before .before .before .before
 
-count-free-requires : tie.Need-count-free-requires
-count-free-requires c κs = search needs
-
-put-named-requires : tie.Need-put-named-requires
-put-named-requires c κs = search needs
-
-same-length : tie.Need-same-length
-same-length c = search needs
+abbrev answers-known : tie.After-put-answers → tie.After-shared-slice-known
+answers-known a = a .before .before .before .before
 
 returns : tie.Need-returns
 returns c =
-    let p1 = c .before .before in
-    let p2 = p1 .before in
-    let p3 = p2 .before .before .before .before .before in
-    let p4 = p3 .before .before .before in
-    let p5 = p4 .before .before in (
-      rw (← p2 .count-free .ensures) (stores-then _ _ _ _ (p3 .put-answers .ensures) (p1 .put-named .ensures)),
-      accepted-short (p5 .args .answers .now) (p5 .args .nodes) (p5 .args .pool .now) (p5 .args .first) (λ i. p4 .shared-slice-known .given i .fits) (search needs),
-    )
+    let r = c .before .before in
+    let f = free-of r in
+    let a = answers-of f in
+    up-to-then _ _ _ _ (a .put-answers .ensures, answers-short _ (λ i. answers-known a .shared-slice-known .given i .fits)) (up-to-then _ _ _ _ (f .put-free .ensures) (r .put-reduced .ensures))
 
 pub put-accepted-spec : {M : Type 1} → statement M
 put-accepted-spec =
     tie.close
     (tie.spec
-    put-answers-requires
-    slice-aggregate-put-named
-    count-free-requires
-    put-named-requires
-    same-length
+    (λ c κs. search needs) (λ c κs. search needs) (λ c κs. search needs) (λ c. search needs)
     returns)

@@ -5,9 +5,6 @@ use Rattle.lines.proofs.Whole.{length-part, fit-stored}
 use borrow.Author.Needs.{needs}
 use Rattle.lines.proofs.run.run_fit.Statement.{statement}
 use Rattle.lines.proofs.run.run_fit.Tie as tie
-use Rattle.lines.proofs.run.run_fit.Reads as reads
-use Rattle.lines.proofs.run.run_fit.Lts as lts
-use Rattle.lines.proofs.run.run_on.Reads as run-on-reads
 
 mul-start : tie.Need-mul-start
 mul-start c = search needs

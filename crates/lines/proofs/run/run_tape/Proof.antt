@@ -18,9 +18,6 @@ refused-of i = i .before .before .before .before .before .before .before .before
 abbrev accepted-of : tie.Else1 → tie.After-splitter-tape
 accepted-of i = i .before .before .before .before .before .before .before .before .before .before .before .before .before
 
-abbrev first-of : tie.After-word2 → tie.After-word
-first-of w = w .before .before
-
 -- what the definition gives for the arguments
 abbrev result : tie.Start → TapeResult
 result s =
@@ -36,16 +33,15 @@ returns c =
 
 returns-2 : tie.Need-returns-2
 returns-2 c =
-    let w = c .before .before .before .before .before .before in
-    let i = first-of w .before .before in
+    let i = c .before .before .before .before .before .before .before in
     let t = accepted-of i in
     let s = start-of t in
     let e = t .splitter-tape .ensures in
-    tape-accepted (s .args .out .now) (s .args .at) _ (result s) _ _ _ _ _ (e .result) (i .if1 .left) (e .answers) (e .state) (e .pool) (first-of w .word .ensures) (w .word2 .ensures)
+    tape-accepted (s .args .out .now) (s .args .at) _ (result s) _ _ _ (e .result) (i .if1 .left) (e .answers) (e .state) (e .pool)
     (more-room _ _ _ (omega (arith, t .splitter-tape .kept .1 .1 .1 .1 .1 .1 .0)) (c .before .before .put-accepted .ensures))
 
 pub run-tape-spec : {M : Type 1} → statement M
 run-tape-spec =
     tie.close
     (tie.spec (λ c κs. search needs) (λ c κs. search needs) (λ c. search needs) (λ c. search needs) (λ c. search needs) (λ c. search needs) (λ c. search needs) (λ c. search needs) (λ c. search needs) returns
-    (λ c κs. search needs) (λ c κs. search needs) (λ c κs. search needs) (λ c. search needs) (λ c. search needs) (λ c. search needs) (λ c. search needs) (λ c. search needs) (λ c. search needs) (λ c. search needs) returns-2)
+    (λ c κs. search needs) (λ c. search needs) (λ c. search needs) (λ c. search needs) (λ c. search needs) (λ c. search needs) (λ c. search needs) (λ c. search needs) returns-2)

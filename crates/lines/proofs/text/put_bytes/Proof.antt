@@ -6,7 +6,7 @@ use lib.ListN.{length, drop, drop-of-length-le}
 use borrow.Author.Needs.{needs}
 use Rattle.lines.specs.Output.{storeAll}
 use Rattle.lines.specs.Theory.{stores-turn, stores-end}
-use Rattle.lines.proofs.Loops.{drop-more}
+use Rattle.lines.specs.Theory.Returned.{drop-more}
 use Rattle.lines.proofs.text.put_bytes.Statement.{statement}
 use Rattle.lines.proofs.text.put_bytes.Tie as tie
 
