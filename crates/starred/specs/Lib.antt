@@ -8,5 +8,5 @@ pub mod RefusedCalls
 pub mod RefusedRecords
 pub mod Layout
 pub mod Demand3Example
--- R-1 and R-3: images of both forms, saves and readings
+-- R-1, R-3 and R-5: images, saves and readings
 pub mod SavedImages

@@ -3,7 +3,7 @@
 use mathlib.Core.Path.{_≡_, refl, sym, ap, _∙_}
 use mathlib.Core.Bool.{Bool, true, cond}
 use mathlib.Core.Logic.{inl, inr}
-use mathlib.Core.List.{List, [], _∷_, map}
+use mathlib.Core.List.{List, [], _∷_, _++_, map}
 use Prim.Native.Nat.{ℕ}
 use lib.ListN.{length, replicate}
 use lib.Dec.{eqb, leb}
@@ -16,7 +16,7 @@ use Rattle.frames.specs.Frames.{setFrame, initPlaces, initFrames}
 use Rattle.frames.specs.Deques.{size, setSize, setPlace, push, initDeques}
 use Rattle.soundness.specs.declared.Checked.{Checked}
 use Rattle.soundness.specs.declared.Checked.the-variants.{NoRoom, Sound}
-use Rattle.soundness.specs.Numbers.{numberWords}
+use Rattle.soundness.specs.Numbers.{numberWords, totalCount}
 use Rattle.soundness.specs.Soundness.{checked}
 use Rattle.model.specs.Record.{recordOf}
 use Rattle.semantics.specs.declared.Refusal.the-variants.{Tape, Lengths}
@@ -67,7 +67,7 @@ first-frames = refl
 abbrev startWords : Start → List ℕ → List ℕ → StateAndPool
 startWords b ds fs =
     let p : List ℕ × ℕ = initPool (b .pool) (length (b .values)) (wholeNodes (b .pool)) (b .values) in
-    record { state = record { numbers = numberWords (firstNumbers (b .workers) (length (b .values)) (wholeNodes (b .pool)) (p .1)); deques = ds; frames = fs }; pool = p .0 }
+    record { state = record { numbers = numberWords (firstNumbers (b .workers) (length (b .values)) (wholeNodes (b .pool)) (p .1)) ++ replicate totalCount 0; deques = ds; frames = fs }; pool = p .0 }
 
 abbrev pub quickStart : Start → StateAndPool
 quickStart b = startWords b (deques (0 ∷ []) []) (frames (live none 0 0 0 0 ∷ []))

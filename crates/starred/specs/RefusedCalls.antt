@@ -11,15 +11,17 @@ use Rattle.words.specs.Basics.{none, same, δ, count}
 use Rattle.sizes.specs.Sizes.{height, width, treeNodes}
 use Rattle.pool.specs.Pool.{refcount, left, right, value, setNode, leafOf, readAt, initLevel, initInner, initLeaves, initFree, initPool}
 use Rattle.frames.specs.Frames.{frameAt}
+use Rattle.frames.specs.Widths.{recordWords}
+use Rattle.frames.specs.Siblings.{chained}
 use Rattle.frames.specs.Deques.{size, place, bottom}
-use Rattle.soundness.specs.Soundness.{oneMain, parentsLive, countsRight, placedOnce, returningRight, holdLive, absentEmpty, restZero, linked, onlyBelow, placesFree, framesSound, treeAt, nodesAt, poolSound, numbersSound, rootsBelow, sound, cleared}
+use Rattle.soundness.specs.Soundness.{oneMain, parentsLive, countsRight, placedOnce, returningRight, linksRight, totalsRight, holdLive, absentEmpty, restZero, linked, onlyBelow, placesFree, framesSound, treeAt, nodesAt, poolSound, numbersSound, rootsBelow, sound, cleared}
 use Rattle.model.specs.Record.{recordOf, decodeAt}
 use Rattle.semantics.specs.Core.{readOn, stepOn}
 use Rattle.semantics.specs.Answers.{wordsIn}
 use Rattle.semantics.specs.Entries.{State, zeros, isSound, StartResult, startOn, startWith, OutsideResult, recordsFrom, runOn, TapeResult}
 use Rattle.semantics.specs.Calls.{Start, startResult, HostCall, outside, tape, StateAndPool, afterStart, afterCall}
 use Rattle.semantics.specs.Demands.{answersAfter, callResult, workAfter}
-use Rattle.starred.specs.Tapes.{reads, anyParts, wordsOf, deques, frames, live}
+use Rattle.starred.specs.Tapes.{reads, anyParts, wordsOf, deques, identities, frame, free, frames}
 use Rattle.starred.specs.Quick.{tapeBy, outsideBy, tape-by, outside-by, quickStart, start-quick, after-sound}
 
 -- ---- starts
@@ -39,7 +41,7 @@ starts workers n nodes k = lends anyParts workers n (4 * nodes) k
 
 -- "a refused start hands out a state of zeros" and changes nothing else; refused by 99 it leaves the parts too
 abbrev leftBy : Start → StartResult → Bool
-leftBy b o = same (wordsOf (o .state)) (cond (eqb (o .result) 99) (wordsOf (b .parts)) (replicate 973 0)) && same (o .pool) (b .pool)
+leftBy b o = same (wordsOf (o .state)) (cond (eqb (o .result) 99) (wordsOf (b .parts)) (replicate 1297 0)) && same (o .pool) (b .pool)
 
 -- the result; and whether it left what it must, if it was refused
 abbrev startSeen : Start → ℕ × Bool
@@ -81,17 +83,17 @@ startTable =
     ∷ starts 0 5 10 2
     ∷ starts 9 5 10 2
     -- 99: a part has another length
-    ∷ lends (sizes 5 520 448) 1 1 4 0
-    ∷ lends (sizes 4 520 448) 1 1 4 99
-    ∷ lends (sizes 6 520 448) 1 1 4 99
-    ∷ lends (sizes 5 519 448) 1 1 4 99
-    ∷ lends (sizes 5 521 448) 1 1 4 99
-    ∷ lends (sizes 5 520 447) 1 1 4 99
-    ∷ lends (sizes 5 520 449) 1 1 4 99
+    ∷ lends (sizes 9 520 768) 1 1 4 0
+    ∷ lends (sizes 8 520 768) 1 1 4 99
+    ∷ lends (sizes 10 520 768) 1 1 4 99
+    ∷ lends (sizes 9 519 768) 1 1 4 99
+    ∷ lends (sizes 9 521 768) 1 1 4 99
+    ∷ lends (sizes 9 520 767) 1 1 4 99
+    ∷ lends (sizes 9 520 769) 1 1 4 99
     -- 99 before 1, 2 and 3
-    ∷ lends (sizes 4 520 448) 1 0 80 99
-    ∷ lends (sizes 5 519 448) 0 1 4 99
-    ∷ lends (sizes 5 520 447) 1 1 0 99
+    ∷ lends (sizes 8 520 768) 1 0 80 99
+    ∷ lends (sizes 9 519 768) 0 1 4 99
+    ∷ lends (sizes 9 520 767) 1 1 0 99
     ∷ []
 
 pub start-refusals : map (λ (row : StartRow). startSeen (row .start)) startTable ≡ map (λ (row : StartRow). (row .result, true)) startTable
@@ -108,10 +110,15 @@ pub data Before : Type 0 where
   withNumbers : List ℕ → Before
   -- the same but for the first free place: 2, where it is 1
   unsound : Before
-  -- the same but for R-3's word of the frame record at this place
-  returning : ℕ → ℕ → Before
-  -- Main is suspended, and R-3's word of its record is this; its child, with the same leaf, is on worker 0
-  suspended : ℕ → Before
+  -- the same but for a word of the frame record at a place: which place, which word, and what it is
+  withWord : ℕ → ℕ → ℕ → Before
+  -- Main is suspended, and R-3's word of its record is this; its child, with the same leaf, is on worker 0, in place 1, and names this as its next
+  -- younger sibling
+  suspended : ℕ → ℕ → Before
+  -- the same with another child, on worker 1, in place 2: what each names
+  siblings : ℕ → ℕ → Before
+  -- no frame lives, and these are the totals
+  ended : List ℕ → Before
   -- parts of these lengths, with words that are not sound
   lengths : ℕ → ℕ → ℕ → Before
   -- a state of zeros and no pool
@@ -123,20 +130,58 @@ begun = record { parts = anyParts; workers = 2; values = 1 ∷ []; pool = replic
 abbrev numbered : StateAndPool → List ℕ → StateAndPool
 numbered h ks = record { state = record { numbers = ks; deques = h .state .deques; frames = h .state .frames }; pool = h .pool }
 
-abbrev childRuns : ℕ → StateAndPool
-childRuns x =
+-- 2 workers, one splitter, 2 nodes, of which 1 is free; the first free place, and the totals
+abbrev numbers : ℕ → List ℕ → List ℕ
+numbers p totals = 2 ∷ 1 ∷ 2 ∷ 1 ∷ p ∷ totals
+
+-- R-5: "zero while Main lives"
+abbrev zeroTotals : List ℕ
+zeroTotals = 0 ∷ 0 ∷ 0 ∷ 0 ∷ []
+
+-- node 0 with so many holders, node 1 free
+abbrev leafHeldBy : ℕ → List ℕ
+leafHeldBy k = k ∷ none ∷ none ∷ 1 ∷ 0 ∷ none ∷ 0 ∷ 0 ∷ 7 ∷ []
+
+-- Main, suspended, with k children
+abbrev suspendedMain : ℕ → ℕ → List ℕ
+suspendedMain k returning = frame none 0 k 1 0 returning identities none
+
+-- a child of Main
+abbrev childOf : ℕ → List ℕ
+childOf younger = frame 0 1 0 0 0 0 identities younger
+
+abbrev oneChild : ℕ → ℕ → StateAndPool
+oneChild x y =
     record {
-      state = record { numbers = 2 ∷ 1 ∷ 2 ∷ 1 ∷ 2 ∷ []; deques = deques (1 ∷ []) []; frames = frames ((1 ∷ none ∷ 0 ∷ 1 ∷ 1 ∷ 0 ∷ x ∷ []) ∷ live 0 1 0 0 0 ∷ []) };
-      pool = 2 ∷ none ∷ none ∷ 1 ∷ 0 ∷ none ∷ 0 ∷ 0 ∷ 7 ∷ [];
+      state = record { numbers = numbers 2 zeroTotals; deques = deques (1 ∷ []) []; frames = frames (suspendedMain 1 x ∷ childOf y ∷ []) };
+      pool = leafHeldBy 2;
+    }
+
+abbrev twoChildren : ℕ → ℕ → StateAndPool
+twoChildren y z =
+    record {
+      state = record { numbers = numbers 3 zeroTotals; deques = deques (1 ∷ []) (2 ∷ []); frames = frames (suspendedMain 2 0 ∷ childOf y ∷ childOf z ∷ []) };
+      pool = leafHeldBy 3;
+    }
+
+-- both nodes are free, and every place is
+abbrev noneLives : List ℕ → StateAndPool
+noneLives totals =
+    record {
+      state = record { numbers = 2 ∷ 1 ∷ 2 ∷ 0 ∷ 0 ∷ totals; deques = deques [] []; frames = frames (free 1 ∷ []) };
+      pool = 0 ∷ 1 ∷ 0 ∷ 0 ∷ 0 ∷ none ∷ 0 ∷ 0 ∷ 7 ∷ [];
     }
 
 -- after the start h
 abbrev foundIn : StateAndPool → Before → StateAndPool
 foundIn h started = h
 foundIn h (withNumbers ks) = numbered h ks
-foundIn h unsound = numbered h (2 ∷ 1 ∷ 2 ∷ 1 ∷ 2 ∷ [])
-foundIn h (returning p x) = record { state = record { numbers = h .state .numbers; deques = h .state .deques; frames = set (h .state .frames) (7 * p + 6) x }; pool = h .pool }
-foundIn h (suspended x) = childRuns x
+foundIn h unsound = numbered h (numbers 2 zeroTotals)
+foundIn h (withWord p i x) =
+    record { state = record { numbers = h .state .numbers; deques = h .state .deques; frames = set (h .state .frames) (recordWords * p + i) x }; pool = h .pool }
+foundIn h (suspended x y) = oneChild x y
+foundIn h (siblings y z) = twoChildren y z
+foundIn h (ended totals) = noneLives totals
 foundIn h (lengths ns ds fs) = record { state = sizes ns ds fs; pool = replicate 9 7 }
 foundIn h nothing = record { state = zeros; pool = [] }
 
@@ -204,20 +249,52 @@ callTable =
     ∷ steps started 5 2 105 (0 ∷ 0 ∷ [])
     ∷ steps started 5 1 5 (5 ∷ [])
     -- "6. State and pool are not sound."
-    ∷ plays (withNumbers (2 ∷ 1 ∷ 2 ∷ 1 ∷ 1 ∷ [])) oneRead 3 3 0 (105 ∷ 1 ∷ 9 ∷ []) (0 ∷ 0 ∷ 5 ∷ [])
+    ∷ plays (withNumbers (numbers 1 zeroTotals)) oneRead 3 3 0 (105 ∷ 1 ∷ 9 ∷ []) (0 ∷ 0 ∷ 5 ∷ [])
     ∷ plays unsound oneRead 3 3 6 (9 ∷ 9 ∷ 9 ∷ []) (0 ∷ 0 ∷ 5 ∷ [])
     ∷ plays unsound [] 3 3 6 (9 ∷ 9 ∷ 9 ∷ []) (0 ∷ 0 ∷ 5 ∷ [])
     ∷ steps unsound 5 3 6 (0 ∷ 0 ∷ 5 ∷ [])
     -- R-3: "1 on a frame waiting so, which is suspended, else 0; anything else there is unsound."
-    ∷ plays (suspended 1) oneRead 3 3 0 (105 ∷ 1 ∷ 9 ∷ []) (0 ∷ 0 ∷ 5 ∷ [])
-    ∷ plays (suspended 0) oneRead 3 3 0 (105 ∷ 1 ∷ 9 ∷ []) (0 ∷ 0 ∷ 5 ∷ [])
-    ∷ plays (suspended 2) oneRead 3 3 6 (9 ∷ 9 ∷ 9 ∷ []) (0 ∷ 0 ∷ 5 ∷ [])
-    ∷ steps (suspended none) 5 3 6 (0 ∷ 0 ∷ 5 ∷ [])
+    ∷ plays (suspended 1 none) oneRead 3 3 0 (105 ∷ 1 ∷ 9 ∷ []) (0 ∷ 0 ∷ 5 ∷ [])
+    ∷ plays (suspended 0 none) oneRead 3 3 0 (105 ∷ 1 ∷ 9 ∷ []) (0 ∷ 0 ∷ 5 ∷ [])
+    ∷ plays (suspended 2 none) oneRead 3 3 6 (9 ∷ 9 ∷ 9 ∷ []) (0 ∷ 0 ∷ 5 ∷ [])
+    ∷ steps (suspended none none) 5 3 6 (0 ∷ 0 ∷ 5 ∷ [])
     -- Main is on a deque; the place is free: the next, or the last
-    ∷ steps (returning 0 1) 5 3 6 (0 ∷ 0 ∷ 5 ∷ [])
-    ∷ steps (returning 0 2) 5 3 6 (0 ∷ 0 ∷ 5 ∷ [])
-    ∷ steps (returning 1 1) 5 3 6 (0 ∷ 0 ∷ 5 ∷ [])
-    ∷ steps (returning 63 1) 5 3 6 (0 ∷ 0 ∷ 5 ∷ [])
+    ∷ steps (withWord 0 6 1) 5 3 6 (0 ∷ 0 ∷ 5 ∷ [])
+    ∷ steps (withWord 0 6 2) 5 3 6 (0 ∷ 0 ∷ 5 ∷ [])
+    ∷ steps (withWord 1 6 1) 5 3 6 (0 ∷ 0 ∷ 5 ∷ [])
+    ∷ steps (withWord 63 6 1) 5 3 6 (0 ∷ 0 ∷ 5 ∷ [])
+    -- R-5: the totals are "zero while Main lives"; "Soundness asks for those zeros". Each of the four
+    ∷ steps (withNumbers (numbers 1 (1 ∷ 0 ∷ 0 ∷ 0 ∷ []))) 5 3 6 (0 ∷ 0 ∷ 5 ∷ [])
+    ∷ steps (withNumbers (numbers 1 (0 ∷ none ∷ 0 ∷ 0 ∷ []))) 5 3 6 (0 ∷ 0 ∷ 5 ∷ [])
+    ∷ steps (withNumbers (numbers 1 (0 ∷ 0 ∷ 1 ∷ 0 ∷ []))) 5 3 6 (0 ∷ 0 ∷ 5 ∷ [])
+    ∷ plays (withNumbers (numbers 1 (0 ∷ 0 ∷ 0 ∷ 1 ∷ []))) oneRead 3 3 6 (9 ∷ 9 ∷ 9 ∷ []) (0 ∷ 0 ∷ 5 ∷ [])
+    -- once Main has returned they may be any words: the state is sound, and the read is refused by 9
+    ∷ plays (ended (0 ∷ none ∷ 1 ∷ 0 ∷ [])) oneRead 3 3 0 (9 ∷ 0 ∷ 9 ∷ []) (0 ∷ 0 ∷ 5 ∷ [])
+    ∷ plays (ended (5 ∷ 6 ∷ 7 ∷ 8 ∷ [])) oneRead 3 3 0 (9 ∷ 0 ∷ 9 ∷ []) (0 ∷ 0 ∷ 5 ∷ [])
+    ∷ steps (ended zeroTotals) 5 3 9 (0 ∷ 0 ∷ 5 ∷ [])
+    -- the view words of a live frame may be any words; of a free place they are zero, and so is the link
+    ∷ steps (withWord 0 7 5) 5 3 105 (0 ∷ 0 ∷ 5 ∷ [])
+    ∷ steps (withWord 0 10 none) 5 3 105 (0 ∷ 0 ∷ 5 ∷ [])
+    ∷ steps (withWord 1 7 1) 5 3 6 (0 ∷ 0 ∷ 5 ∷ [])
+    ∷ steps (withWord 1 8 none) 5 3 6 (0 ∷ 0 ∷ 5 ∷ [])
+    ∷ steps (withWord 63 9 1) 5 3 6 (0 ∷ 0 ∷ 5 ∷ [])
+    ∷ steps (withWord 63 10 1) 5 3 6 (0 ∷ 0 ∷ 5 ∷ [])
+    ∷ steps (withWord 1 11 none) 5 3 6 (0 ∷ 0 ∷ 5 ∷ [])
+    -- "Main's being none"
+    ∷ steps (withWord 0 11 0) 5 3 6 (0 ∷ 0 ∷ 5 ∷ [])
+    ∷ steps (withWord 0 11 1) 5 3 6 (0 ∷ 0 ∷ 5 ∷ [])
+    -- "these links chain the live children of each frame, each once": an only child that names itself, its parent, a free place
+    ∷ steps (suspended 0 1) 5 3 6 (0 ∷ 0 ∷ 5 ∷ [])
+    ∷ steps (suspended 0 0) 5 3 6 (0 ∷ 0 ∷ 5 ∷ [])
+    ∷ steps (suspended 0 2) 5 3 6 (0 ∷ 0 ∷ 5 ∷ [])
+    ∷ steps (suspended 0 64) 5 3 6 (0 ∷ 0 ∷ 5 ∷ [])
+    -- of two children either may be the elder
+    ∷ plays (siblings 2 none) oneRead 3 3 0 (105 ∷ 1 ∷ 9 ∷ []) (0 ∷ 0 ∷ 5 ∷ [])
+    ∷ plays (siblings none 1) oneRead 3 3 0 (105 ∷ 1 ∷ 9 ∷ []) (0 ∷ 0 ∷ 5 ∷ [])
+    ∷ plays (siblings none none) oneRead 3 3 6 (9 ∷ 9 ∷ 9 ∷ []) (0 ∷ 0 ∷ 5 ∷ [])
+    ∷ steps (siblings 2 1) 5 3 6 (0 ∷ 0 ∷ 5 ∷ [])
+    ∷ steps (siblings 1 none) 5 3 6 (0 ∷ 0 ∷ 5 ∷ [])
+    ∷ steps (siblings 2 2) 5 3 6 (0 ∷ 0 ∷ 5 ∷ [])
     -- a state of zeros is not sound; it records no node
     ∷ steps nothing 5 1 6 (5 ∷ [])
     -- 4 before 5 and 6; 5 before 6
@@ -232,21 +309,21 @@ callTable =
     ∷ steps started 0 1 5 (5 ∷ [])
     ∷ steps unsound 0 2 6 (0 ∷ 0 ∷ [])
     -- 99: a part has another length
-    ∷ refuses (withNumbers (2 ∷ 1 ∷ 2 ∷ 1 ∷ [])) oneRead 3 3 99
-    ∷ refuses (withNumbers (2 ∷ 1 ∷ 2 ∷ 1 ∷ 1 ∷ 0 ∷ [])) oneRead 3 3 99
-    ∷ steps (withNumbers (2 ∷ 1 ∷ 2 ∷ 1 ∷ [])) 5 3 99 (5 ∷ 5 ∷ 5 ∷ [])
-    ∷ steps (withNumbers (2 ∷ 1 ∷ 2 ∷ 1 ∷ 1 ∷ 0 ∷ [])) 5 3 99 (5 ∷ 5 ∷ 5 ∷ [])
-    ∷ refuses (lengths 5 519 448) oneRead 3 3 99
-    ∷ refuses (lengths 5 521 448) oneRead 3 3 99
-    ∷ refuses (lengths 5 520 447) oneRead 3 3 99
-    ∷ refuses (lengths 5 520 449) oneRead 3 3 99
-    ∷ steps (lengths 5 519 448) 5 3 99 (5 ∷ 5 ∷ 5 ∷ [])
-    ∷ steps (lengths 5 520 449) 5 3 99 (5 ∷ 5 ∷ 5 ∷ [])
+    ∷ refuses (withNumbers (numbers 1 (0 ∷ 0 ∷ 0 ∷ []))) oneRead 3 3 99
+    ∷ refuses (withNumbers (numbers 1 (0 ∷ 0 ∷ 0 ∷ 0 ∷ 0 ∷ []))) oneRead 3 3 99
+    ∷ steps (withNumbers (numbers 1 (0 ∷ 0 ∷ 0 ∷ []))) 5 3 99 (5 ∷ 5 ∷ 5 ∷ [])
+    ∷ steps (withNumbers (numbers 1 (0 ∷ 0 ∷ 0 ∷ 0 ∷ 0 ∷ []))) 5 3 99 (5 ∷ 5 ∷ 5 ∷ [])
+    ∷ refuses (lengths 9 519 768) oneRead 3 3 99
+    ∷ refuses (lengths 9 521 768) oneRead 3 3 99
+    ∷ refuses (lengths 9 520 767) oneRead 3 3 99
+    ∷ refuses (lengths 9 520 769) oneRead 3 3 99
+    ∷ steps (lengths 9 519 768) 5 3 99 (5 ∷ 5 ∷ 5 ∷ [])
+    ∷ steps (lengths 9 520 769) 5 3 99 (5 ∷ 5 ∷ 5 ∷ [])
     -- 99 before 4, 5, 6 (the words above are not sound) and 7
-    ∷ refuses (withNumbers (2 ∷ 1 ∷ 2 ∷ 1 ∷ [])) (0 ∷ []) 3 3 99
-    ∷ refuses (withNumbers (2 ∷ 1 ∷ 2 ∷ 1 ∷ [])) oneRead 1 3 99
-    ∷ steps (withNumbers (2 ∷ 1 ∷ 2 ∷ 1 ∷ [])) 5 1 99 (5 ∷ [])
-    ∷ steps (withNumbers (2 ∷ 1 ∷ 2 ∷ 1 ∷ [])) 0 3 99 (5 ∷ 5 ∷ 5 ∷ [])
+    ∷ refuses (withNumbers (numbers 1 (0 ∷ 0 ∷ 0 ∷ []))) (0 ∷ []) 3 3 99
+    ∷ refuses (withNumbers (numbers 1 (0 ∷ 0 ∷ 0 ∷ []))) oneRead 1 3 99
+    ∷ steps (withNumbers (numbers 1 (0 ∷ 0 ∷ 0 ∷ []))) 5 1 99 (5 ∷ [])
+    ∷ steps (withNumbers (numbers 1 (0 ∷ 0 ∷ 0 ∷ []))) 0 3 99 (5 ∷ 5 ∷ 5 ∷ [])
     ∷ []
 
 -- given whether state and pool are sound
@@ -279,21 +356,25 @@ abbrev soundAs : Before → Bool
 soundAs started = true
 soundAs (withNumbers ks) = isSound (foundIn (quickStart begun) (withNumbers ks) .state) (quickStart begun .pool)
 soundAs unsound = false
-soundAs (returning p x) = isSound (foundIn (quickStart begun) (returning p x) .state) (quickStart begun .pool)
-soundAs (suspended x) = isSound (childRuns x .state) (childRuns x .pool)
+soundAs (withWord p i x) = isSound (foundIn (quickStart begun) (withWord p i x) .state) (quickStart begun .pool)
+soundAs (suspended x y) = isSound (oneChild x y .state) (oneChild x y .pool)
+soundAs (siblings y z) = isSound (twoChildren y z .state) (twoChildren y z .pool)
+soundAs (ended totals) = isSound (noneLives totals .state) (noneLives totals .pool)
 soundAs (lengths ns ds fs) = isSound (sizes ns ds fs) (replicate 9 7)
 soundAs nothing = isSound zeros []
 
 not-sound : isSound (foundIn (quickStart begun) unsound .state) (quickStart begun .pool) ≡ false
-unfolding sound numbersSound framesSound oneMain parentsLive countsRight placedOnce returningRight holdLive absentEmpty restZero linked onlyBelow placesFree size place frameAt height width treeNodes initPool initFree initLeaves initInner initLevel setNode δ count
+unfolding sound numbersSound framesSound oneMain parentsLive countsRight placedOnce returningRight linksRight totalsRight chained holdLive absentEmpty restZero linked onlyBelow placesFree size place frameAt height width treeNodes initPool initFree initLeaves initInner initLevel setNode δ count
 not-sound = refl
 
 sound-as : (b : Before) → isSound (foundIn (quickStart begun) b .state) (foundIn (quickStart begun) b .pool) ≡ soundAs b
 sound-as started = ap (λ (h : StateAndPool). isSound (h .state) (h .pool)) (sym (start-quick begun begins)) ∙ after-sound begun [] begins
 sound-as (withNumbers ks) = refl
 sound-as unsound = not-sound
-sound-as (returning p x) = refl
-sound-as (suspended x) = refl
+sound-as (withWord p i x) = refl
+sound-as (suspended x y) = refl
+sound-as (siblings y z) = refl
+sound-as (ended totals) = refl
 sound-as (lengths ns ds fs) = refl
 sound-as nothing = refl
 
@@ -304,7 +385,7 @@ row-quick : (r : CallRow) → callSeen (found (r .before)) (r .call) ≡ rowQuic
 row-quick r = ap (λ h. callSeen h (r .call)) (found-quick (r .before)) ∙ seen-by (foundIn (quickStart begun) (r .before)) (r .call) (sound-as (r .before))
 
 calls-quickly : map rowQuick callTable ≡ map callSaid callTable
-unfolding callTable runOn recordsFrom recordOf decodeAt readOn stepOn bottom readAt leafOf initPool initFree initLeaves initInner initLevel setNode height width treeNodes size place frameAt cleared sound numbersSound rootsBelow framesSound oneMain parentsLive countsRight placedOnce returningRight holdLive absentEmpty restZero linked onlyBelow placesFree poolSound treeAt nodesAt refcount left right value δ count
+unfolding callTable runOn recordsFrom recordOf decodeAt readOn stepOn bottom readAt leafOf initPool initFree initLeaves initInner initLevel setNode height width treeNodes size place frameAt cleared sound numbersSound rootsBelow framesSound oneMain parentsLive countsRight placedOnce returningRight linksRight totalsRight chained holdLive absentEmpty restZero linked onlyBelow placesFree poolSound treeAt nodesAt refcount left right value δ count
 calls-quickly = refl
 
 pub call-refusals : map (λ (row : CallRow). callSeen (found (row .before)) (row .call)) callTable ≡ map callSaid callTable

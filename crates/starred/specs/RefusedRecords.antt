@@ -1,9 +1,9 @@
--- Refusals 7 to 16: each at its condition and beside its nearest accepted neighbour, the order in which they are checked, and
+-- Refusals 7 to 16 and 20: each at its condition and beside its nearest accepted neighbour, the order in which they are checked, and
 -- that they leave state and pool unchanged. Four tables, a theorem each: three through tapes, one through steps from outside. R-3: "14 no
--- longer occurs"; its rows are accepted, and of returns no refusal but 7 to 10 is left.
+-- longer occurs"; its rows are accepted, and of returns no refusal but 7 to 10 is left. R-5: 20 stands "in the place of 15".
 --
--- These never hold together. By the kind of step: 10 (no steal) and 11, 12 (steals); 11, 12, 13 (spawns) and 15, 16 (reads, writes), but
--- for 11 with 12 and 15 with 16; 7 and 16, for a write has no unused field. By the frames: 8 and 11, for a worker that does not exist
+-- These never hold together. By the kind of step: 10 (no steal) and 11, 12 (steals); 11, 12, 13 (spawns), 15, 16 (reads, writes) and 20 (folds), but
+-- for 11 with 12 and 15 with 16; 7 and 16 or 20, for a write and a fold have no unused field. By the frames: 8 and 11, for a worker that does not exist
 -- has no frame; 9 and 11 or 13, for no frame lives once Main has returned; 9 and 16, for no frame lives then, so no write is judged
 -- by 16. Of all other pairs there is a row. (8 or 10 and 16: a worker without a frame has no path; the rows are where a write by each frame
 -- that lives would be refused by 16.)
@@ -19,16 +19,18 @@ use Rattle.words.specs.Basics.{joined, same}
 use Rattle.words.specs.Tests.{decided}
 use Rattle.sizes.specs.Sizes.{height, width, treeNodes, bit}
 use Rattle.pool.specs.Pool.{refcount, left, right, value, setNode, setRefcount, side, child, sibling, leafOf, readAt, retain, release, pathNode, copyPath, setValue, setLink, renew, firstShared, rest, writeFrom, write, initLevel, initInner, initLeaves, initFree, initPool}
+use Rattle.reducers.specs.Reducers.{foldView}
 use Rattle.frames.specs.Frames.{frameAt, setFrame}
 use Rattle.frames.specs.Deques.{size, setSize, place, setPlace, bottom, top, push, pop, shiftUp, dropTop}
-use Rattle.frames.specs.Steps.{spawn, endFrame, goOn, wentOn, steal, sync, synced}
+use Rattle.frames.specs.Siblings.{relinkFrom, eldestTo, firstFrom, nextAfter}
+use Rattle.frames.specs.Steps.{addChild, spawn, removeFrame, endFrame, goOn, wentOn, steal, sync, synced, fold}
 use Rattle.soundness.specs.Soundness.{cleared}
 use Rattle.model.specs.Record.{recordOf, decodeAt}
-use Rattle.semantics.specs.Core.{spawnOn, endAt, upward, endBottom, returnOn, stealOn, syncOn, readOn, writeOn, stepOn}
+use Rattle.semantics.specs.Core.{spawnOn, endAt, upward, endBottom, returnOn, stealOn, syncOn, readOn, writeOn, foldOn, stepOn}
 use Rattle.semantics.specs.Answers.{wordsIn}
 use Rattle.semantics.specs.Entries.{wholeNodes, startOn, startWith, OutsideResult, recordsFrom, runOn, TapeResult}
 use Rattle.semantics.specs.Calls.{Start, startResult, HostCall, tape, StateAndPool, afterStart, outsideResult, tapeResult}
-use Rattle.starred.specs.Tapes.{bytes, spawns, returns, steals, syncs, reads, writes, anyParts, anyPool, wordsOf}
+use Rattle.starred.specs.Tapes.{bytes, spawns, returns, steals, syncs, reads, writes, folds, anyParts, anyPool, wordsOf}
 use Rattle.starred.specs.Quick.{afterCalls, outsideBy, outside-by, quickStart, after-sound, quickTape, tape-quick, quickCalls, after-quick}
 
 -- ---- tapes
@@ -108,9 +110,9 @@ atStart = record {
   start = starts 2 1 2;
   before = [];
   refused =
-      -- "7. The kind is not 1 to 6 .."
+      -- "7. The kind is not 1 to 6 .."; R-5: "Refusal 7 lets kind 7 pass."
       by (bytes 0 0 0 0) 7
-      ∷ by (bytes 7 0 0 0) 7
+      ∷ by (bytes 8 0 0 0) 7
       ∷ by (bytes 255 0 0 0) 7
       -- ".. or an unused field is not zero": each unused field of each kind
       ∷ by (bytes 1 0 1 0) 7
@@ -138,20 +140,24 @@ atStart = record {
       ∷ by (syncs 2) 8
       ∷ by (reads 2 0) 8
       ∷ by (writes 2 0 5) 8
+      ∷ by (folds 2 0 5) 8
       ∷ by (reads 255 0) 8
-      -- 8 before 12 and 15 (and 10: a worker that does not exist has no frame)
+      -- 8 before 12, 15 and 20 (and 10: a worker that does not exist has no frame)
       ∷ by (steals 2 2) 8
       ∷ by (reads 2 1) 8
       ∷ by (writes 2 1 5) 8
+      ∷ by (folds 2 3 5) 8
       -- "10. The step is not a steal and the worker is idle.", of each kind
       ∷ by (spawns 1) 10
       ∷ by (returns 1) 10
       ∷ by (syncs 1) 10
       ∷ by (reads 1 0) 10
       ∷ by (writes 1 0 5) 10
-      -- 10 before 15
+      ∷ by (folds 1 0 5) 10
+      -- 10 before 15 and 20
       ∷ by (reads 1 1) 10
       ∷ by (writes 1 1 5) 10
+      ∷ by (folds 1 3 5) 10
       -- "11. The step is a steal and the thief is not idle."; 11 before 12: the victim has one frame, none, or does not exist
       ∷ by (steals 0 0) 11
       ∷ by (steals 0 1) 11
@@ -165,12 +171,20 @@ atStart = record {
       ∷ by (reads 0 1) 15
       ∷ by (writes 0 1 5) 15
       ∷ by (5 ∷ 0 ∷ 0 ∷ 1 ∷ 0 ∷ 0 ∷ 0 ∷ 0 ∷ []) 15
+      -- R-5: "20, kind 7 names no reducer"
+      ∷ by (folds 0 3 5) 20
+      ∷ by (folds 0 3 0) 20
+      ∷ by (folds 0 255 5) 20
+      ∷ by (7 ∷ 0 ∷ 0 ∷ 1 ∷ 5 ∷ 0 ∷ 0 ∷ 0 ∷ []) 20
       ∷ [];
   after =
       -- the neighbours that are accepted
       gives (syncs 0) 104 0
       ∷ gives (reads 0 0) 105 1
       ∷ gives (writes 0 0 8) 106 1
+      ∷ gives (folds 0 0 0) 107 0
+      ∷ gives (folds 0 1 5) 107 0
+      ∷ gives (folds 0 2 5) 107 0
       ∷ gives (spawns 0) 101 1
       ∷ gives (steals 1 0) 103 0
       ∷ gives (reads 1 0) 105 8
@@ -202,15 +216,19 @@ mainReturned = record {
       ∷ by (syncs 0) 9
       ∷ by (reads 0 0) 9
       ∷ by (writes 0 0 5) 9
+      ∷ by (folds 0 0 5) 9
       ∷ by (spawns 1) 9
-      -- 9 before 15
+      -- 9 before 15 and 20
       ∷ by (reads 0 1) 9
       ∷ by (writes 0 1 5) 9
+      ∷ by (folds 0 3 5) 9
       -- 7 and 8 before 9
       ∷ by (bytes 0 0 0 0) 7
+      ∷ by (bytes 8 0 0 0) 7
       ∷ by (bytes 1 0 1 0) 7
       ∷ by (spawns 2) 8
       ∷ by (steals 2 0) 8
+      ∷ by (folds 2 0 5) 8
       ∷ [];
   after = [];
 }
@@ -254,21 +272,25 @@ mainWaits = record {
       ∷ by (syncs 1) 10
       ∷ by (reads 1 0) 10
       ∷ by (writes 1 0 5) 10
+      ∷ by (folds 1 0 5) 10
       ∷ by (reads 2 0) 10
       -- .. and 11 or 12
       ∷ by (steals 0 1) 11
       ∷ by (steals 1 0) 12
       ∷ by (steals 2 1) 12
       ∷ by (steals 1 3) 12
-      -- 7 and 8 before them, 10 before 15, and 15
+      -- 7 and 8 before them, 10 before 15 and 20, and 15, 20
       ∷ by (bytes 2 1 1 0) 7
       ∷ by (returns 3) 8
       ∷ by (reads 1 1) 10
+      ∷ by (folds 1 3 5) 10
       ∷ by (reads 0 1) 15
+      ∷ by (folds 0 3 5) 20
       ∷ [];
   after =
       -- its child waits too, and ends, like Main, when its own child does: then 9
-      gives (spawns 0) 101 2
+      gives (folds 0 0 5) 107 0
+      ∷ gives (spawns 0) 101 2
       ∷ gives (steals 1 0) 103 1
       ∷ gives (returns 1) 102 4
       ∷ by (returns 1) 10
@@ -379,7 +401,7 @@ pub workersTable : List Case
 workersTable = atStart ∷ eightWorkers ∷ mainReturned ∷ twoFrames ∷ []
 
 workers-quickly : map seenQuick workersTable ≡ map said workersTable
-unfolding workersTable startOn startWith runOn recordsFrom recordOf decodeAt spawnOn endAt upward endBottom returnOn stealOn syncOn readOn writeOn stepOn spawn endFrame goOn wentOn steal sync synced shiftUp dropTop pop top bottom side child sibling bit leafOf readAt retain release setRefcount pathNode copyPath setValue setLink renew firstShared rest writeFrom write initPool initFree initLeaves initInner initLevel setNode height width treeNodes push setSize setPlace size place setFrame frameAt cleared refcount left right value
+unfolding workersTable startOn startWith runOn recordsFrom recordOf decodeAt spawnOn endAt upward endBottom returnOn stealOn syncOn readOn writeOn foldOn stepOn addChild spawn removeFrame endFrame goOn wentOn steal sync synced fold relinkFrom eldestTo firstFrom nextAfter foldView shiftUp dropTop pop top bottom side child sibling bit leafOf readAt retain release setRefcount pathNode copyPath setValue setLink renew firstShared rest writeFrom write initPool initFree initLeaves initInner initLevel setNode height width treeNodes push setSize setPlace size place setFrame frameAt cleared refcount left right value
 workers-quickly = refl
 
 pub workers-refusals : map seen workersTable ≡ map said workersTable
@@ -401,7 +423,7 @@ nodesTable =
     ∷ []
 
 nodes-quickly : map seenQuick nodesTable ≡ map said nodesTable
-unfolding nodesTable startOn startWith runOn recordsFrom recordOf decodeAt spawnOn endAt upward endBottom returnOn stealOn syncOn readOn writeOn stepOn spawn endFrame goOn wentOn steal sync synced shiftUp dropTop pop top bottom side child sibling bit leafOf readAt retain release setRefcount pathNode copyPath setValue setLink renew firstShared rest writeFrom write initPool initFree initLeaves initInner initLevel setNode height width treeNodes push setSize setPlace size place setFrame frameAt cleared refcount left right value
+unfolding nodesTable startOn startWith runOn recordsFrom recordOf decodeAt spawnOn endAt upward endBottom returnOn stealOn syncOn readOn writeOn foldOn stepOn addChild spawn removeFrame endFrame goOn wentOn steal sync synced fold relinkFrom eldestTo firstFrom nextAfter foldView shiftUp dropTop pop top bottom side child sibling bit leafOf readAt retain release setRefcount pathNode copyPath setValue setLink renew firstShared rest writeFrom write initPool initFree initLeaves initInner initLevel setNode height width treeNodes push setSize setPlace size place setFrame frameAt cleared refcount left right value
 nodes-quickly = refl
 
 pub nodes-refusals : map seen nodesTable ≡ map said nodesTable
@@ -429,7 +451,7 @@ framesTable =
     ∷ [])
 
 frames-quickly : playedQuick (starts 2 1 1) framesTable .answers ≡ saidOf framesTable
-unfolding framesTable startOn startWith runOn recordsFrom recordOf decodeAt spawnOn endAt upward endBottom returnOn stealOn syncOn readOn writeOn stepOn spawn endFrame goOn wentOn steal sync synced shiftUp dropTop pop top bottom side child sibling bit leafOf readAt retain release setRefcount pathNode copyPath setValue setLink renew firstShared rest writeFrom write initPool initFree initLeaves initInner initLevel setNode height width treeNodes push setSize setPlace size place setFrame frameAt cleared refcount left right value
+unfolding framesTable startOn startWith runOn recordsFrom recordOf decodeAt spawnOn endAt upward endBottom returnOn stealOn syncOn readOn writeOn foldOn stepOn addChild spawn removeFrame endFrame goOn wentOn steal sync synced fold relinkFrom eldestTo firstFrom nextAfter foldView shiftUp dropTop pop top bottom side child sibling bit leafOf readAt retain release setRefcount pathNode copyPath setValue setLink renew firstShared rest writeFrom write initPool initFree initLeaves initInner initLevel setNode height width treeNodes push setSize setPlace size place setFrame frameAt cleared refcount left right value
 frames-quickly = refl
 
 pub frames-refusals : played (starts 2 1 1) framesTable .answers ≡ saidOf framesTable
@@ -492,11 +514,22 @@ stepTable =
     ∷ enters (starts 2 1 1) [] 6 0 0 5 106 0
     ∷ enters (starts 2 1 2) [] 6 0 0 5 106 1
     ∷ enters (starts 2 1 2) [] 5 0 0 0 105 1
+    -- R-5
+    ∷ enters (starts 2 1 2) [] 8 0 0 0 7 0
+    ∷ enters (starts 2 1 2) [] 7 2 0 5 8 0
+    ∷ enters (starts 2 1 2) (gives (returns 0) 102 3 ∷ []) 7 0 0 5 9 0
+    ∷ enters (starts 2 1 2) [] 7 1 3 5 10 0
+    ∷ enters (starts 2 1 2) [] 7 0 3 5 20 0
+    ∷ enters (starts 2 1 2) [] 7 0 0 0 107 0
+    ∷ enters (starts 2 1 2) [] 7 0 1 5 107 0
+    ∷ enters (starts 2 1 2) [] 7 0 2 4294967295 107 0
     -- a number that its field in a record could not hold
     ∷ enters (starts 2 1 2) [] 257 0 0 0 7 0
+    ∷ enters (starts 2 1 2) [] 263 0 0 0 7 0
     ∷ enters (starts 2 1 2) [] 5 256 0 0 8 0
     ∷ enters (starts 2 1 2) [] 3 1 65536 0 12 0
     ∷ enters (starts 2 1 2) [] 5 0 65536 0 15 0
+    ∷ enters (starts 2 1 2) [] 7 0 65536 0 20 0
     ∷ []
 
 -- without the check
@@ -518,7 +551,7 @@ step-quick r = elim (decided (eqb (startResult (r .start) .result) 0)) [
 ]
 
 step-quickly : map stepQuick stepTable ≡ map (λ (row : StepRow). (row .words, true)) stepTable
-unfolding stepTable startOn startWith runOn recordsFrom recordOf decodeAt spawnOn endAt upward endBottom returnOn stealOn syncOn readOn writeOn stepOn spawn endFrame goOn wentOn steal sync synced shiftUp dropTop pop top bottom side child sibling bit leafOf readAt retain release setRefcount pathNode copyPath setValue setLink renew firstShared rest writeFrom write initPool initFree initLeaves initInner initLevel setNode height width treeNodes push setSize setPlace size place setFrame frameAt cleared refcount left right value
+unfolding stepTable startOn startWith runOn recordsFrom recordOf decodeAt spawnOn endAt upward endBottom returnOn stealOn syncOn readOn writeOn foldOn stepOn addChild spawn removeFrame endFrame goOn wentOn steal sync synced fold relinkFrom eldestTo firstFrom nextAfter foldView shiftUp dropTop pop top bottom side child sibling bit leafOf readAt retain release setRefcount pathNode copyPath setValue setLink renew firstShared rest writeFrom write initPool initFree initLeaves initInner initLevel setNode height width treeNodes push setSize setPlace size place setFrame frameAt cleared refcount left right value
 step-quickly = refl
 
 pub step-refusals : map stepSeen stepTable ≡ map (λ (row : StepRow). (row .words, true)) stepTable

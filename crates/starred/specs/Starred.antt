@@ -8,15 +8,17 @@ use lib.Dec.{eqb}
 use Rattle.words.specs.Basics.{joined}
 use Rattle.sizes.specs.Sizes.{height, width, treeNodes, bit}
 use Rattle.pool.specs.Pool.{refcount, left, right, value, setNode, setRefcount, side, child, sibling, leafOf, readAt, retain, release, pathNode, copyPath, setValue, setLink, renew, firstShared, rest, writeFrom, write, initLevel, initInner, initLeaves, initFree, initPool}
+use Rattle.reducers.specs.Reducers.{foldView}
 use Rattle.frames.specs.Frames.{frameAt, setFrame}
 use Rattle.frames.specs.Deques.{size, setSize, place, setPlace, bottom, top, push, pop, shiftUp, dropTop}
-use Rattle.frames.specs.Steps.{spawn, endFrame, goOn, wentOn, steal, sync, synced}
+use Rattle.frames.specs.Siblings.{relinkFrom, eldestTo, firstFrom, nextAfter}
+use Rattle.frames.specs.Steps.{addChild, spawn, removeFrame, endFrame, goOn, wentOn, steal, sync, synced, fold}
 use Rattle.soundness.specs.Soundness.{cleared}
 use Rattle.model.specs.Record.{recordOf, decodeAt}
-use Rattle.semantics.specs.Core.{spawnOn, endAt, upward, endBottom, returnOn, stealOn, syncOn, readOn, writeOn, stepOn}
-use Rattle.semantics.specs.Entries.{startOn, startWith, recordsFrom, runOn, TapeResult}
+use Rattle.semantics.specs.Core.{spawnOn, endAt, upward, endBottom, returnOn, stealOn, syncOn, readOn, writeOn, foldOn, stepOn}
+use Rattle.semantics.specs.Entries.{totalsOf, startOn, startWith, recordsFrom, runOn, TapeResult}
 use Rattle.semantics.specs.Calls.{Start, startResult, afterStart, tapeResult}
-use Rattle.starred.specs.Tapes.{spawns, returns, steals, syncs, reads, writes, anyParts, anyPool, five}
+use Rattle.starred.specs.Tapes.{bytes, spawns, returns, steals, syncs, reads, writes, folds, foldsMap, foldsLargest, anyParts, anyPool, five, identities}
 use Rattle.starred.specs.Quick.{quickTape, tape-quick}
 
 -- a start, then a tape
@@ -26,18 +28,19 @@ pub record Case : Type 0 where
   pub nodes : ℕ
   pub records : List (List ℕ)
 
--- the refusal of the start or of the tape, or 0; the answer words; the work slice afterwards
+-- the refusal of the start or of the tape, or 0; the answer words; the work slice and R-5's totals afterwards
 pub record Outcome : Type 0 where
   pub refused : ℕ
   pub answers : List ℕ
   pub work : List ℕ
+  pub totals : List ℕ
 
 abbrev pub outcomeOf : TapeResult → Outcome
-outcomeOf t = record { refused = t .result; answers = t .answers; work = t .work }
+outcomeOf t = record { refused = t .result; answers = t .answers; work = t .work; totals = totalsOf (t .state) }
 
 -- refused whole at the start
 abbrev pub refusedBy : ℕ → Outcome
-refusedBy k = record { refused = k; answers = []; work = [] }
+refusedBy k = record { refused = k; answers = []; work = []; totals = [] }
 
 abbrev startOf : Case → Start
 startOf k = record { parts = anyParts; workers = k .workers; values = k .values; pool = anyPool (k .nodes) }
@@ -61,16 +64,24 @@ outcome k = told k (tapeResult (afterStart (startOf k)) (joined (k .records)) (w
 abbrev starts : ℕ → List ℕ → ℕ → List (List ℕ) → Case
 starts w vs n rs = record { workers = w; values = vs; nodes = n; records = rs }
 
--- the answer words, and after them the two that were lent besides; the work words zero, and after them the one besides
+-- the answer words, and after them the two that were lent besides; the work words zero, and after them the one besides; the totals
+abbrev ends : ℕ → List ℕ → List ℕ → Outcome
+ends nodes as′ ts = record { refused = 0; answers = as′ ++ (9 ∷ 9 ∷ []); work = replicate nodes 0 ++ (5 ∷ []); totals = ts }
+
+-- R-5: the totals are "zero while Main lives"
 abbrev answered : ℕ → List ℕ → Outcome
-answered nodes as′ = record { refused = 0; answers = as′ ++ (9 ∷ 9 ∷ []); work = replicate nodes 0 ++ (5 ∷ []) }
+answered nodes as′ = ends nodes as′ (0 ∷ 0 ∷ 0 ∷ 0 ∷ [])
+
+-- Main has returned, and nothing was folded
+abbrev returned : ℕ → List ℕ → Outcome
+returned nodes as′ = ends nodes as′ identities
 
 pub table : List (Case × Outcome)
 table =
-    -- "The tape above."
+    -- "The tape above."; R-5: it "gains `reduced 0 4294967295 1 0`"
     (
       starts 2 five 20 (spawns 0 ∷ steals 1 0 ∷ writes 1 4 99 ∷ reads 0 4 ∷ syncs 1 ∷ reads 1 4 ∷ returns 0 ∷ reads 0 4 ∷ returns 0 ∷ []),
-      answered 20 (101 ∷ 1 ∷ 103 ∷ 0 ∷ 106 ∷ 5 ∷ 105 ∷ 50 ∷ 104 ∷ 1 ∷ 10 ∷ 0 ∷ 102 ∷ 2 ∷ 105 ∷ 99 ∷ 102 ∷ 3 ∷ []),
+      returned 20 (101 ∷ 1 ∷ 103 ∷ 0 ∷ 106 ∷ 5 ∷ 105 ∷ 50 ∷ 104 ∷ 1 ∷ 10 ∷ 0 ∷ 102 ∷ 2 ∷ 105 ∷ 99 ∷ 102 ∷ 3 ∷ []),
     )
     -- R-2: "n 5 with 11 nodes now accepts a first write, 106 0; so do one node with n 1 and 14 nodes with n 5, with 106 0 and 106 3."
     ∷ (starts 1 five 11 (writes 0 0 5 ∷ []), answered 11 (106 ∷ 0 ∷ []))
@@ -115,44 +126,95 @@ table =
     -- ends too": "Main has returned once it has ended, with outcome 3, and not while it waits."
     ∷ (
       starts 2 five 20 (spawns 0 ∷ steals 1 0 ∷ writes 1 4 99 ∷ returns 1 ∷ reads 1 4 ∷ steals 1 0 ∷ reads 0 4 ∷ writes 0 4 61 ∷ returns 0 ∷ reads 0 4 ∷ []),
-      answered 20 (101 ∷ 1 ∷ 103 ∷ 0 ∷ 106 ∷ 5 ∷ 102 ∷ 4 ∷ 10 ∷ 0 ∷ 12 ∷ 0 ∷ 105 ∷ 50 ∷ 106 ∷ 5 ∷ 102 ∷ 3 ∷ 9 ∷ 0 ∷ []),
+      returned 20 (101 ∷ 1 ∷ 103 ∷ 0 ∷ 106 ∷ 5 ∷ 102 ∷ 4 ∷ 10 ∷ 0 ∷ 12 ∷ 0 ∷ 105 ∷ 50 ∷ 106 ∷ 5 ∷ 102 ∷ 3 ∷ 9 ∷ 0 ∷ []),
     )
     -- "the answer shows where that stopped: 1, 2 or 3". 1: Main's child waits, and ends with its own; Main goes on elsewhere. Its child's 4 nodes
     -- are held while it waits, and free then
     ∷ (
       starts 3 five 20 (spawns 0 ∷ steals 1 0 ∷ writes 0 4 61 ∷ spawns 0 ∷ steals 2 0 ∷ returns 2 ∷ writes 1 4 71 ∷ returns 0 ∷ writes 1 4 72 ∷ reads 0 4 ∷ returns 1 ∷ []),
-      answered 20 (101 ∷ 1 ∷ 103 ∷ 0 ∷ 106 ∷ 5 ∷ 101 ∷ 2 ∷ 103 ∷ 1 ∷ 102 ∷ 4 ∷ 106 ∷ 5 ∷ 102 ∷ 1 ∷ 106 ∷ 9 ∷ 10 ∷ 0 ∷ 102 ∷ 3 ∷ []),
+      returned 20 (101 ∷ 1 ∷ 103 ∷ 0 ∷ 106 ∷ 5 ∷ 101 ∷ 2 ∷ 103 ∷ 1 ∷ 102 ∷ 4 ∷ 106 ∷ 5 ∷ 102 ∷ 1 ∷ 106 ∷ 9 ∷ 10 ∷ 0 ∷ 102 ∷ 3 ∷ []),
     )
     -- 2: the same with Main at its sync, which it passes, with its own list
     ∷ (
       starts 3 five 20 (spawns 0 ∷ steals 1 0 ∷ writes 1 4 99 ∷ spawns 0 ∷ steals 2 0 ∷ returns 2 ∷ syncs 1 ∷ returns 0 ∷ reads 0 4 ∷ returns 0 ∷ []),
-      answered 20 (101 ∷ 1 ∷ 103 ∷ 0 ∷ 106 ∷ 5 ∷ 101 ∷ 2 ∷ 103 ∷ 1 ∷ 102 ∷ 4 ∷ 104 ∷ 1 ∷ 102 ∷ 2 ∷ 105 ∷ 99 ∷ 102 ∷ 3 ∷ []),
+      returned 20 (101 ∷ 1 ∷ 103 ∷ 0 ∷ 106 ∷ 5 ∷ 101 ∷ 2 ∷ 103 ∷ 1 ∷ 102 ∷ 4 ∷ 104 ∷ 1 ∷ 102 ∷ 2 ∷ 105 ∷ 99 ∷ 102 ∷ 3 ∷ []),
     )
     -- 3: Main, its child and the child's child wait, and one return ends all four
     ∷ (
       starts 2 five 20 (spawns 0 ∷ spawns 0 ∷ spawns 0 ∷ steals 1 0 ∷ returns 1 ∷ steals 1 0 ∷ returns 1 ∷ steals 1 0 ∷ returns 1 ∷ steals 1 0 ∷ reads 0 4 ∷ returns 0 ∷ reads 0 4 ∷ []),
-      answered 20 (101 ∷ 1 ∷ 101 ∷ 2 ∷ 101 ∷ 3 ∷ 103 ∷ 0 ∷ 102 ∷ 4 ∷ 103 ∷ 1 ∷ 102 ∷ 4 ∷ 103 ∷ 2 ∷ 102 ∷ 4 ∷ 12 ∷ 0 ∷ 105 ∷ 50 ∷ 102 ∷ 3 ∷ 9 ∷ 0 ∷ []),
+      returned 20 (101 ∷ 1 ∷ 101 ∷ 2 ∷ 101 ∷ 3 ∷ 103 ∷ 0 ∷ 102 ∷ 4 ∷ 103 ∷ 1 ∷ 102 ∷ 4 ∷ 103 ∷ 2 ∷ 102 ∷ 4 ∷ 12 ∷ 0 ∷ 105 ∷ 50 ∷ 102 ∷ 3 ∷ 9 ∷ 0 ∷ []),
     )
     -- the same with Main's child at its sync: it resumes, 2, and its own return ends Main
     ∷ (
       starts 2 five 20 (spawns 0 ∷ spawns 0 ∷ spawns 0 ∷ steals 1 0 ∷ returns 1 ∷ steals 1 0 ∷ syncs 1 ∷ steals 1 0 ∷ returns 1 ∷ returns 0 ∷ reads 0 4 ∷ returns 0 ∷ []),
-      answered 20 (101 ∷ 1 ∷ 101 ∷ 2 ∷ 101 ∷ 3 ∷ 103 ∷ 0 ∷ 102 ∷ 4 ∷ 103 ∷ 1 ∷ 104 ∷ 1 ∷ 103 ∷ 2 ∷ 102 ∷ 4 ∷ 102 ∷ 2 ∷ 105 ∷ 50 ∷ 102 ∷ 3 ∷ []),
+      returned 20 (101 ∷ 1 ∷ 101 ∷ 2 ∷ 101 ∷ 3 ∷ 103 ∷ 0 ∷ 102 ∷ 4 ∷ 103 ∷ 1 ∷ 104 ∷ 1 ∷ 103 ∷ 2 ∷ 102 ∷ 4 ∷ 102 ∷ 2 ∷ 105 ∷ 50 ∷ 102 ∷ 3 ∷ []),
     )
     -- Main waits for two children: the first waits too, and ends with its own, 1; Main ends with the second, 3
     ∷ (
       starts 3 five 20 (spawns 0 ∷ steals 1 0 ∷ spawns 1 ∷ steals 2 1 ∷ returns 2 ∷ spawns 0 ∷ steals 2 0 ∷ returns 2 ∷ returns 0 ∷ reads 0 4 ∷ steals 0 1 ∷ returns 1 ∷ []),
-      answered 20 (101 ∷ 1 ∷ 103 ∷ 0 ∷ 101 ∷ 1 ∷ 103 ∷ 0 ∷ 102 ∷ 4 ∷ 101 ∷ 2 ∷ 103 ∷ 1 ∷ 102 ∷ 4 ∷ 102 ∷ 1 ∷ 10 ∷ 0 ∷ 12 ∷ 0 ∷ 102 ∷ 3 ∷ []),
+      returned 20 (101 ∷ 1 ∷ 103 ∷ 0 ∷ 101 ∷ 1 ∷ 103 ∷ 0 ∷ 102 ∷ 4 ∷ 101 ∷ 2 ∷ 103 ∷ 1 ∷ 102 ∷ 4 ∷ 102 ∷ 1 ∷ 10 ∷ 0 ∷ 12 ∷ 0 ∷ 102 ∷ 3 ∷ []),
     )
     -- n 1, 3 nodes: one is Main's, which waits, so that a write deeper down is refused by 16
     ∷ (
       starts 2 (7 ∷ []) 3 (spawns 0 ∷ steals 1 0 ∷ writes 1 0 9 ∷ returns 1 ∷ spawns 0 ∷ writes 0 0 5 ∷ spawns 0 ∷ writes 0 0 6 ∷ returns 0 ∷ returns 0 ∷ writes 0 0 8 ∷ returns 0 ∷ []),
-      answered 3 (101 ∷ 1 ∷ 103 ∷ 0 ∷ 106 ∷ 1 ∷ 102 ∷ 4 ∷ 101 ∷ 2 ∷ 106 ∷ 0 ∷ 101 ∷ 3 ∷ 16 ∷ 0 ∷ 102 ∷ 0 ∷ 102 ∷ 0 ∷ 106 ∷ 1 ∷ 102 ∷ 3 ∷ []),
+      returned 3 (101 ∷ 1 ∷ 103 ∷ 0 ∷ 106 ∷ 1 ∷ 102 ∷ 4 ∷ 101 ∷ 2 ∷ 106 ∷ 0 ∷ 101 ∷ 3 ∷ 16 ∷ 0 ∷ 102 ∷ 0 ∷ 102 ∷ 0 ∷ 106 ∷ 1 ∷ 102 ∷ 3 ∷ []),
+    )
+    -- R-5: "folds its value into the reducer named in its splitter field and answers 107 0"; "20, kind 7 names no reducer"; kinds above 7 are refused by
+    -- 7 still, and after Main's return a fold by 9. "the value divided by 65,536 is the multiplier": 0 here
+    ∷ (
+      starts 1 (7 ∷ []) 1 (folds 0 0 5 ∷ folds 0 3 5 ∷ folds 0 255 0 ∷ bytes 8 0 0 0 ∷ folds 0 1 6 ∷ folds 0 2 0 ∷ returns 0 ∷ folds 0 0 5 ∷ folds 0 3 5 ∷ []),
+      ends 1 (107 ∷ 0 ∷ 20 ∷ 0 ∷ 20 ∷ 0 ∷ 7 ∷ 0 ∷ 107 ∷ 0 ∷ 107 ∷ 0 ∷ 102 ∷ 3 ∷ 9 ∷ 0 ∷ 9 ∷ 0 ∷ []) (5 ∷ 6 ∷ 0 ∷ 0 ∷ []),
+    )
+    -- before Main's return they are zero
+    ∷ (starts 1 (7 ∷ []) 1 (folds 0 0 5 ∷ folds 0 1 6 ∷ foldsMap 0 2 3 ∷ []), answered 1 (107 ∷ 0 ∷ 107 ∷ 0 ∷ 107 ∷ 0 ∷ []))
+    -- "modulo 4,294,967,296": 4,294,967,295 + 2; the map of 4,294,967,295 three times
+    ∷ (
+      starts 1 (7 ∷ []) 1 (foldsLargest 0 0 ∷ folds 0 0 2 ∷ foldsLargest 0 1 ∷ foldsLargest 0 2 ∷ foldsLargest 0 2 ∷ foldsLargest 0 2 ∷ returns 0 ∷ []),
+      ends 1 (107 ∷ 0 ∷ 107 ∷ 0 ∷ 107 ∷ 0 ∷ 107 ∷ 0 ∷ 107 ∷ 0 ∷ 107 ∷ 0 ∷ 102 ∷ 3 ∷ []) (1 ∷ 4294967295 ∷ 196607 ∷ 131071 ∷ []),
+    )
+    -- "in the order of Main's child-first list": Main folds 2x + 1, spawns A, folds 3x, spawns B, folds x + 5; A folds 5x + 2, B 7x + 1. B ends first, and A
+    -- folds last. In the order of the tape the addend would be 287
+    ∷ (
+      starts 3 (7 ∷ []) 1
+          (foldsMap 0 2 1 ∷ folds 0 0 10 ∷ spawns 0 ∷ steals 1 0 ∷ foldsMap 1 3 0 ∷ folds 1 1 9 ∷ spawns 1 ∷ steals 2 1 ∷ foldsMap 2 1 5 ∷ foldsMap 1 7 1 ∷ folds 1 0 20 ∷ returns 1 ∷ foldsMap 0 5 2 ∷ folds 0 1 4 ∷ returns 0 ∷ returns 2 ∷ []),
+      ends 1
+          (107 ∷ 0 ∷ 107 ∷ 0 ∷ 101 ∷ 1 ∷ 103 ∷ 0 ∷ 107 ∷ 0 ∷ 107 ∷ 0 ∷ 101 ∷ 1 ∷ 103 ∷ 0 ∷ 107 ∷ 0 ∷ 107 ∷ 0 ∷ 107 ∷ 0 ∷ 102 ∷ 1 ∷ 107 ∷ 0 ∷ 107 ∷ 0 ∷ 102 ∷ 1 ∷ 102 ∷ 3 ∷ [])
+          (30 ∷ 4 ∷ 210 ∷ 153 ∷ []),
+    )
+    -- A ends first, while B has a live child C: "the view of a frame that ends joins on the left of the next one's in that order", C's. B waits in its return
+    ∷ (
+      starts 3 (7 ∷ []) 1
+          (foldsMap 0 2 1 ∷ folds 0 0 10 ∷ spawns 0 ∷ steals 1 0 ∷ foldsMap 1 3 0 ∷ folds 1 1 9 ∷ spawns 1 ∷ steals 2 1 ∷ foldsMap 2 1 5 ∷ foldsMap 1 7 1 ∷ spawns 1 ∷ foldsMap 1 11 3 ∷ foldsMap 0 5 2 ∷ folds 0 1 4 ∷ returns 0 ∷ steals 0 1 ∷ foldsMap 0 13 0 ∷ folds 0 0 20 ∷ returns 0 ∷ returns 1 ∷ returns 2 ∷ []),
+      ends 1
+          (107 ∷ 0 ∷ 107 ∷ 0 ∷ 101 ∷ 1 ∷ 103 ∷ 0 ∷ 107 ∷ 0 ∷ 107 ∷ 0 ∷ 101 ∷ 1 ∷ 103 ∷ 0 ∷ 107 ∷ 0 ∷ 107 ∷ 0 ∷ 101 ∷ 2 ∷ 107 ∷ 0 ∷ 107 ∷ 0 ∷ 107 ∷ 0 ∷ 102 ∷ 1 ∷ 103 ∷ 1 ∷ 107 ∷ 0 ∷ 107 ∷ 0 ∷ 102 ∷ 4 ∷ 102 ∷ 1 ∷ 102 ∷ 3 ∷ [])
+          (30 ∷ 4 ∷ 30030 ∷ 21208 ∷ []),
+    )
+    -- "as in the one-worker run": the same frames' steps on one worker
+    ∷ (
+      starts 1 (7 ∷ []) 1
+          (foldsMap 0 2 1 ∷ folds 0 0 10 ∷ spawns 0 ∷ foldsMap 0 5 2 ∷ folds 0 1 4 ∷ returns 0 ∷ foldsMap 0 3 0 ∷ folds 0 1 9 ∷ spawns 0 ∷ foldsMap 0 7 1 ∷ spawns 0 ∷ foldsMap 0 11 3 ∷ returns 0 ∷ foldsMap 0 13 0 ∷ folds 0 0 20 ∷ returns 0 ∷ foldsMap 0 1 5 ∷ returns 0 ∷ []),
+      ends 1
+          (107 ∷ 0 ∷ 107 ∷ 0 ∷ 101 ∷ 1 ∷ 107 ∷ 0 ∷ 107 ∷ 0 ∷ 102 ∷ 0 ∷ 107 ∷ 0 ∷ 107 ∷ 0 ∷ 101 ∷ 1 ∷ 107 ∷ 0 ∷ 101 ∷ 2 ∷ 107 ∷ 0 ∷ 102 ∷ 0 ∷ 107 ∷ 0 ∷ 107 ∷ 0 ∷ 102 ∷ 0 ∷ 107 ∷ 0 ∷ 102 ∷ 3 ∷ [])
+          (30 ∷ 4 ∷ 30030 ∷ 21208 ∷ []),
+    )
+    -- Main and its child wait in their return, and all three end with the last
+    ∷ (
+      starts 2 (7 ∷ []) 1
+          (foldsMap 0 2 1 ∷ spawns 0 ∷ foldsMap 0 3 0 ∷ steals 1 0 ∷ foldsMap 1 1 7 ∷ returns 1 ∷ spawns 0 ∷ steals 1 0 ∷ foldsMap 1 5 0 ∷ returns 1 ∷ foldsMap 0 1 2 ∷ folds 0 1 8 ∷ returns 0 ∷ folds 0 0 1 ∷ []),
+      ends 1
+          (107 ∷ 0 ∷ 101 ∷ 1 ∷ 107 ∷ 0 ∷ 103 ∷ 0 ∷ 107 ∷ 0 ∷ 102 ∷ 4 ∷ 101 ∷ 2 ∷ 103 ∷ 1 ∷ 107 ∷ 0 ∷ 102 ∷ 4 ∷ 107 ∷ 0 ∷ 107 ∷ 0 ∷ 102 ∷ 3 ∷ 9 ∷ 0 ∷ [])
+          (0 ∷ 8 ∷ 30 ∷ 32 ∷ []),
+    )
+    -- Main waits at its sync, and resumes with its child's view joined on the left of its own
+    ∷ (
+      starts 2 (7 ∷ []) 1 (foldsMap 0 2 1 ∷ spawns 0 ∷ steals 1 0 ∷ foldsMap 1 3 0 ∷ syncs 1 ∷ foldsMap 0 5 1 ∷ returns 0 ∷ foldsMap 0 1 4 ∷ returns 0 ∷ []),
+      ends 1 (107 ∷ 0 ∷ 101 ∷ 1 ∷ 103 ∷ 0 ∷ 107 ∷ 0 ∷ 104 ∷ 1 ∷ 107 ∷ 0 ∷ 102 ∷ 2 ∷ 107 ∷ 0 ∷ 102 ∷ 3 ∷ []) (0 ∷ 4294967295 ∷ 30 ∷ 22 ∷ []),
     )
     ∷ []
 
 -- without the check
 quickly : map (λ (row : Case × Outcome). told (row .0) (quickTape (startOf (row .0)) (joined (row .0 .records)) (works (row .0)) (replies (row .0)))) table ≡ map (λ (row : Case × Outcome). row .1) table
-unfolding table startOn startWith runOn recordsFrom recordOf decodeAt spawnOn endAt upward endBottom returnOn stealOn syncOn readOn writeOn stepOn spawn endFrame goOn wentOn steal sync synced shiftUp dropTop pop top bottom side child sibling bit leafOf readAt retain release setRefcount pathNode copyPath setValue setLink renew firstShared rest writeFrom write initPool initFree initLeaves initInner initLevel setNode height width treeNodes push setSize setPlace size place setFrame frameAt cleared refcount left right value
+unfolding table startOn startWith runOn recordsFrom recordOf decodeAt spawnOn endAt upward endBottom returnOn stealOn syncOn readOn writeOn foldOn stepOn addChild spawn removeFrame endFrame goOn wentOn steal sync synced fold relinkFrom eldestTo firstFrom nextAfter foldView shiftUp dropTop pop top bottom side child sibling bit leafOf readAt retain release setRefcount pathNode copyPath setValue setLink renew firstShared rest writeFrom write initPool initFree initLeaves initInner initLevel setNode height width treeNodes push setSize setPlace size place setFrame frameAt cleared refcount left right value
 quickly = refl
 
 pub starred : map (λ (row : Case × Outcome). outcome (row .0)) table ≡ map (λ (row : Case × Outcome). row .1) table

@@ -1,11 +1,12 @@
 -- Records, tapes and lent words that the tables are written with.
 use mathlib.Core.Bool.{cond}
-use mathlib.Core.List.{List, [], _∷_, _++_}
+use mathlib.Core.List.{List, [], _∷_, _++_, map}
 use Prim.Native.Nat.{ℕ, zero, suc, _-_, _*_}
 use lib.ListN.{length, replicate}
 use lib.Dec.{eqb}
 use Rattle.words.specs.Basics.{none, joined}
-use Rattle.frames.specs.Widths.{frameWords, dequeWords}
+use Rattle.frames.specs.Widths.{frameWords, dequeStride, dequeWords}
+use Rattle.soundness.specs.Numbers.{numberCount}
 use Rattle.semantics.specs.Entries.{State}
 
 -- ---- records
@@ -32,11 +33,23 @@ reads w x = bytes 5 w x 0
 abbrev pub writes : ℕ → ℕ → ℕ → List ℕ
 writes w x v = bytes 6 w x v
 
+-- R-5: "Record kind 7 folds its value into the reducer named in its splitter field"
+abbrev pub folds : ℕ → ℕ → ℕ → List ℕ
+folds w r v = bytes 7 w r v
+
+-- into reducer 2: "the value divided by 65,536 is the multiplier and its remainder the addend"; both are below 256 here
+abbrev pub foldsMap : ℕ → ℕ → ℕ → List ℕ
+foldsMap w multiplier addend = 7 ∷ w ∷ 2 ∷ 0 ∷ addend ∷ 0 ∷ multiplier ∷ 0 ∷ []
+
+-- the largest value, 4,294,967,295
+abbrev pub foldsLargest : ℕ → ℕ → List ℕ
+foldsLargest w r = 7 ∷ w ∷ r ∷ 0 ∷ 255 ∷ 255 ∷ 255 ∷ 255 ∷ []
+
 -- ---- lent words
 
 -- parts of the state with their exact lengths, which hold anything before a start
 abbrev pub anyParts : State
-anyParts = record { numbers = replicate 5 3; deques = replicate dequeWords 3; frames = replicate frameWords 3 }
+anyParts = record { numbers = replicate numberCount 3; deques = replicate dequeWords 3; frames = replicate frameWords 3 }
 
 -- a pool of so many nodes, which holds anything before a start
 abbrev pub anyPool : ℕ → List ℕ
@@ -56,21 +69,32 @@ five = 10 ∷ 20 ∷ 30 ∷ 40 ∷ 50 ∷ []
 abbrev pub deque : List ℕ → List ℕ
 deque ps = length ps ∷ (ps ++ replicate (64 - length ps) 0)
 
--- of workers 0 and 1; the others have none
-abbrev pub deques : List ℕ → List ℕ → List ℕ
-deques ps qs = deque ps ++ (deque qs ++ replicate 390 0)
+-- of the first workers; the others have none
+abbrev pub dequesOf : List (List ℕ) → List ℕ
+dequesOf pss = joined (map deque pss) ++ replicate (dequeWords - dequeStride * length pss) 0
 
--- live, parent, depth, outstanding, suspended, root, returning (R-3's word, "last"), which is 0 here
+abbrev pub deques : List ℕ → List ℕ → List ℕ
+deques ps qs = dequesOf (ps ∷ qs ∷ [])
+
+-- "the sum, the minimum, the multiplier and the addend" of the identities
+abbrev pub identities : List ℕ
+identities = 0 ∷ none ∷ 1 ∷ 0 ∷ []
+
+-- live, parent, depth, outstanding, suspended, root, returning (R-3), "the four view words and the next younger live sibling or none" (R-5)
+abbrev pub frame : ℕ → ℕ → ℕ → ℕ → ℕ → ℕ → List ℕ → ℕ → List ℕ
+frame parent depth outstanding suspended root returning view younger = 1 ∷ parent ∷ depth ∷ outstanding ∷ suspended ∷ root ∷ returning ∷ (view ++ younger ∷ [])
+
+-- where nothing was folded, and without a younger sibling
 abbrev pub live : ℕ → ℕ → ℕ → ℕ → ℕ → List ℕ
-live parent depth outstanding suspended root = 1 ∷ parent ∷ depth ∷ outstanding ∷ suspended ∷ root ∷ 0 ∷ []
+live parent depth outstanding suspended root = frame parent depth outstanding suspended root 0 identities none
 
 -- R-3: a live frame that waits in its return: "1 on a frame waiting so, which is suspended"
 abbrev pub waiting : ℕ → ℕ → ℕ → ℕ → List ℕ
-waiting parent depth outstanding root = 1 ∷ parent ∷ depth ∷ outstanding ∷ 1 ∷ root ∷ 1 ∷ []
+waiting parent depth outstanding root = frame parent depth outstanding 1 root 1 identities none
 
 -- "Free frame places .., all but the link to the next being zero"
 abbrev pub free : ℕ → List ℕ
-free next = 0 ∷ next ∷ 0 ∷ 0 ∷ 0 ∷ 0 ∷ 0 ∷ []
+free next = 0 ∷ next ∷ replicate 10 0
 
 -- c free places in rising order, the second being p
 abbrev pub rising : ℕ → ℕ → List ℕ
