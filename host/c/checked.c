@@ -55,6 +55,25 @@ uint64_t checked_write(struct checked *run, unsigned worker, unsigned splitter, 
     return beside(run, "write", splitter_write(&run->lent, worker, splitter, value), SPLITTER_STEP_WRITE, worker, splitter, value);
 }
 
+uint64_t checked_fold(struct checked *run, unsigned worker, unsigned reducer, uint32_t value) {
+    return beside(run, "fold", splitter_fold(&run->lent, worker, reducer, value), SPLITTER_STEP_FOLD, worker, reducer, value);
+}
+
+struct splitter_totals checked_totals(const struct checked *run) {
+    const struct plain_view *wanted = &run->plain.totals;
+    struct splitter_totals totals;
+    if (!splitter_lent_get_totals(&run->lent, &totals)) {
+        surprise("Main has not returned");
+    }
+    if (!run->alone) {
+        same("total sum", totals.sum, wanted->sum);
+        same("total minimum", totals.min, wanted->min);
+        same("total multiplier", totals.multiplier, wanted->multiplier);
+        same("total addend", totals.addend, wanted->addend);
+    }
+    return totals;
+}
+
 /* What the plain machine answers to a record. */
 static uint64_t plain_record(struct plain *machine, const uint8_t *record) {
     uint32_t value = record[4] | (uint32_t)record[5] << 8 | (uint32_t)record[6] << 16 | (uint32_t)record[7] << 24;

@@ -26,6 +26,10 @@ uint64_t checked_steal(struct checked *run, unsigned worker, unsigned victim);
 uint64_t checked_sync(struct checked *run, unsigned worker);
 uint64_t checked_read(struct checked *run, unsigned worker, unsigned splitter);
 uint64_t checked_write(struct checked *run, unsigned worker, unsigned splitter, uint32_t value);
+uint64_t checked_fold(struct checked *run, unsigned worker, unsigned reducer, uint32_t value);
+
+/* The totals of a run whose Main has returned. */
+struct splitter_totals checked_totals(const struct checked *run);
 
 /* A tape of whole records, with two answer words for each. */
 void checked_tape(struct checked *run, const uint8_t *tape, size_t tape_len, uint32_t *answers, size_t answers_len);

@@ -1,5 +1,5 @@
-/* Both forms of an image (document 02, R-3): a save writes the new one, with 256 added to its first word; a reading takes that and the one
- * from before, in which no frame waits as returning. A first word of another form is refused by 17. */
+/* The form of an image (document 02, R-5): a save adds 512 to the first word, and a reading takes no other form. Images from before, of
+ * versions 0 and 1, are refused by 17, and so is each first word that is not 512 to 767. */
 #include <stdio.h>
 #include <string.h>
 
@@ -14,13 +14,15 @@ static const uint32_t values[5] = {10, 20, 30, 40, 50};
 static struct checked run = {.lent = {&state, pool, 0, work, MOST}};
 static uint8_t image[SPLITTER_IMAGE_BYTES(MOST)], again[SPLITTER_IMAGE_BYTES(MOST)];
 
-/* Main waits at its sync; its child runs. */
+/* Main waits at its sync; its child runs. Both have folded. */
 static void begin(unsigned nodes) {
     run.lent.pool_len = nodes * SPLITTER_NODE_WORDS;
     same("start", checked_start(&run, 2, values, 5), SPLITTER_OK);
+    checked_fold(&run, 0, SPLITTER_REDUCER_SUM, 7);
     checked_spawn(&run, 0);
     checked_steal(&run, 1, 0);
     checked_write(&run, 1, 4, 99);
+    checked_fold(&run, 1, SPLITTER_REDUCER_MIN, 8);
     checked_sync(&run, 1);
     old_state = state;
     memcpy(old_pool, pool, sizeof pool);
@@ -36,19 +38,36 @@ static void check_same_run(void) {
     same("pool", (uint64_t)memcmp(pool, old_pool, sizeof pool), 0);
 }
 
-/* An image of the form before gives the same run, and its save is of the new form. */
-static void read_older(unsigned nodes) {
+/* A refused reading leaves a state of zeros; by 6 the pool's nodes are zero too, else as they were. */
+static void refused(const uint8_t *from, size_t len, uint32_t wanted) {
+    static const struct splitter_state zeros;
+    memcpy(pool, old_pool, sizeof pool);
+    same("load", splitter_lent_load(&run.lent, from, len), wanted);
+    same("state", (uint64_t)memcmp(&state, &zeros, sizeof state), 0);
+    same("pool", pool[1], wanted == SPLITTER_UNSOUND ? 0 : old_pool[1]);
+}
+
+/* An image gives the same run, and its save the same image. Those from before are refused, each of its own length and of the new one. */
+static void read_forms(unsigned nodes) {
     begin(nodes);
     same("save", splitter_lent_save(&run.lent, image, sizeof image), SPLITTER_OK);
-    size_t len = older_image(&state, pool, again);
-    same("bytes", len, OLDER_IMAGE_BYTES(nodes));
+    for (unsigned version = 0; version < OLDER_VERSIONS; version++) {
+        memset(again, 0, sizeof again);
+        size_t len = older_image(&old_state, old_pool, version, again);
+        same("bytes", len, OLDER_IMAGE_BYTES(nodes, version));
+        refused(again, len, SPLITTER_BAD_BLOCKS);
+        refused(again, SPLITTER_IMAGE_BYTES(nodes), SPLITTER_BAD_BLOCKS);
+    }
     soil();
-    same("load", splitter_lent_load(&run.lent, again, len), SPLITTER_OK);
+    same("load", splitter_lent_load(&run.lent, image, SPLITTER_IMAGE_BYTES(nodes)), SPLITTER_OK);
     check_same_run();
     same("save", splitter_lent_save(&run.lent, again, sizeof again), SPLITTER_OK);
     same("image", (uint64_t)memcmp(image, again, SPLITTER_IMAGE_BYTES(nodes)), 0);
     same("resumed", checked_return(&run, 0), splitter_answer(SPLITTER_RETURNED, SPLITTER_RESUMED));
     same("read", checked_read(&run, 0, 4), splitter_answer(SPLITTER_VALUE, 99));
+    same("over", checked_return(&run, 0), splitter_answer(SPLITTER_RETURNED, SPLITTER_FINISHED));
+    same("total", checked_totals(&run).sum, 7);
+    same("total", checked_totals(&run).min, 8);
 }
 
 static uint32_t get_word(const uint8_t *from) {
@@ -61,61 +80,41 @@ static void put_word(uint8_t *to, uint32_t word) {
     }
 }
 
-/* Another first word, with the check that belongs to it. A refused reading leaves a state of zeros; by 6 the pool's nodes are zero too,
- * else as they were. */
+/* Another first word, with the check that belongs to it. */
 static void first_word(size_t len, uint32_t word, uint32_t wanted) {
-    static const struct splitter_state zeros;
     uint32_t old = get_word(image);
     put_word(image + FIRST_CHECK, get_word(image + FIRST_CHECK) + word - old);
     put_word(image, word);
-    memcpy(pool, old_pool, sizeof pool);
-    same("first word", splitter_lent_load(&run.lent, image, len), wanted);
     if (wanted != SPLITTER_OK) {
-        same("state", (uint64_t)memcmp(&state, &zeros, sizeof state), 0);
-        same("pool", pool[1], wanted == SPLITTER_UNSOUND ? 0 : old_pool[1]);
+        refused(image, len, wanted);
+    } else {
+        same("first word", splitter_lent_load(&run.lent, image, len), SPLITTER_OK);
     }
     put_word(image + FIRST_CHECK, get_word(image + FIRST_CHECK) + old - word);
     put_word(image, old);
 }
 
-/* Each first word below 512 has a form; the workers in it must be 1 to 8. All but worker 0 are idle, so that any such number is sound. */
-static void first_words(size_t len, uint32_t version) {
-    for (uint32_t workers = 0; workers < 256; workers++) {
-        int sound = workers >= 1 && workers <= SPLITTER_MAX_WORKERS;
-        first_word(len, version + workers, sound ? SPLITTER_OK : SPLITTER_UNSOUND);
+/* 512 to 767 have a form; the workers in it must be 1 to 8. All but worker 0 are idle, so that any such number is sound. */
+static void first_words(void) {
+    begin(20);
+    same("save", splitter_lent_save(&run.lent, image, sizeof image), SPLITTER_OK);
+    for (uint32_t word = 0; word < 1100; word++) {
+        uint32_t workers = word % 256;
+        int form = word / 256 * 256 == SPLITTER_IMAGE_VERSION, sound = workers >= 1 && workers <= SPLITTER_MAX_WORKERS;
+        first_word(SPLITTER_IMAGE_BYTES(20), word, !form ? SPLITTER_BAD_BLOCKS : sound ? SPLITTER_OK : SPLITTER_UNSOUND);
     }
-    static const uint32_t others[] = {512, 513, 514, 767, 768, 1026, 65536 + 258, 1u << 24, 0x80000002u, 0xffffffffu};
+    static const uint32_t others[] = {1026, 65536 + 514, 1u << 24, 0x80000202u, 0xffffffffu};
     for (size_t i = 0; i < sizeof others / sizeof others[0]; i++) {
-        first_word(len, others[i], SPLITTER_BAD_BLOCKS);
+        first_word(SPLITTER_IMAGE_BYTES(20), others[i], SPLITTER_BAD_BLOCKS);
     }
-}
-
-/* The blocks are counted by the form that the first word tells. With 20 nodes the forms have 9 blocks and 8; with 72 both have 10, so that
- * only soundness or the rest of the last block can tell an image of the wrong form. */
-static void counted_blocks(void) {
-    begin(20);
-    same("save", splitter_lent_save(&run.lent, image, sizeof image), SPLITTER_OK);
-    first_words(SPLITTER_IMAGE_BYTES(20), SPLITTER_IMAGE_VERSION);
-    first_word(SPLITTER_IMAGE_BYTES(20), 2, SPLITTER_BAD_BLOCKS);
-    first_word(OLDER_IMAGE_BYTES(20), SPLITTER_IMAGE_VERSION + 2, SPLITTER_BAD_BLOCKS);
-    begin(20);
-    older_image(&state, pool, image);
-    first_words(OLDER_IMAGE_BYTES(20), 0);
-    first_word(OLDER_IMAGE_BYTES(20), SPLITTER_IMAGE_VERSION + 2, SPLITTER_BAD_BLOCKS);
-    first_word(SPLITTER_IMAGE_BYTES(20), 2, SPLITTER_BAD_BLOCKS);
-    begin(72);
-    older_image(&state, pool, image);
-    first_word(SPLITTER_IMAGE_BYTES(72), SPLITTER_IMAGE_VERSION + 2, SPLITTER_UNSOUND);
-    begin(72);
-    same("save", splitter_lent_save(&run.lent, image, sizeof image), SPLITTER_OK);
-    first_word(OLDER_IMAGE_BYTES(72), 2, SPLITTER_BAD_CHECK);
+    first_word(OLDER_IMAGE_BYTES(20, 1), SPLITTER_IMAGE_VERSION + 2, SPLITTER_BAD_BLOCKS);
 }
 
 int main(void) {
     for (unsigned nodes = 15; nodes <= MOST; nodes++) {
-        read_older(nodes);
+        read_forms(nodes);
     }
-    counted_blocks();
-    printf("forms: images from before are read, with 15 to %d nodes; first words 0 to 511 have a form, others are refused by 17\n", MOST);
+    first_words();
+    printf("forms: images with 15 to %d nodes are read back, those from before refused by 17; first words 512 to 767 have a form\n", MOST);
     return 0;
 }

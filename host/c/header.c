@@ -26,7 +26,7 @@ static void records(void) {
 
 /* Is this a number of the interface? 14 was one before R-3. */
 static unsigned is_number(uint32_t i) {
-    return (i <= SPLITTER_SHORT_TARGET && i != 14) || i == SPLITTER_BAD_STATE || (i >= SPLITTER_SPAWNED && i <= SPLITTER_WRITTEN);
+    return (i <= SPLITTER_UNKNOWN_REDUCER && i != 14) || i == SPLITTER_BAD_STATE || (i >= SPLITTER_SPAWNED && i <= SPLITTER_FOLDED);
 }
 
 /* Each number of the interface has its own text, and no other number has one. */
@@ -40,7 +40,7 @@ static void names(void) {
             EXPECT(strcmp(splitter_name(i), splitter_name(j)) == 0, 0);
         }
     }
-    EXPECT(named, 26);
+    EXPECT(named, 28);
 }
 
 /* Below 100 all but SPLITTER_OK is a refusal, alone and as the first half of a step's result. */
@@ -67,8 +67,10 @@ static void layout(void) {
     EXPECT(sizeof(struct splitter_state), (SPLITTER_NUMBERS_WORDS + SPLITTER_DEQUES_WORDS + SPLITTER_FRAMES_WORDS) * word);
     EXPECT(SPLITTER_DEQUES_WORDS, SPLITTER_MAX_WORKERS * (1 + SPLITTER_MAX_FRAMES));
     EXPECT(SPLITTER_FRAMES_WORDS, SPLITTER_MAX_FRAMES * SPLITTER_FRAME_RECORD_WORDS);
-    EXPECT(SPLITTER_FRAME_RECORD_WORDS, SPLITTER_FRAME_RETURNING + 1);
-    EXPECT(SPLITTER_STATE_WORDS, 973);
+    EXPECT(SPLITTER_NUMBERS_WORDS, SPLITTER_NUMBER_TOTAL_ADDEND + 1);
+    EXPECT(SPLITTER_FRAME_RECORD_WORDS, SPLITTER_FRAME_YOUNGER + 1);
+    EXPECT(SPLITTER_REDUCERS, SPLITTER_REDUCER_AFFINE + 1);
+    EXPECT(SPLITTER_STATE_WORDS, 1297);
     EXPECT(SPLITTER_NONE, UINT32_MAX);
     EXPECT(sizeof(splitter_len), 8);
 }
@@ -78,9 +80,9 @@ static void sizes(void) {
     EXPECT(splitter_tree_nodes(5), 11);
     EXPECT(splitter_tree_nodes(256), 511);
     EXPECT(splitter_tree_nodes(UINT32_MAX), UINT64_C(8589934590));
-    EXPECT(splitter_image_bytes(10), 4096);
-    EXPECT(splitter_image_bytes(11), 4608);
-    EXPECT(splitter_image_bytes(UINT32_MAX), UINT64_C(69260579328));
+    EXPECT(splitter_image_bytes(25), 5632);
+    EXPECT(splitter_image_bytes(26), 6144);
+    EXPECT(splitter_image_bytes(UINT32_MAX), UINT64_C(69260580352));
     for (uint32_t nodes = 0; nodes <= SPLITTER_MAX_NODES; nodes++) {
         EXPECT(splitter_image_bytes(nodes), SPLITTER_IMAGE_BYTES(nodes));
     }
@@ -114,6 +116,34 @@ static void returns(const struct splitter_lent *lent) {
     ANSWER(splitter_spawn(lent, 0), SPLITTER_RUN_IS_OVER, 0);
 }
 
+static void totals(const struct splitter_state *state, bool returned, uint32_t sum, uint32_t min, uint32_t multiplier, uint32_t addend) {
+    struct splitter_totals got = {7, 7, 7, 7};
+    EXPECT(splitter_get_totals(state, &got), returned);
+    EXPECT(got.sum == sum && got.min == min, 1);
+    EXPECT(got.multiplier == multiplier && got.addend == addend, 1);
+}
+
+/* Folds of Main and its child; the child's view after the spawn is Main's, which begins anew. The child ends last and comes first. */
+static void folds(const struct splitter_lent *lent) {
+    const uint32_t *main_view = lent->state->frames + SPLITTER_FRAME_VIEW_SUM, *child_view = main_view + SPLITTER_FRAME_RECORD_WORDS;
+    const uint32_t folded[4] = {5, SPLITTER_NONE, 3, 1}, nothing[4] = {0, SPLITTER_NONE, 1, 0};
+    EXPECT(splitter_affine(3, 1), 3 * 65536 + 1);
+    EXPECT(splitter_affine(65535, 65535), UINT32_MAX);
+    ANSWER(splitter_fold(lent, 0, SPLITTER_REDUCER_SUM, 5), SPLITTER_FOLDED, 0);
+    ANSWER(splitter_fold(lent, 0, SPLITTER_REDUCER_AFFINE, splitter_affine(3, 1)), SPLITTER_FOLDED, 0);
+    ANSWER(splitter_fold(lent, 0, SPLITTER_REDUCERS, 5), SPLITTER_UNKNOWN_REDUCER, 0);
+    ANSWER(splitter_spawn(lent, 0), SPLITTER_SPAWNED, 1);
+    EXPECT(memcmp(child_view, folded, sizeof folded) == 0 && memcmp(main_view, nothing, sizeof nothing) == 0, 1);
+    EXPECT(main_view[4] == SPLITTER_NONE && child_view[4] == SPLITTER_NONE, 1); /* SPLITTER_FRAME_YOUNGER: no sibling */
+    ANSWER(splitter_steal(lent, 1, 0), SPLITTER_STOLEN, 0);
+    ANSWER(splitter_fold(lent, 1, SPLITTER_REDUCER_AFFINE, splitter_affine(10, 7)), SPLITTER_FOLDED, 0);
+    ANSWER(splitter_return(lent, 1), SPLITTER_RETURNED, SPLITTER_WAITS);
+    totals(lent->state, false, 0, 0, 0, 0);
+    ANSWER(splitter_fold(lent, 0, SPLITTER_REDUCER_MIN, 9), SPLITTER_FOLDED, 0);
+    ANSWER(splitter_return(lent, 0), SPLITTER_RETURNED, SPLITTER_FINISHED);
+    totals(lent->state, true, 5, 9, 30, 17); /* x to 3 x + 1, then to 10 times that plus 7 */
+}
+
 /* Free nodes of a run with 6 nodes, 3 of them Main's; of a pool with a node too few, and of numbers with a word too few. */
 static void free_nodes(const struct splitter_lent *lent) {
     EXPECT(splitter_lent_free_nodes(lent), 3);
@@ -129,6 +159,8 @@ static void numbers(const struct splitter_state *state) {
     EXPECT(state->numbers[SPLITTER_NUMBER_NODES], 6);
     EXPECT(state->numbers[SPLITTER_NUMBER_FREE_NODE], 3);
     EXPECT(state->numbers[SPLITTER_NUMBER_FREE_FRAME], 1);
+    EXPECT(state->numbers[SPLITTER_NUMBER_TOTAL_SUM] | state->numbers[SPLITTER_NUMBER_TOTAL_MIN], 0);
+    EXPECT(state->numbers[SPLITTER_NUMBER_TOTAL_MULTIPLIER] | state->numbers[SPLITTER_NUMBER_TOTAL_ADDEND], 0);
 }
 
 /* The calls over a state go on with the run that the calls over lent memory began, and the other way. */
@@ -172,6 +204,8 @@ static void wide_fields(const struct splitter_lent *lent) {
     ANSWER(splitter_lent_step(lent, SPLITTER_STEP_STEAL, 1, 65536, 0), SPLITTER_NOTHING_TO_STEAL, 0);
     ANSWER(splitter_lent_step(lent, SPLITTER_STEP_READ, 0, 65537, 0), SPLITTER_UNKNOWN_SPLITTER, 0);
     ANSWER(splitter_lent_step(lent, SPLITTER_STEP_WRITE, 0, 65537, 7), SPLITTER_UNKNOWN_SPLITTER, 0);
+    ANSWER(splitter_lent_step(lent, SPLITTER_STEP_FOLD, 0, 65536, 7), SPLITTER_UNKNOWN_REDUCER, 0);
+    ANSWER(splitter_lent_step(lent, SPLITTER_STEP_FOLD + 1, 0, 0, 0), SPLITTER_BAD_RECORD, 0);
 }
 
 /* NULL for each slice, with lengths 0 and not 0, of a run with 6 nodes: taken where the slice may be empty, else refused. */
@@ -239,5 +273,8 @@ int main(void) {
     nulls_that_clear(&lent);
     EXPECT(splitter_lent_start(&lent, 2, values, 2), SPLITTER_OK);
     returns(&lent);
+    totals(&state, true, 0, SPLITTER_NONE, 1, 0);
+    EXPECT(splitter_lent_start(&lent, 2, values, 2), SPLITTER_OK);
+    folds(&lent);
     return failures == 0 ? 0 : 1;
 }

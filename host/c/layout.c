@@ -1,11 +1,12 @@
 /* The search: a branch for each choice of a spare. A branch marks its choice in its own view of the blocks, so nobody has to undo it.
+ * The costs of the layouts are folded: their sum, the least of them, and a digest of them in the order of a search by one worker.
  * Of 16 blocks the factory marked 3 and 9 bad and 12 to 15 spare. Each bad block needs a spare that passes its erase test. */
 #include <stdarg.h>
 #include <stdio.h>
 
 #include "search.h"
 
-enum { FIRST_SPARE = 12, BAD_BLOCKS = 2, BRANCHES = 16, BRANCH_WORDS = 6, SEARCH_WORDS = 9 };
+enum { FIRST_SPARE = 12, BAD_BLOCKS = 2, BRANCHES = 16, BRANCH_WORDS = 6, SEARCH_WORDS = 9, DIGEST = 31 };
 
 /* A block's state, kept in its splitter. A spare in use holds STANDS_FOR plus the number of the bad block. */
 enum { GOOD = 0, BAD = 1, SPARE = 2, STANDS_FOR = 100 };
@@ -173,6 +174,17 @@ static bool wait_turn(unsigned worker, struct branch *b) {
     return true;
 }
 
+/* ---- shown */
+/* Takes a cost into the reducers. Which worker does so, and when, makes no difference to the totals. The map of the digest multiplies by
+ * DIGEST and adds the cost: its total tells the order of the costs in a search by one worker. */
+static void fold_cost(unsigned worker, unsigned cost) {
+    const uint64_t folded = splitter_answer(SPLITTER_FOLDED, 0);
+    same("fold", checked_fold(&run, worker, SPLITTER_REDUCER_SUM, cost), folded);
+    same("fold", checked_fold(&run, worker, SPLITTER_REDUCER_MIN, cost), folded);
+    same("fold", checked_fold(&run, worker, SPLITTER_REDUCER_AFFINE, splitter_affine(DIGEST, (uint16_t)cost)), folded);
+}
+/* ---- end */
+
 /* A whole layout, read from the branch's own view. The cost is the sum of the squared moves: no block should be far from its spare. */
 static bool score_turn(unsigned worker, struct branch *b) {
     unsigned cost = 0;
@@ -181,6 +193,7 @@ static bool score_turn(unsigned worker, struct branch *b) {
         unsigned move = is >= STANDS_FOR ? spare - (is - STANDS_FOR) : 0;
         cost += move * move;
     }
+    fold_cost(worker, cost);
     search.layouts += 1;
     if (search.best == NULL || cost < search.least_cost) {
         search.least_cost = cost;
@@ -269,7 +282,12 @@ void take_turns(void) {
     }
 }
 
+void print_totals(const struct splitter_totals *totals) {
+    printf("reduced %u %u %u %u\n", totals->sum, totals->min, totals->multiplier, totals->addend);
+}
+
 void tell_result(void) {
+    const struct splitter_totals totals = checked_totals(&run);
     printf("nodes %u, workers %u: least free %u, waits %u, given up %u, layouts %u, best ", run.lent.state->numbers[SPLITTER_NUMBER_NODES],
            search.workers, search.least_free, search.waits, search.given_up, search.layouts);
     if (search.best == NULL) {
@@ -278,6 +296,8 @@ void tell_result(void) {
         print_name(search.best);
         printf(", cost %u\n", search.least_cost);
     }
+    same("least cost", totals.min, search.best == NULL ? SPLITTER_NONE : search.least_cost);
+    print_totals(&totals);
 }
 
 /* A branch as a word: its place and 1, or 0 for none. */

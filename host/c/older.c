@@ -30,20 +30,13 @@ static void put_words(struct blocks *blocks, const uint32_t *words, size_t len) 
     }
 }
 
-int older_fits(const struct splitter_state *state) {
-    uint32_t waiting = 0;
-    for (unsigned place = 0; place < SPLITTER_MAX_FRAMES; place++) {
-        waiting |= state->frames[place * SPLITTER_FRAME_RECORD_WORDS + SPLITTER_FRAME_RETURNING];
-    }
-    return waiting == 0;
-}
-
-size_t older_image(const struct splitter_state *state, const uint32_t *pool, uint8_t *target) {
+size_t older_image(const struct splitter_state *state, const uint32_t *pool, unsigned version, uint8_t *target) {
     struct blocks blocks = {target, 0, 0};
-    put_words(&blocks, state->numbers, SPLITTER_NUMBERS_WORDS);
+    put_word(&blocks, OLDER_VERSION * version + state->numbers[SPLITTER_NUMBER_WORKERS]);
+    put_words(&blocks, state->numbers + 1, OLDER_NUMBERS_WORDS - 1);
     put_words(&blocks, state->deques, SPLITTER_DEQUES_WORDS);
     for (unsigned place = 0; place < SPLITTER_MAX_FRAMES; place++) {
-        put_words(&blocks, state->frames + place * SPLITTER_FRAME_RECORD_WORDS, OLDER_FRAME_WORDS);
+        put_words(&blocks, state->frames + place * SPLITTER_FRAME_RECORD_WORDS, OLDER_FRAME_RECORD_WORDS(version));
     }
     put_words(&blocks, pool, SPLITTER_NODE_WORDS * (size_t)state->numbers[SPLITTER_NUMBER_NODES]);
     while (blocks.words > 0) {

@@ -17,6 +17,16 @@ static unsigned tree_nodes(unsigned n) {
     return sum;
 }
 
+/* "Each operation has an identity that changes nothing when combined on either side." */
+static const struct plain_view identity = {0, UINT32_MAX, 1, 0};
+
+/* "The sum modulo 4,294,967,296; .. the minimum; .. the affine map, multiply then add, .. earlier map applied first." */
+static struct plain_view join(struct plain_view left, struct plain_view right) {
+    struct plain_view joined = {left.sum + right.sum, left.min < right.min ? left.min : right.min,
+                                left.multiplier * right.multiplier, right.multiplier * left.addend + right.addend};
+    return joined;
+}
+
 uint32_t plain_start(struct plain *machine, uint32_t workers, const uint32_t *values, splitter_len values_len,
                      splitter_len nodes) {
     static const struct plain none;
@@ -36,6 +46,7 @@ uint32_t plain_start(struct plain *machine, uint32_t workers, const uint32_t *va
     machine->live = 1;
     machine->lengths[0] = 1;
     machine->frames[0].live = 1;
+    machine->frames[0].view = identity;
     for (size_t i = 0; i < values_len; i++) {
         machine->frames[0].values[i] = values[i];
     }
@@ -95,11 +106,19 @@ static uint32_t steal_refusal(const struct plain *machine, uint32_t thief, uint3
     return victim >= machine->workers || machine->lengths[victim] < 2 ? SPLITTER_NOTHING_TO_STEAL : 0;
 }
 
-/* Document 01's refusals 7 to 15, in its order, without 14; 0 where none refuses. The last, 16, is the write's. */
-static uint32_t refusal(const struct plain *machine, uint32_t kind, uint32_t worker, uint32_t field, uint32_t value) {
+/* 15, and 20 in its place for a fold. */
+static uint32_t name_refusal(const struct plain *machine, uint32_t kind, uint32_t field) {
+    if (kind == SPLITTER_STEP_FOLD) {
+        return field >= SPLITTER_REDUCERS ? SPLITTER_UNKNOWN_REDUCER : 0;
+    }
     int names_splitter = kind == SPLITTER_STEP_READ || kind == SPLITTER_STEP_WRITE;
-    if (kind < SPLITTER_STEP_SPAWN || kind > SPLITTER_STEP_WRITE || (field != 0 && !names_splitter && kind != SPLITTER_STEP_STEAL)
-        || (value != 0 && kind != SPLITTER_STEP_WRITE)) {
+    return names_splitter && field >= machine->splitters ? SPLITTER_UNKNOWN_SPLITTER : 0;
+}
+
+/* Document 01's refusals 7 to 15, in its order, without 14 and with 20; 0 where none refuses. The last, 16, is the write's. */
+static uint32_t refusal(const struct plain *machine, uint32_t kind, uint32_t worker, uint32_t field, uint32_t value) {
+    int has_field = kind == SPLITTER_STEP_STEAL || kind >= SPLITTER_STEP_READ, has_value = kind >= SPLITTER_STEP_WRITE;
+    if (kind < SPLITTER_STEP_SPAWN || kind > SPLITTER_STEP_FOLD || (field != 0 && !has_field) || (value != 0 && !has_value)) {
         return SPLITTER_BAD_RECORD;
     }
     if (worker >= machine->workers) {
@@ -117,9 +136,10 @@ static uint32_t refusal(const struct plain *machine, uint32_t kind, uint32_t wor
     if (kind == SPLITTER_STEP_SPAWN && machine->live == SPLITTER_MAX_FRAMES) {
         return SPLITTER_FRAMES_FULL;
     }
-    return names_splitter && field >= machine->splitters ? SPLITTER_UNKNOWN_SPLITTER : 0;
+    return name_refusal(machine, kind, field);
 }
 
+/* "The child inherits, the continuation begins with the identity." */
 static uint64_t spawn(struct plain *machine, unsigned worker) {
     unsigned parent = bottom(machine, worker), child = 0;
     while (machine->frames[child].live) {
@@ -130,10 +150,46 @@ static uint64_t spawn(struct plain *machine, unsigned worker) {
     frame->parent = parent;
     frame->depth += 1;
     frame->children = 0;
+    frame->born = ++machine->spawns;
+    machine->frames[parent].view = identity;
     machine->frames[parent].children += 1;
     machine->live += 1;
     push(machine, worker, child);
     return splitter_answer(SPLITTER_SPAWNED, frame->depth);
+}
+
+/* The eldest live child of the frame that was born after that spawn, or the frame itself if there is none. */
+static unsigned eldest(const struct plain *machine, unsigned parent, unsigned after) {
+    unsigned found = parent;
+    for (unsigned place = 0; place < SPLITTER_MAX_FRAMES; place++) {
+        const struct plain_frame *frame = &machine->frames[place];
+        int younger = frame->live && frame->parent == parent && frame->born > after;
+        if (younger && (found == parent || frame->born < machine->frames[found].born)) {
+            found = place;
+        }
+    }
+    return found;
+}
+
+/* The next one in the order of live frames, "siblings eldest first and each, after all below it, before its parent": the parent, or the
+ * first of the next younger sibling and all below it. */
+static unsigned next_in_order(const struct plain *machine, const struct plain_frame *frame) {
+    unsigned next = eldest(machine, frame->parent, frame->born), below = next == frame->parent ? next : eldest(machine, next, 0);
+    while (below != next) {
+        next = below;
+        below = eldest(machine, next, 0);
+    }
+    return next;
+}
+
+/* "The view of a frame that ends joins on the left of the next one's in that order." Main's is the totals. */
+static void join_next(struct plain *machine, const struct plain_frame *frame) {
+    if (machine->live == 0) {
+        machine->totals = frame->view;
+    } else {
+        struct plain_frame *next = &machine->frames[next_in_order(machine, frame)];
+        next->view = join(frame->view, next->view);
+    }
 }
 
 /* The frame, in no deque any more, ends. If it was the last child of a parent that waits as returning, the parent ends too (document 02,
@@ -142,6 +198,7 @@ static uint32_t end(struct plain *machine, unsigned worker, unsigned place) {
     struct plain_frame *frame = &machine->frames[place], *parent = &machine->frames[frame->parent];
     frame->live = 0;
     machine->live -= 1;
+    join_next(machine, frame);
     if (frame == parent) {
         return SPLITTER_FINISHED;
     }
@@ -208,6 +265,22 @@ static uint64_t write(struct plain *machine, unsigned worker, unsigned splitter,
     return splitter_answer(SPLITTER_WRITTEN, machine->nodes - used);
 }
 
+/* "For reducer 2 the value divided by 65,536 is the multiplier and its remainder the addend." */
+static uint64_t fold(struct plain *machine, unsigned worker, unsigned reducer, uint32_t value) {
+    struct plain_frame *frame = &machine->frames[bottom(machine, worker)];
+    struct plain_view folded = identity;
+    if (reducer == SPLITTER_REDUCER_SUM) {
+        folded.sum = value;
+    } else if (reducer == SPLITTER_REDUCER_MIN) {
+        folded.min = value;
+    } else {
+        folded.multiplier = value / 65536;
+        folded.addend = value % 65536;
+    }
+    frame->view = join(frame->view, folded);
+    return splitter_answer(SPLITTER_FOLDED, 0);
+}
+
 uint64_t plain_step(struct plain *machine, uint32_t kind, uint32_t worker, uint32_t field, uint32_t value) {
     uint32_t refused = refusal(machine, kind, worker, field, value);
     if (refused) {
@@ -219,6 +292,7 @@ uint64_t plain_step(struct plain *machine, uint32_t kind, uint32_t worker, uint3
     case SPLITTER_STEP_STEAL: return steal(machine, worker, field);
     case SPLITTER_STEP_SYNC: return sync(machine, worker);
     case SPLITTER_STEP_READ: return splitter_answer(SPLITTER_VALUE, machine->frames[bottom(machine, worker)].values[field]);
-    default: return write(machine, worker, field, value);
+    case SPLITTER_STEP_WRITE: return write(machine, worker, field, value);
+    default: return fold(machine, worker, field, value);
     }
 }

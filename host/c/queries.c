@@ -30,9 +30,20 @@ static uint32_t plain_bottom_depth(unsigned worker) {
     return length == 0 ? SPLITTER_NONE : run.plain.frames[run.plain.deques[worker][length - 1]].depth;
 }
 
+/* The totals, zeros while Main lives. */
+static void compare_totals(void) {
+    struct splitter_totals totals;
+    same("totals are there", splitter_lent_get_totals(&run.lent, &totals), run.plain.live == 0);
+    same("sum", totals.sum, run.plain.totals.sum);
+    same("minimum", totals.min, run.plain.totals.min);
+    same("multiplier", totals.multiplier, run.plain.totals.multiplier);
+    same("addend", totals.addend, run.plain.totals.addend);
+}
+
 /* Each query, over lent memory, against the plain machine. */
 static void compare(void) {
     const struct splitter_lent *lent = &run.lent;
+    compare_totals();
     same("workers", splitter_lent_workers(lent), run.plain.workers);
     same("splitters", splitter_lent_splitters(lent), run.plain.splitters);
     same("nodes", splitter_lent_nodes(lent), run.plain.nodes);
@@ -55,8 +66,9 @@ static void write_any(unsigned worker) {
 
 static void step(void) {
     unsigned worker = any(run.plain.workers);
-    switch (any(8)) {
+    switch (any(9)) {
     case 0: checked_return(&run, worker); break;
+    case 8: checked_fold(&run, worker, any(4), any(UINT32_MAX) | 65536); break; /* a map with an odd multiplier loses no earlier one */
     case 1:
     case 2: checked_steal(&run, worker, any(run.plain.workers)); break;
     case 3: checked_sync(&run, worker); break;
@@ -127,6 +139,9 @@ static void random_words(void) {
     if (splitter_live_frames(words) > SPLITTER_MAX_FRAMES || (splitter_main_returned(words) && words->deques[0] != 0)) {
         surprise("frames of random words");
     }
+    struct splitter_totals totals;
+    same("totals are there", splitter_get_totals(words, &totals), splitter_main_returned(words));
+    same("a total of random words", totals.addend, splitter_main_returned(words) ? word[8] : 0);
     for (uint32_t worker = 0; worker < SPLITTER_MAX_WORKERS + 2; worker++) {
         in_bounds(words, worker);
         in_bounds(words, any_word());
@@ -156,6 +171,8 @@ static void zeros(void) {
     same("no deque", splitter_deque_length(&none, 0), 0);
     same("no bottom frame", splitter_bottom_depth(&none, 0), SPLITTER_NONE);
     same("no run", splitter_main_returned(&none), 0);
+    struct splitter_totals totals;
+    same("no totals", splitter_get_totals(&none, &totals), 0);
 }
 
 int main(int count, char **arguments) {

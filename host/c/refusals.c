@@ -25,6 +25,8 @@ void show_tape(void) {
     for (unsigned i = 0; i < RECORDS; i++) {
         printf("%u %u  %s\n", answers[2 * i], answers[2 * i + 1], splitter_name(answers[2 * i]));
     }
+    const struct splitter_totals totals = checked_totals(&run);
+    print_totals(&totals);
 }
 
 static void show(uint64_t answer, uint32_t wanted, const char *what) {
@@ -70,7 +72,9 @@ static void refused_images(void) {
     image[0] ^= 1;
     image[1] += 1;
     show(splitter_lent_load(&lent, image, len), SPLITTER_BAD_BLOCKS, "an image of a later form");
-    image[1] -= 1;
+    image[1] -= 2;
+    show(splitter_lent_load(&lent, image, len), SPLITTER_BAD_BLOCKS, "an image of the form before");
+    image[1] += 1;
     lent.pool_len -= SPLITTER_NODE_WORDS;
     show(splitter_lent_load(&lent, image, len), SPLITTER_UNSOUND, "an image read into a pool with a node too few");
     same("state of zeros", lent.state->numbers[SPLITTER_NUMBER_WORKERS], 0);
@@ -86,6 +90,7 @@ static void refused_steps(void) {
     show(checked_spawn(&run, 2), SPLITTER_UNKNOWN_WORKER, "worker 2 of 2 spawns");
     show(checked_sync(&run, 1), SPLITTER_WORKER_HAS_NO_FRAME, "worker 1 syncs");
     show(checked_read(&run, 0, BLOCKS), SPLITTER_UNKNOWN_SPLITTER, "worker 0 reads block 16");
+    show(checked_fold(&run, 0, SPLITTER_REDUCERS, 1), SPLITTER_UNKNOWN_REDUCER, "worker 0 folds into reducer 3");
 }
 
 static void refused_steals(void) {

@@ -73,5 +73,9 @@ int main(void) {
     while (tape(&lent) != 0) {
     }
     printf("free %u\n", free_nodes());
+    struct splitter_totals totals;
+    if (splitter_lent_get_totals(&lent, &totals)) {
+        printf("reduced %u %u %u %u\n", totals.sum, totals.min, totals.multiplier, totals.addend);
+    }
     return 0;
 }

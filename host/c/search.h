@@ -27,10 +27,13 @@ struct search {
 };
 extern struct search search;
 
-/* Begins the search, takes a turn of each worker, prints what was found. */
+/* Begins the search, takes a turn of each worker, prints what was found and what was folded. */
 void begin(unsigned workers, unsigned nodes, enum syncs syncs, bool told);
 void take_turns(void);
 void tell_result(void);
+
+/* The totals as a line of splitrun has them. */
+void print_totals(const struct splitter_totals *totals);
 
 /* The host's own part of the search as words, at most OWN_WORDS; and back, once the run has been read. */
 void put_search(uint32_t *words);

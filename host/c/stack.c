@@ -29,6 +29,7 @@ static void steps_down(void) {
         splitter_spawn(&lent, 0);
         splitter_write(&lent, 0, SPLITTER_MAX_SPLITTERS - i, i);
         splitter_read(&lent, 0, i);
+        splitter_fold(&lent, 0, i % SPLITTER_REDUCERS, i);
     }
     splitter_steal(&lent, 1, 0);
     splitter_sync(&lent, 1);
@@ -52,6 +53,21 @@ static void chain(void) {
     splitter_return(&lent, 0);
 }
 
+/* Seven children of Main on as many workers, Main on the last; they end from the eldest on, so that each view goes to a sibling. */
+static void siblings(void) {
+    splitter_lent_start(&lent, SPLITTER_MAX_WORKERS, values, SPLITTER_MAX_SPLITTERS);
+    for (unsigned worker = 0; worker + 1 < SPLITTER_MAX_WORKERS; worker++) {
+        splitter_spawn(&lent, worker);
+        splitter_steal(&lent, worker + 1, worker);
+        splitter_fold(&lent, worker, SPLITTER_REDUCER_AFFINE, worker);
+        splitter_spawn(&lent, worker);
+    }
+    for (unsigned worker = 0; worker < SPLITTER_MAX_WORKERS; worker++) {
+        splitter_return(&lent, worker);
+        splitter_return(&lent, worker);
+    }
+}
+
 static void save(void) {
     saved = splitter_lent_save(&lent, image, sizeof image);
 }
@@ -71,6 +87,7 @@ static void write_tape(void) {
         at = splitter_put_record(at, SPLITTER_STEP_SPAWN, 0, 0, 0);
         at = splitter_put_record(at, SPLITTER_STEP_WRITE, 0, (uint16_t)(SPLITTER_MAX_SPLITTERS - i), i);
         at = splitter_put_record(at, SPLITTER_STEP_READ, 0, (uint16_t)i, 0);
+        at = splitter_put_record(at, SPLITTER_STEP_FOLD, 0, (uint16_t)(i % SPLITTER_REDUCERS), i);
     }
     at = splitter_put_record(at, SPLITTER_STEP_STEAL, 1, 0, 0);
     at = splitter_put_record(at, SPLITTER_STEP_SYNC, 1, 0, 0);
@@ -125,6 +142,8 @@ int main(void) {
     check_end();
     start();
     stepped = larger(stepped, stack_of(chain));
+    check_end();
+    stepped = larger(stepped, stack_of(siblings));
     check_end();
     start();
     size_t taped = stack_of(tapes);

@@ -1,15 +1,14 @@
 /* Random runs through the archive, every answer compared with the plain machine's. Usage: stress [RUNS [SEED]].
  *
  * Beyond the answers: words around the state, past each other slice and past the last whole node never change; the work slice is zero
- * after each call; a refused call or step leaves state and pool as they were; a pool with a wrong count of holders is refused, and so is a
- * part of the state with another length. Runs are saved and read back into garbage, and go on as the plain machine of that moment does;
- * where no frame waited as returning, now and then from an image of the form before. */
+ * after each call; a refused call or step leaves state and pool as they were; a wrong count of holders, a wrong link to a sibling and a
+ * total while Main lives are refused, and so is a part of the state with another length. The views of the frames in deques and the totals
+ * are the plain machine's. Runs are saved and read back into garbage, and go on as the plain machine of that moment does. */
 #include <stdio.h>
 #include <stdlib.h>
 #include <string.h>
 
 #include "checked.h"
-#include "older.h"
 
 enum { NODES = 1024, GUARD = 3, STEPS = 300, RECORDS = 20 };
 #define GUARD_WORD 0xdeadbeefu
@@ -26,13 +25,12 @@ static uint32_t work[NODES + GUARD], answers[2 * RECORDS + GUARD], values[SPLITT
 static struct checked run;
 static uint8_t image[SPLITTER_IMAGE_BYTES(NODES) + GUARD], spare[SPLITTER_IMAGE_BYTES(NODES)];
 static size_t image_len;         /* of the run's last save, or 0 */
-static uint8_t older[OLDER_IMAGE_BYTES(NODES)];
-static size_t older_len;         /* of the same run in the form before, or 0 */
 static struct plain saved_plain; /* the plain machine of that moment */
-static unsigned long counts[SPLITTER_WRITTEN + 1]; /* by first answer word */
+static unsigned long counts[SPLITTER_FOLDED + 1];  /* by first answer word */
 static unsigned long outcomes[SPLITTER_WAITS + 1]; /* of returns */
 static unsigned long chains[SPLITTER_WAITS + 1];   /* of those by which more than one frame ended */
-static unsigned long read_older;
+static unsigned long siblings; /* runs in which a frame had three live children or more at some time */
+static unsigned long totals;   /* runs whose totals were compared */
 
 static uint32_t seed;
 
@@ -56,6 +54,38 @@ static void check_guard(const uint32_t *words, const char *what) {
             surprise(what);
         }
     }
+}
+
+/* The view of a frame in a deque, in the library's place and in the plain machine's. */
+static void check_view(unsigned worker, unsigned i) {
+    uint32_t place = state->deques[worker * (1 + SPLITTER_MAX_FRAMES) + 1 + i];
+    const uint32_t *view = state->frames + place * SPLITTER_FRAME_RECORD_WORDS + SPLITTER_FRAME_VIEW_SUM;
+    const struct plain_view *wanted = &run.plain.frames[run.plain.deques[worker][i]].view;
+    same("view: sum", view[0], wanted->sum);
+    same("view: minimum", view[1], wanted->min);
+    same("view: multiplier", view[2], wanted->multiplier);
+    same("view: addend", view[3], wanted->addend);
+}
+
+/* After every call: the views, and the totals once Main has returned. */
+static void check_views(void) {
+    for (unsigned worker = 0; worker < run.plain.workers; worker++) {
+        for (unsigned i = 0; i < run.plain.lengths[worker]; i++) {
+            check_view(worker, i);
+        }
+    }
+    if (run.plain.live == 0) {
+        checked_totals(&run);
+        totals += 1;
+    }
+}
+
+static unsigned most_children(void) {
+    unsigned most = 0;
+    for (const struct plain_frame *frame = run.plain.frames; frame < run.plain.frames + SPLITTER_MAX_FRAMES; frame++) {
+        most = frame->live && frame->children > most ? frame->children : most;
+    }
+    return most;
 }
 
 /* After every call. */
@@ -94,9 +124,12 @@ struct step {
 /* Mostly a step that could be accepted, now and then any record at all. */
 static struct step any_step(void) {
     struct step junk = {any(256), any(256), any(65536), any(3)};
-    struct step step = {SPLITTER_STEP_SPAWN + any(6), any(run.plain.workers), 0, 0};
+    struct step step = {SPLITTER_STEP_SPAWN + any(7), any(run.plain.workers), 0, 0};
     if (any(50) == 0) {
         return junk;
+    }
+    if (run.plain.lengths[step.worker] == 0 && any(8) != 0) {
+        step.kind = SPLITTER_STEP_STEAL;
     }
     if (step.kind == SPLITTER_STEP_RETURN && any(2) == 0) {
         step.kind = SPLITTER_STEP_SPAWN;
@@ -108,6 +141,10 @@ static struct step any_step(void) {
         step.field = any(30) == 0 ? any(65536) : any(run.plain.splitters);
     }
     step.value = step.kind == SPLITTER_STEP_WRITE ? any(4) : 0;
+    if (step.kind == SPLITTER_STEP_FOLD) {
+        step.field = any(30) == 0 ? any(65536) : any(SPLITTER_REDUCERS);
+        step.value = any(UINT32_MAX) | 65536; /* a map with an odd multiplier loses no earlier one */
+    }
     return step;
 }
 
@@ -158,14 +195,22 @@ static void stress_refused(const struct splitter_lent *lent, uint32_t wanted) {
     counts[wanted] += 1;
 }
 
-/* A wrong count of holders is never sound, be the node in use or free. */
+/* A word that is never sound with another bit: a count of holders and a link to a sibling, in use or free; a total, which is zero while
+ * Main lives. */
+static uint32_t *any_settled_word(void) {
+    switch (any(4)) {
+    case 0: return &state->frames[any(SPLITTER_MAX_FRAMES) * SPLITTER_FRAME_RECORD_WORDS + SPLITTER_FRAME_YOUNGER];
+    case 1: return &state->numbers[SPLITTER_NUMBER_TOTAL_SUM + any(4)];
+    default: return &pool[any(run.plain.nodes) * SPLITTER_NODE_WORDS];
+    }
+}
+
 static void stress_unsound(void) {
-    uint32_t *holders = &pool[any(run.plain.nodes) * SPLITTER_NODE_WORDS];
-    uint32_t bit = 1u << any(32);
-    *holders ^= bit;
+    uint32_t *word = any_settled_word(), bit = 1u << any(32);
+    *word ^= bit;
     soil_work();
     stress_refused(&run.lent, SPLITTER_UNSOUND);
-    *holders ^= bit;
+    *word ^= bit;
 }
 
 static void stress_short_work(void) {
@@ -185,18 +230,15 @@ static void stress_save(void) {
     for (unsigned i = 0; i < GUARD; i++) {
         same("byte past the image", image[image_len + i], 0x5a);
     }
-    older_len = older_fits(state) ? older_image(state, pool, older) : 0;
     saved_plain = run.plain;
 }
 
 /* Whatever state and pool hold, the run is the saved one again. */
 static void stress_load(void) {
-    int from_older = older_len > 0 && any(3) == 0;
     memset(state, 0xa5, sizeof *state);
     memset(pool, 0xa5, run.plain.nodes * SPLITTER_NODE_WORDS * sizeof pool[0]);
     soil_work();
-    same("load", splitter_lent_load(&run.lent, from_older ? older : image, from_older ? older_len : image_len), SPLITTER_OK);
-    read_older += (unsigned long)from_older;
+    same("load", splitter_lent_load(&run.lent, image, image_len), SPLITTER_OK);
     run.plain = saved_plain;
 }
 
@@ -268,7 +310,7 @@ static void call_bad_state(uint32_t *const parts[3], const size_t lengths[3]) {
 
 /* Any other length of a part, shorter or longer: nothing changes. */
 static void stress_bad_state(void) {
-    static uint32_t longer[SPLITTER_DEQUES_WORDS + GUARD]; /* apart, for slices must not overlap; always zero */
+    static uint32_t longer[SPLITTER_FRAMES_WORDS + GUARD]; /* apart, for slices must not overlap; always zero */
     uint32_t *parts[3] = {state->numbers, state->deques, state->frames};
     size_t lengths[3] = {SPLITTER_NUMBERS_WORDS, SPLITTER_DEQUES_WORDS, SPLITTER_FRAMES_WORDS};
     unsigned part = any(3);
@@ -312,16 +354,19 @@ static void stress_run(void) {
     }
     memset(work, 0, sizeof work);
     image_len = 0;
-    older_len = 0;
     guard(guarded.before);
     guard(guarded.after);
     guard(pool + nodes * SPLITTER_NODE_WORDS);
     guard(work + lent.work_len);
     same("start", checked_start(&run, 1 + any(SPLITTER_MAX_WORKERS), values, n), SPLITTER_OK);
+    unsigned most = 0;
     for (unsigned i = 0; i < STEPS && run.plain.live > 0; i++) {
         stress_call();
         check_memory();
+        check_views();
+        most = most_children() > most ? most_children() : most;
     }
+    siblings += most >= 3;
 }
 
 static unsigned long argument(const char *text) {
@@ -334,7 +379,7 @@ static unsigned long argument(const char *text) {
     return number;
 }
 
-/* Every outcome of a return has come, every end of a chain of waiting frames, and readings of the form before. */
+/* Every outcome of a return has come, and every end of a chain of waiting frames. */
 static void check_outcomes(void) {
     for (unsigned outcome = SPLITTER_CONTINUED; outcome <= SPLITTER_WAITS; outcome++) {
         int ends_chains = outcome == SPLITTER_BECAME_IDLE || outcome == SPLITTER_RESUMED || outcome == SPLITTER_FINISHED;
@@ -343,16 +388,16 @@ static void check_outcomes(void) {
             exit(1);
         }
     }
-    if (read_older == 0) {
-        surprise("no image of the form before was read");
+    if (siblings == 0 || totals == 0) {
+        surprise("no run had three live siblings, or none came to its end");
     }
 }
 
 /* Every answer and refusal of a step has come, or the runs show too little. */
 static unsigned long count_answers(void) {
     unsigned long sum = 0;
-    for (uint32_t kind = SPLITTER_SHORT_WORK; kind <= SPLITTER_WRITTEN; kind++) {
-        int comes = (kind <= SPLITTER_SHORT_TARGET && kind != 14) || kind == SPLITTER_BAD_STATE || kind >= SPLITTER_SPAWNED;
+    for (uint32_t kind = SPLITTER_SHORT_WORK; kind <= SPLITTER_FOLDED; kind++) {
+        int comes = (kind <= SPLITTER_UNKNOWN_REDUCER && kind != 14) || kind == SPLITTER_BAD_STATE || kind >= SPLITTER_SPAWNED;
         if (comes && counts[kind] == 0) {
             printf("never answered: %u (%s)\n", kind, splitter_name(kind));
             exit(1);
@@ -368,7 +413,8 @@ int main(int argc, char **argv) {
     for (unsigned long i = 0; i < runs; i++) {
         stress_run();
     }
-    printf("stress: %lu random runs, %lu answers, each as the plain machine gives it\n", runs, count_answers());
+    printf("stress: %lu random runs, %lu answers, each as the plain machine gives it; three live siblings in %lu runs, totals of %lu\n",
+           runs, count_answers(), siblings, totals);
     check_outcomes();
     return 0;
 }

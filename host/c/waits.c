@@ -62,7 +62,9 @@ static void check_free_places(const uint32_t *places, unsigned len) {
     for (unsigned i = 0; i < SPLITTER_MAX_FRAMES; i++) {
         same("free place", place, i < len ? places[i] : i);
         const uint32_t *words = frame(place);
-        same("free record", words[0] | words[2] | words[3] | words[4] | words[5] | words[6], 0);
+        for (unsigned word = 0; word < SPLITTER_FRAME_RECORD_WORDS; word++) {
+            same("free record", word == SPLITTER_FRAME_PARENT ? 0 : words[word], 0);
+        }
         place = words[SPLITTER_FRAME_PARENT];
     }
     same("end of the chain of places", place, UINT32_MAX);

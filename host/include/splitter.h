@@ -26,12 +26,16 @@
  * A return with a live child is no mistake: the frame waits for its children and ends when the last of them ends (SPLITTER_WAITS). So a
  * frame that has nothing to do after its children needs no sync.
  *
+ * Three reducers add up what all frames find: a sum, a minimum, and an affine map (SPLITTER_REDUCER_SUM to SPLITTER_REDUCER_AFFINE). A
+ * fold takes a value into one of them. Nobody reads a reducer while Main lives. Once Main has returned, splitter_get_totals gives the
+ * totals: the values folded by all frames, in the order in which one worker would have folded them, whatever was stolen.
+ *
  * An image is a whole run between two calls: its state and its pool's nodes, the same bytes on every machine. splitter_load goes on from
  * it, in another process or on another day, as at the save; what came after the save is forgotten. The host's own part of the search is
  * not in it. Each block has a check, a sum: it finds a changed byte, but not blocks that changed places, nor words that did within a
  * block. Such an image is read if it is sound. A host that needs more keeps a sequence number and a CRC of its own around the image
- * (docs/INTEGRATION.md, host/c/kept.c). A save writes version 1: the workers plus 256 in the first word, seven words to a frame record.
- * Version 0, from before, has the workers alone there and six words to a record. It is read too, with no frame waiting as returning.
+ * (docs/INTEGRATION.md, host/c/kept.c). A save writes version 2: the workers plus 512 in the first word, twelve words to a frame record.
+ * A reading takes no other: images from before, of versions 0 and 1, are refused by SPLITTER_BAD_BLOCKS.
  *
  * The eight functions are the library. Below them are inline helpers: the same calls over struct splitter_state and over struct
  * splitter_lent, a call for each kind of step, queries, records, texts. A host needs no others than those over struct splitter_lent.
@@ -66,21 +70,22 @@ typedef uint64_t splitter_len;
 #define SPLITTER_RESTRICT
 #endif
 
-#define SPLITTER_NONE 4294967295u      /* none, where a place or a number could be */
-#define SPLITTER_NUMBERS_WORDS 5u      /* SPLITTER_NUMBER_WORKERS to SPLITTER_NUMBER_FREE_FRAME */
-#define SPLITTER_DEQUES_WORDS 520u     /* for each of 8 workers its deque's length, then 64 places for its frames from the top */
-#define SPLITTER_FRAMES_WORDS 448u     /* 64 records of SPLITTER_FRAME_RECORD_WORDS words */
-#define SPLITTER_FRAME_RECORD_WORDS 7u /* SPLITTER_FRAME_LIVE to SPLITTER_FRAME_RETURNING */
+#define SPLITTER_NONE 4294967295u       /* none, where a place or a number could be */
+#define SPLITTER_NUMBERS_WORDS 9u       /* SPLITTER_NUMBER_WORKERS to SPLITTER_NUMBER_TOTAL_ADDEND */
+#define SPLITTER_DEQUES_WORDS 520u      /* for each of 8 workers its deque's length, then 64 places for its frames from the top */
+#define SPLITTER_FRAMES_WORDS 768u      /* 64 records of SPLITTER_FRAME_RECORD_WORDS words */
+#define SPLITTER_FRAME_RECORD_WORDS 12u /* SPLITTER_FRAME_LIVE to SPLITTER_FRAME_YOUNGER */
 #define SPLITTER_NODE_WORDS 4u
 #define SPLITTER_MAX_NODES 16384u
 #define SPLITTER_MAX_SPLITTERS 256u
 #define SPLITTER_MAX_WORKERS 8u
 #define SPLITTER_MAX_FRAMES 64u
+#define SPLITTER_REDUCERS 3u            /* SPLITTER_REDUCER_SUM to SPLITTER_REDUCER_AFFINE */
 #define SPLITTER_RECORD_BYTES 8u
-#define SPLITTER_BLOCK_BYTES 512u      /* of an image: data, then a check of 4 bytes */
-#define SPLITTER_BLOCK_WORDS 127u      /* of a block's data */
-#define SPLITTER_IMAGE_VERSION 256u    /* added to the workers in an image's first word */
-#define SPLITTER_STACK_BYTES 2048u     /* a call takes at most this much stack; measured (host/c/stack.c, make cross-test) */
+#define SPLITTER_BLOCK_BYTES 512u       /* of an image: data, then a check of 4 bytes */
+#define SPLITTER_BLOCK_WORDS 127u       /* of a block's data */
+#define SPLITTER_IMAGE_VERSION 512u     /* added to the workers in an image's first word */
+#define SPLITTER_STACK_BYTES 2048u      /* a call takes at most this much stack; measured (host/c/stack.c, make cross-test) */
 
 /* splitter_image_bytes as a constant, to size an array: for 0 to SPLITTER_MAX_NODES nodes. */
 #define SPLITTER_STATE_WORDS (SPLITTER_NUMBERS_WORDS + SPLITTER_DEQUES_WORDS + SPLITTER_FRAMES_WORDS)
@@ -99,9 +104,13 @@ struct splitter_state {
 enum {
     SPLITTER_NUMBER_WORKERS = 0,
     SPLITTER_NUMBER_SPLITTERS = 1,
-    SPLITTER_NUMBER_NODES = 2,     /* the recorded nodes of the pool */
-    SPLITTER_NUMBER_FREE_NODE = 3, /* the first free node, or none */
-    SPLITTER_NUMBER_FREE_FRAME = 4 /* the first free frame place, or none */
+    SPLITTER_NUMBER_NODES = 2,      /* the recorded nodes of the pool */
+    SPLITTER_NUMBER_FREE_NODE = 3,  /* the first free node, or none */
+    SPLITTER_NUMBER_FREE_FRAME = 4, /* the first free frame place, or none */
+    SPLITTER_NUMBER_TOTAL_SUM = 5,  /* this and the next three: the totals once Main has returned, zero while it lives */
+    SPLITTER_NUMBER_TOTAL_MIN = 6,
+    SPLITTER_NUMBER_TOTAL_MULTIPLIER = 7,
+    SPLITTER_NUMBER_TOTAL_ADDEND = 8
 };
 
 /* The words of a frame record. All but the second are zero in a free place. */
@@ -112,7 +121,12 @@ enum {
     SPLITTER_FRAME_OUTSTANDING = 3, /* its live children */
     SPLITTER_FRAME_WAITING = 4,     /* 1 on a suspended frame: it waits, at a sync or as returning; else 0 */
     SPLITTER_FRAME_ROOT = 5,        /* the root of its tree in the pool */
-    SPLITTER_FRAME_RETURNING = 6    /* 1 on a suspended frame that waits as returning, else 0 */
+    SPLITTER_FRAME_RETURNING = 6,   /* 1 on a suspended frame that waits as returning, else 0 */
+    SPLITTER_FRAME_VIEW_SUM = 7,    /* this and the next three: what was folded and has come to this frame */
+    SPLITTER_FRAME_VIEW_MIN = 8,
+    SPLITTER_FRAME_VIEW_MULTIPLIER = 9,
+    SPLITTER_FRAME_VIEW_ADDEND = 10,
+    SPLITTER_FRAME_YOUNGER = 11     /* the place of the next younger live child of the same parent, or none */
 };
 
 /* Kinds of steps: a record's first byte, and splitter_step's kind. */
@@ -122,7 +136,16 @@ enum {
     SPLITTER_STEP_STEAL = 3,
     SPLITTER_STEP_SYNC = 4,
     SPLITTER_STEP_READ = 5,
-    SPLITTER_STEP_WRITE = 6
+    SPLITTER_STEP_WRITE = 6,
+    SPLITTER_STEP_FOLD = 7
+};
+
+/* The reducers: the field of a fold. All arithmetic is modulo 4,294,967,296. */
+enum {
+    SPLITTER_REDUCER_SUM = 0,   /* adds the values; nothing folded: 0 */
+    SPLITTER_REDUCER_MIN = 1,   /* keeps the least value; nothing folded: SPLITTER_NONE */
+    SPLITTER_REDUCER_AFFINE = 2 /* maps x to multiplier times x plus addend, the earlier map first: splitter_affine gives a fold's value;
+                                 * nothing folded: 1 and 0 */
 };
 
 /* Results of a call that was not refused, and the first answer word of an accepted step. */
@@ -133,7 +156,8 @@ enum {
     SPLITTER_STOLEN = 103,   /* second word: the stolen frame's depth */
     SPLITTER_SYNCED = 104,   /* second word: SPLITTER_PASSED or SPLITTER_SUSPENDED */
     SPLITTER_VALUE = 105,    /* second word: the value read */
-    SPLITTER_WRITTEN = 106   /* second word: the free nodes left */
+    SPLITTER_WRITTEN = 106,  /* second word: the free nodes left */
+    SPLITTER_FOLDED = 107    /* second word: 0 */
 };
 
 /* Outcomes of a return. If the worker's deque is empty and the parent waits as returning, with no other live child, the parent ends too,
@@ -163,7 +187,7 @@ enum {
     SPLITTER_UNSOUND = 6,              /* state and pool are not sound, or the image's are not; a reading: the pool has fewer nodes than
                                         * the image */
     /* Of one step or record: state and pool are as they were. */
-    SPLITTER_BAD_RECORD = 7,           /* the kind is not 1 to 6, or an unused field is not zero */
+    SPLITTER_BAD_RECORD = 7,           /* the kind is not 1 to 7, or an unused field is not zero */
     SPLITTER_UNKNOWN_WORKER = 8,       /* the worker does not exist */
     SPLITTER_RUN_IS_OVER = 9,          /* Main has returned: it has ended, and no frame lives */
     SPLITTER_WORKER_HAS_NO_FRAME = 10, /* not a steal, and the worker is idle */
@@ -172,10 +196,11 @@ enum {
     SPLITTER_FRAMES_FULL = 13,         /* a spawn, and 64 frames live */
     /* 14 no longer comes: such a return is accepted, SPLITTER_WAITS. */
     SPLITTER_UNKNOWN_SPLITTER = 15,    /* a read or write, and the splitter is not below n */
+    SPLITTER_UNKNOWN_REDUCER = 20,     /* a fold, and the reducer is not below SPLITTER_REDUCERS; in the place of 15 */
     SPLITTER_POOL_FULL = 16,           /* a write, and fewer nodes are free than the shared rest of its path has */
     /* Of a reading, before 5 and 6, and of a save, after 6. */
     SPLITTER_BAD_BLOCKS = 17,          /* the image is not just as many whole blocks as its first block calls for, has no whole block, or
-                                        * its first word is 512 or more: a version that this library does not read */
+                                        * its first word is not 512 to 767: a version that this library does not read */
     SPLITTER_BAD_CHECK = 18,           /* a check is wrong or the rest of the last block is not zero */
     SPLITTER_SHORT_TARGET = 19,        /* the target is too short */
     /* Of the interface, before all others: a part of the state has another length than it must have; nothing at all has changed. */
@@ -190,9 +215,9 @@ uint32_t splitter_start(uint32_t *SPLITTER_RESTRICT numbers, splitter_len number
                         const uint32_t *SPLITTER_RESTRICT values, splitter_len values_len,
                         uint32_t *SPLITTER_RESTRICT pool, splitter_len pool_len);
 
-/* One step. field is the splitter of a read or write, the victim of a steal, else 0; value is a write's, else 0.
- * The low half of the result is the first answer word (101 to 106, or a refusal: 99, 5, 6, then 7 to 13, 15, 16), the high half the
- * second. */
+/* One step. field is the splitter of a read or write, the victim of a steal, the reducer of a fold, else 0; value is a write's or a
+ * fold's, else 0. The low half of the result is the first answer word (101 to 107, or a refusal: 99, 5, 6, then 7 to 13, 15, 20, 16), the
+ * high half the second. */
 uint64_t splitter_step(uint32_t *SPLITTER_RESTRICT numbers, splitter_len numbers_len,
                        uint32_t *SPLITTER_RESTRICT deques, splitter_len deques_len,
                        uint32_t *SPLITTER_RESTRICT frames, splitter_len frames_len,
@@ -210,7 +235,7 @@ uint32_t splitter_tape(uint32_t *SPLITTER_RESTRICT numbers, splitter_len numbers
                        const uint8_t *SPLITTER_RESTRICT tape, splitter_len tape_len,
                        uint32_t *SPLITTER_RESTRICT answers, splitter_len answers_len);
 
-/* Saves the run: its image, of version 1, in the front of the target. State and pool are only read. SPLITTER_OK, or a refusal: 99, 5, 6,
+/* Saves the run: its image, of version 2, in the front of the target. State and pool are only read. SPLITTER_OK, or a refusal: 99, 5, 6,
  * 19; then nothing has changed but the work slice. Target bytes past the image never change. */
 uint32_t splitter_save(const uint32_t *SPLITTER_RESTRICT numbers, splitter_len numbers_len,
                        const uint32_t *SPLITTER_RESTRICT deques, splitter_len deques_len,
@@ -219,7 +244,7 @@ uint32_t splitter_save(const uint32_t *SPLITTER_RESTRICT numbers, splitter_len n
                        uint32_t *SPLITTER_RESTRICT work, splitter_len work_len,
                        uint8_t *SPLITTER_RESTRICT target, splitter_len target_len);
 
-/* Reads an image of just image_len bytes, of version 0 or 1, whatever state and pool hold. SPLITTER_OK, and the run goes on
+/* Reads an image of just image_len bytes, of version 2, whatever state and pool hold. SPLITTER_OK, and the run goes on
  * as at its save, or a refusal: 99, 17, 18, 5, 6. Refused by 99 nothing has changed. Refused by another, the three parts of the state are
  * zero, and by 6 every whole node of the pool too. The pool may be longer than the image's nodes: pool words past these never change but
  * by 6. */
@@ -397,6 +422,15 @@ static inline uint64_t splitter_write(const struct splitter_lent *lent, uint32_t
     return splitter_lent_step(lent, SPLITTER_STEP_WRITE, worker, splitter, value);
 }
 
+static inline uint64_t splitter_fold(const struct splitter_lent *lent, uint32_t worker, uint32_t reducer, uint32_t value) {
+    return splitter_lent_step(lent, SPLITTER_STEP_FOLD, worker, reducer, value);
+}
+
+/* The value to fold into SPLITTER_REDUCER_AFFINE: its multiplier in the high 16 bits, its addend in the low ones. */
+static inline uint32_t splitter_affine(uint16_t multiplier, uint16_t addend) {
+    return (uint32_t)multiplier << 16 | addend;
+}
+
 /* Queries over a state. They read its words and call nothing; lock as for a call. Of a state that is not sound each gives some number, and
  * none reads outside of it. Before a start, in a state of zeros, all give 0, SPLITTER_NONE or false. */
 static inline uint32_t splitter_workers(const struct splitter_state *state) {
@@ -454,6 +488,22 @@ static inline bool splitter_main_returned(const struct splitter_state *state) {
     return splitter_workers(state) != 0;
 }
 
+/* What was folded into each reducer. */
+struct splitter_totals {
+    uint32_t sum, min;
+    uint32_t multiplier, addend; /* of the affine map */
+};
+
+/* Gives the totals if Main has returned; else false, and zeros. */
+static inline bool splitter_get_totals(const struct splitter_state *state, struct splitter_totals *totals) {
+    const bool returned = splitter_main_returned(state);
+    totals->sum = returned ? state->numbers[SPLITTER_NUMBER_TOTAL_SUM] : 0;
+    totals->min = returned ? state->numbers[SPLITTER_NUMBER_TOTAL_MIN] : 0;
+    totals->multiplier = returned ? state->numbers[SPLITTER_NUMBER_TOTAL_MULTIPLIER] : 0;
+    totals->addend = returned ? state->numbers[SPLITTER_NUMBER_TOTAL_ADDEND] : 0;
+    return returned;
+}
+
 /* The same over lent memory. */
 static inline uint32_t splitter_lent_workers(const struct splitter_lent *lent) {
     return splitter_workers(lent->state);
@@ -483,6 +533,10 @@ static inline bool splitter_lent_main_returned(const struct splitter_lent *lent)
     return splitter_main_returned(lent->state);
 }
 
+static inline bool splitter_lent_get_totals(const struct splitter_lent *lent, struct splitter_totals *totals) {
+    return splitter_get_totals(lent->state, totals);
+}
+
 /* Writes a record of SPLITTER_RECORD_BYTES bytes, on any machine, and gives the place after it. */
 static inline uint8_t *splitter_put_record(uint8_t *to, uint8_t kind, uint8_t worker, uint16_t field, uint32_t value) {
     to[0] = kind;
@@ -506,6 +560,7 @@ static inline const char *splitter_name(uint32_t number) {
     case SPLITTER_SYNCED: return "synced";
     case SPLITTER_VALUE: return "value";
     case SPLITTER_WRITTEN: return "written";
+    case SPLITTER_FOLDED: return "folded";
     case SPLITTER_BAD_VALUE_COUNT: return "0 or more than 256 initial values";
     case SPLITTER_BAD_WORKER_COUNT: return "0 or more than 8 workers";
     case SPLITTER_BAD_NODE_COUNT: return "too few or too many nodes in the pool";
@@ -520,6 +575,7 @@ static inline const char *splitter_name(uint32_t number) {
     case SPLITTER_NOTHING_TO_STEAL: return "the victim has no frame to steal";
     case SPLITTER_FRAMES_FULL: return "64 frames live";
     case SPLITTER_UNKNOWN_SPLITTER: return "no such splitter";
+    case SPLITTER_UNKNOWN_REDUCER: return "no such reducer";
     case SPLITTER_POOL_FULL: return "too few free nodes";
     case SPLITTER_BAD_BLOCKS: return "the image is not just as many whole blocks as it calls for, or of no readable form";
     case SPLITTER_BAD_CHECK: return "a check is wrong or the rest of the last block is not zero";

@@ -13,6 +13,7 @@ pub enum Done {
     Value(u32),
     /// The free nodes left.
     Written(u32),
+    Folded,
 }
 
 /// The outcome of a return. If the worker's deque is empty and the parent waits as returning, with no other
@@ -56,7 +57,7 @@ pub enum Refusal {
     /// State and pool are not sound: somebody else wrote to them, or there was no start. Of a reading: the
     /// image's are not, or the pool has fewer nodes than the image.
     Unsound,
-    /// A record whose kind is not 1 to 6, or with an unused field that is not zero. No
+    /// A record whose kind is not 1 to 7, or with an unused field that is not zero. No
     /// [`Step`](crate::Step) makes one.
     BadRecord,
     /// The worker does not exist.
@@ -73,10 +74,12 @@ pub enum Refusal {
     FramesFull,
     /// The splitter is not below n.
     UnknownSplitter,
+    /// A fold into no [`Reducer`](crate::Reducer). No [`Step`](crate::Step) makes one.
+    UnknownReducer,
     /// A write while fewer nodes are free than the shared rest of its path has.
     PoolFull,
     /// An image that is not just as many whole blocks as its first block calls for, has no whole block, or
-    /// whose first word is 512 or more: a form that this library does not read.
+    /// whose first word is not 512 to 767: a form that this library does not read.
     BadBlocks,
     /// An image with a wrong check, or with a rest of its last block that is not zero.
     BadCheck,
@@ -93,7 +96,7 @@ pub enum Refusal {
 pub type Answer = Result<Done, Refusal>;
 
 /// The known refusals, with their numbers and texts.
-const REFUSALS: [(Refusal, u32, &str); 19] = [
+const REFUSALS: [(Refusal, u32, &str); 20] = [
     (Refusal::BadValueCount, 1, "0 or more than 256 initial values"),
     (Refusal::BadWorkerCount, 2, "0 or more than 8 workers"),
     (Refusal::BadNodeCount, 3, "too few or too many nodes in the pool"),
@@ -112,6 +115,7 @@ const REFUSALS: [(Refusal, u32, &str); 19] = [
     (Refusal::BadBlocks, 17, "the image is not just as many whole blocks as it calls for, or of no readable form"),
     (Refusal::BadCheck, 18, "a check is wrong or the rest of the last block is not zero"),
     (Refusal::ShortTarget, 19, "the target is too short"),
+    (Refusal::UnknownReducer, 20, "no such reducer"),
     (Refusal::BadState, 99, "a part of the state has another length than it must have"),
 ];
 
@@ -152,6 +156,7 @@ impl Done {
             Done::Synced(outcome) => [104, outcome as u32],
             Done::Value(value) => [105, value],
             Done::Written(free) => [106, free],
+            Done::Folded => [107, 0],
         }
     }
 }
@@ -165,6 +170,7 @@ impl fmt::Display for Done {
             Done::Synced(_) => "synced",
             Done::Value(_) => "value",
             Done::Written(_) => "written",
+            Done::Folded => "folded",
         })
     }
 }
@@ -183,6 +189,7 @@ pub fn answer(words: [u32; 2]) -> Answer {
         [104, 1] => Done::Synced(Synced::Suspended),
         [105, value] => Done::Value(value),
         [106, free] => Done::Written(free),
+        [107, 0] => Done::Folded,
         [refusal, 0] => return Err(Refusal::from_number(refusal)),
         [unknown, _] => return Err(Refusal::Unknown(unknown)),
     })

@@ -51,6 +51,30 @@
 //! # Ok::<(), splitter::Refusal>(())
 //! ```
 //!
+//! Three reducers add up what all frames find. Their totals are those of a run by one worker, whatever was
+//! stolen:
+//!
+//! ```
+//! use splitter::{affine, Engine, Reducer, Returned, State, Totals, NODE_WORDS};
+//!
+//! let (mut state, mut pool, mut work) = (State::ZERO, [0; 20 * NODE_WORDS], [0; 20]);
+//! let mut engine = Engine { state: &mut state, pool: &mut pool, work: &mut work };
+//! engine.start(2, &[10, 20, 30, 40, 50])?;
+//! engine.spawn(0)?;
+//! engine.steal(1, 0)?;
+//! engine.fold(1, Reducer::Sum, 5)?; // Main, before its child
+//! engine.fold(1, Reducer::Affine, affine(10, 2))?;
+//! assert_eq!(engine.ret(1)?, Returned::Waits);
+//! engine.fold(0, Reducer::Sum, 7)?;
+//! engine.fold(0, Reducer::Min, 7)?;
+//! engine.fold(0, Reducer::Affine, affine(10, 1))?;
+//! assert_eq!(engine.state.totals(), None);
+//! assert_eq!(engine.ret(0)?, Returned::Finished);
+//! // The child's map is the earlier one: x to 10 x + 1, then to 10 times that plus 2.
+//! assert_eq!(engine.state.totals(), Some(Totals { sum: 12, min: 7, multiplier: 100, addend: 12 }));
+//! # Ok::<(), splitter::Refusal>(())
+//! ```
+//!
 //! A run can be saved as an image and read back, in another process too:
 //!
 //! ```
@@ -78,8 +102,8 @@ mod state;
 mod step;
 
 pub use answer::{answer, answers, Answer, Done, Refusal, Returned, Synced};
-pub use state::State;
-pub use step::Step;
+pub use state::{State, Totals};
+pub use step::{affine, Reducer, Step};
 
 /// The version of splitter.h that this binding follows; the package has the same.
 pub const VERSION_MAJOR: u32 = 0;
@@ -91,13 +115,13 @@ pub const VERSION: u32 = VERSION_MAJOR * 1000 + VERSION_MINOR;
 /// None, where a place or a number could be.
 pub const NONE: u32 = u32::MAX;
 /// The words of the state's numbers.
-pub const NUMBERS_WORDS: usize = 5;
+pub const NUMBERS_WORDS: usize = 9;
 /// The words of the state's deques.
 pub const DEQUES_WORDS: usize = 520;
 /// The words of the state's frame records.
 pub const FRAMES_WORDS: usize = MAX_FRAMES * FRAME_RECORD_WORDS;
 /// The words of a frame record.
-pub const FRAME_RECORD_WORDS: usize = 7;
+pub const FRAME_RECORD_WORDS: usize = 12;
 /// The words of a node.
 pub const NODE_WORDS: usize = 4;
 /// The most nodes of a pool.
@@ -108,13 +132,15 @@ pub const MAX_SPLITTERS: usize = 256;
 pub const MAX_WORKERS: usize = 8;
 /// The most live frames.
 pub const MAX_FRAMES: usize = 64;
+/// The number of reducers.
+pub const REDUCERS: usize = 3;
 
 /// The bytes of a block of an image.
 pub const BLOCK_BYTES: usize = 512;
 /// The words of a block's data; its check follows them.
 pub const BLOCK_WORDS: usize = 127;
 /// Added to the workers in an image's first word.
-pub const IMAGE_VERSION: u32 = 256;
+pub const IMAGE_VERSION: u32 = 512;
 
 /// The bytes of an image that a save writes, of so many nodes: whole blocks.
 pub fn image_bytes(nodes: u32) -> u64 {
@@ -204,6 +230,14 @@ impl Engine<'_> {
         }
     }
 
+    /// Takes a value into a reducer; [`State::totals`] has what came of it once Main has returned.
+    pub fn fold(&mut self, worker: u8, reducer: Reducer, value: u32) -> Result<(), Refusal> {
+        match self.step(Step::Fold { worker, reducer, value })? {
+            Done::Folded => Ok(()),
+            other => Err(astray(other)),
+        }
+    }
+
     /// The free nodes of a sound state and its pool, as a write tells them, asked without one. 0 if the pool
     /// holds fewer nodes than recorded; of a state that is not sound some number.
     pub fn free_nodes(&self) -> u64 {
@@ -223,9 +257,9 @@ impl Engine<'_> {
     }
 
     /// Goes on with a saved run as it was at its save, whatever the lent memory holds. The image is just its
-    /// bytes, of the form that [`Engine::save`] writes or of the one before, in which no frame waits as
-    /// returning; the pool may be longer than its nodes. A refused reading leaves [`State::ZERO`], by
-    /// [`Refusal::Unsound`] every whole node of the pool zero as well.
+    /// bytes, of the form that [`Engine::save`] writes and of no other; the pool may be longer than its nodes.
+    /// A refused reading leaves [`State::ZERO`], by [`Refusal::Unsound`] every whole node of the pool zero as
+    /// well.
     pub fn load(&mut self, image: &[u8]) -> Result<(), Refusal> {
         call(raw::load(self.state.parts(), self.pool, self.work, image))
     }

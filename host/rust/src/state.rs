@@ -4,17 +4,28 @@ use crate::{DEQUES_WORDS, FRAMES_WORDS, FRAME_RECORD_WORDS, MAX_FRAMES, NUMBERS_
 /// The words of a worker in the deques: its deque's length, then its places.
 const DEQUE_WORDS: usize = 1 + MAX_FRAMES;
 
+/// What was folded into each reducer.
+#[derive(Clone, Copy, Debug, PartialEq, Eq, Hash)]
+pub struct Totals {
+    pub sum: u32,
+    pub min: u32,
+    /// Of the affine map, as `addend`.
+    pub multiplier: u32,
+    pub addend: u32,
+}
+
 /// The state of a run, as splitter.h has it. The calls write it; a host may read and copy it.
 #[derive(Clone, Debug, PartialEq, Eq)]
 #[repr(C)]
 pub struct State {
-    /// Workers, splitters, nodes, first free node, first free frame place.
+    /// Workers, splitters, nodes, first free node, first free frame place; then the totals, the sum, the minimum, the
+    /// multiplier and the addend, which are zero while Main lives.
     pub numbers: [u32; NUMBERS_WORDS],
     /// For each of 8 workers its deque's length, then 64 places for its frames from the top.
     pub deques: [u32; DEQUES_WORDS],
     /// 64 records of [`FRAME_RECORD_WORDS`](crate::FRAME_RECORD_WORDS) words: live, parent or next free place, depth,
-    /// outstanding, suspended, root, returning. The last is 1 on a suspended frame that waits as returning,
-    /// else 0.
+    /// outstanding, suspended, root, returning, the view's sum, minimum, multiplier and addend, the next younger
+    /// live sibling's place or [`NONE`](crate::NONE). Returning is 1 on a suspended frame that waits so, else 0.
     pub frames: [u32; FRAMES_WORDS],
 }
 
@@ -60,6 +71,12 @@ impl State {
     /// [`Refusal::RunIsOver`](crate::Refusal::RunIsOver).
     pub fn main_returned(&self) -> bool {
         self.workers() != 0 && self.deques.iter().step_by(DEQUE_WORDS).all(|length| *length == 0)
+    }
+
+    /// What all frames have folded, in the order in which one worker would have done it; `None` while Main lives.
+    pub fn totals(&self) -> Option<Totals> {
+        let [_, _, _, _, _, sum, min, multiplier, addend] = self.numbers;
+        self.main_returned().then_some(Totals { sum, min, multiplier, addend })
     }
 
     /// The places of the worker's frames, from the top.

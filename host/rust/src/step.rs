@@ -1,3 +1,20 @@
+/// What a fold takes its value into. Arithmetic is modulo 4,294,967,296.
+#[derive(Clone, Copy, Debug, PartialEq, Eq, Hash)]
+pub enum Reducer {
+    /// Adds the values; nothing folded: 0.
+    Sum,
+    /// Keeps the least value; nothing folded: [`NONE`](crate::NONE).
+    Min,
+    /// Maps x to multiplier times x plus addend, the earlier map first; nothing folded: 1 and 0. [`affine`] gives
+    /// a fold's value.
+    Affine,
+}
+
+/// The value to fold into [`Reducer::Affine`]: its multiplier in the high 16 bits, its addend in the low ones.
+pub const fn affine(multiplier: u16, addend: u16) -> u32 {
+    (multiplier as u32) << 16 | addend as u32
+}
+
 /// One step of a worker: what the engine is asked to do, and a record of a tape.
 #[derive(Clone, Copy, Debug, PartialEq, Eq, Hash)]
 pub enum Step {
@@ -13,6 +30,8 @@ pub enum Step {
     Read { worker: u8, splitter: u16 },
     /// A new value for a splitter in the bottom frame's view.
     Write { worker: u8, splitter: u16, value: u32 },
+    /// A value is taken into a reducer.
+    Fold { worker: u8, reducer: Reducer, value: u32 },
 }
 
 impl Step {
@@ -36,6 +55,7 @@ impl Step {
             Step::Sync { worker } => (4, worker, 0, 0),
             Step::Read { worker, splitter } => (5, worker, splitter, 0),
             Step::Write { worker, splitter, value } => (6, worker, splitter, value),
+            Step::Fold { worker, reducer, value } => (7, worker, reducer as u16, value),
         }
     }
 }

@@ -1,14 +1,16 @@
 //! The binding's numbers, and document 01's example through it.
 
-use splitter::{answer, answers, raw, tree_nodes, Done, Engine, Refusal, Returned, State, Step, Synced};
+use splitter::{
+    affine, answer, answers, raw, tree_nodes, Done, Engine, Reducer, Refusal, Returned, State, Step, Synced, Totals,
+};
 use splitter::{image_array_bytes, image_bytes, BLOCK_BYTES, BLOCK_WORDS, IMAGE_VERSION, NONE};
 use splitter::{DEQUES_WORDS, FRAMES_WORDS, FRAME_RECORD_WORDS, NODE_WORDS, NUMBERS_WORDS};
-use splitter::{MAX_FRAMES, MAX_NODES, MAX_SPLITTERS, MAX_WORKERS};
+use splitter::{MAX_FRAMES, MAX_NODES, MAX_SPLITTERS, MAX_WORKERS, REDUCERS};
 use splitter::{VERSION, VERSION_MAJOR, VERSION_MINOR};
 use std::mem::{offset_of, size_of};
 
 /// The numbers of the refusals; 14 was one before R-3.
-const REFUSALS: [u32; 19] = [1, 2, 3, 4, 5, 6, 7, 8, 9, 10, 11, 12, 13, 15, 16, 17, 18, 19, 99];
+const REFUSALS: [u32; 20] = [1, 2, 3, 4, 5, 6, 7, 8, 9, 10, 11, 12, 13, 15, 16, 17, 18, 19, 20, 99];
 
 #[test]
 fn refusals_keep_their_numbers() {
@@ -35,7 +37,7 @@ fn answers_keep_their_words() {
             }
         }
     }
-    assert_eq!(accepted, 4 * 6 + 5 + 2);
+    assert_eq!(accepted, 4 * 6 + 5 + 2 + 1);
 }
 
 const HEADER: &str = include_str!("../../include/splitter.h");
@@ -71,6 +73,15 @@ fn the_header_has_the_same_outcomes() {
 }
 
 #[test]
+fn the_header_has_the_same_reducers() {
+    for reducer in [Reducer::Sum, Reducer::Min, Reducer::Affine] {
+        let name = name_in_c(&format!("{reducer:?}"));
+        assert!(HEADER.contains(&format!(" SPLITTER_REDUCER_{name} = {}", reducer as u32)), "{name}");
+    }
+    assert_eq!([affine(3, 1), affine(0, 65_535), affine(65_535, 65_535)], [3 * 65_536 + 1, 65_535, u32::MAX]);
+}
+
+#[test]
 fn the_header_has_the_same_sizes() {
     for (name, size) in [
         ("NUMBERS_WORDS", NUMBERS_WORDS),
@@ -82,6 +93,7 @@ fn the_header_has_the_same_sizes() {
         ("MAX_SPLITTERS", MAX_SPLITTERS),
         ("MAX_WORKERS", MAX_WORKERS),
         ("MAX_FRAMES", MAX_FRAMES),
+        ("REDUCERS", REDUCERS),
         ("RECORD_BYTES", Step::RECORD_BYTES),
         ("BLOCK_BYTES", BLOCK_BYTES),
         ("BLOCK_WORDS", BLOCK_WORDS),
@@ -115,6 +127,8 @@ fn the_state_is_laid_out_as_in_c() {
 fn a_record_is_little_endian() {
     let step = Step::Write { worker: 7, splitter: 0x0102, value: 0x0304_0506 };
     assert_eq!(step.to_bytes(), [6, 7, 2, 1, 6, 5, 4, 3]);
+    let step = Step::Fold { worker: 7, reducer: Reducer::Affine, value: affine(0x0304, 0x0506) };
+    assert_eq!(step.to_bytes(), [7, 7, 2, 0, 6, 5, 4, 3]);
 }
 
 #[test]
@@ -124,7 +138,7 @@ fn sizes_of_trees() {
 
 #[test]
 fn sizes_of_images() {
-    assert_eq!(image_bytes(u32::MAX), 69_260_579_328);
+    assert_eq!(image_bytes(u32::MAX), 69_260_580_352);
     for nodes in 0..=MAX_NODES {
         assert_eq!(image_bytes(nodes as u32), image_array_bytes(nodes) as u64);
     }
@@ -170,6 +184,9 @@ fn the_example_step_by_step() {
     });
 }
 
+/// What a run has folded so far that came to an end.
+const NOTHING: Totals = Totals { sum: 0, min: NONE, multiplier: 1, addend: 0 };
+
 /// What the state tells of document 01's example: live frames, lengths of the deques, depths of the bottom frames.
 #[test]
 fn the_example_as_queries_see_it() {
@@ -190,6 +207,7 @@ fn the_example_as_queries_see_it() {
             let state = &engine.state;
             assert_eq!((state.workers(), state.splitters(), state.nodes()), (2, 5, 20));
             assert_eq!((state.live_frames(), state.main_returned()), (live, live == 0));
+            assert_eq!(state.totals(), (live == 0).then_some(NOTHING));
             assert_eq!([0, 1].map(|worker| state.deque_length(worker)), lengths);
             assert_eq!([0, 1].map(|worker| state.bottom_depth(worker)), depths);
             assert_eq!((state.deque_length(2), state.bottom_depth(255)), (0, None));
@@ -217,9 +235,12 @@ fn free_nodes_without_a_write() {
 #[test]
 fn queries_take_any_words() {
     assert_eq!((State::ZERO.live_frames(), State::ZERO.bottom_depth(0), State::ZERO.main_returned()), (0, None, false));
+    assert_eq!(State::ZERO.totals(), None);
     for word in [1, 7, 63, 64, 65, 519, 1 << 31, u32::MAX] {
-        let state = State { numbers: [word; 5], deques: [word; DEQUES_WORDS], frames: [word; FRAMES_WORDS] };
+        let state =
+            State { numbers: [word; NUMBERS_WORDS], deques: [word; DEQUES_WORDS], frames: [word; FRAMES_WORDS] };
         assert_eq!((state.workers(), state.live_frames(), state.main_returned()), (word, MAX_FRAMES, false));
+        assert_eq!(state.totals(), None);
         for worker in 0..=u8::MAX {
             let exists = usize::from(worker) < MAX_WORKERS;
             assert_eq!(state.deque_length(worker), if exists { MAX_FRAMES.min(word as usize) } else { 0 });
@@ -343,40 +364,101 @@ fn blocks(words: &[u32]) -> Vec<u8> {
     image
 }
 
-/// The run as an image with this first word and so many words to a frame record.
-fn image_of(engine: &Engine, first: u32, frame_words: usize) -> Vec<u8> {
-    let mut words = [&engine.state.numbers[..], &engine.state.deques].concat();
+/// The run as an image with this first word, so many numbers, and so many words to a frame record.
+fn image_of(engine: &Engine, first: u32, numbers: usize, frame_words: usize) -> Vec<u8> {
+    let mut words = [&engine.state.numbers[..numbers], &engine.state.deques].concat();
     words[0] = first;
     words.extend(engine.state.frames.chunks(FRAME_RECORD_WORDS).flat_map(|record| &record[..frame_words]));
     words.extend(&*engine.pool);
     blocks(&words)
 }
 
-/// Document 02's R-3: a save adds 256 to the first word; an image from before has six words to a record.
+/// Document 02's R-5: a save adds 512 to the first word, and a reading takes no other form: not those from
+/// before, with five numbers and six or seven words to a frame record.
 #[test]
-fn both_forms_of_an_image() {
+fn the_form_of_an_image() {
     with_example(|engine| {
         let mut image = [0; image_array_bytes(20)];
         for (step, answer) in EXAMPLE {
             assert_eq!(engine.step(step), answer);
             engine.save(&mut image).expect("room for the image");
-            assert_eq!(image[..], image_of(engine, IMAGE_VERSION + 2, FRAME_RECORD_WORDS));
-            let (state, pool, older) =
-                (engine.state.clone(), engine.pool.to_vec(), image_of(engine, 2, FRAME_RECORD_WORDS - 1));
-            assert!(older.len() < image.len());
+            assert_eq!(image[..], image_of(engine, IMAGE_VERSION + 2, NUMBERS_WORDS, FRAME_RECORD_WORDS));
+            let (state, pool) = (engine.state.clone(), engine.pool.to_vec());
             engine.pool.fill(7);
-            engine.load(&older).expect("an image from before");
+            engine.load(&image).expect("an image as it was saved");
             assert!(*engine.state == state && engine.pool == pool);
         }
+        let whole = (NUMBERS_WORDS, FRAME_RECORD_WORDS);
         let wrong = [
-            (512 + 2, FRAME_RECORD_WORDS),
-            (u32::MAX, FRAME_RECORD_WORDS),
-            (2, FRAME_RECORD_WORDS),
-            (256 + 2, FRAME_RECORD_WORDS - 1),
+            (2, (5, 6)),
+            (256 + 2, (5, 7)),
+            (2, whole),
+            (256 + 2, whole),
+            (768 + 2, whole),
+            (u32::MAX, whole),
+            (IMAGE_VERSION + 2, (5, 7)),
         ];
-        for image in wrong.map(|(first, frame_words)| image_of(engine, first, frame_words)) {
+        for image in wrong.map(|(first, (numbers, frame_words))| image_of(engine, first, numbers, frame_words)) {
             assert_eq!(engine.load(&image), Err(Refusal::BadBlocks));
         }
+    });
+}
+
+/// Takes a digit into all reducers: the affine map multiplies by ten and adds it, so that the addend shows the
+/// order.
+fn digit(engine: &mut Engine, worker: u8, digit: u16) {
+    let folds = [(Reducer::Sum, digit.into()), (Reducer::Min, digit.into()), (Reducer::Affine, affine(10, digit))];
+    for (reducer, value) in folds {
+        assert_eq!(engine.fold(worker, reducer, value), Ok(()));
+    }
+}
+
+/// Document 02's R-5: Main folds 1, 3, 5 and 7, its children between them 2, 4 and 6; Main waits, and they run
+/// on workers 0 to 2.
+fn three_siblings(engine: &mut Engine) {
+    for (worker, odd) in [(0, 1), (1, 3), (2, 5)] {
+        digit(engine, worker, odd);
+        engine.spawn(worker).expect("a place is free");
+        engine.steal(worker + 1, worker.into()).expect("a deque of two");
+    }
+    digit(engine, 3, 7);
+    assert_eq!(engine.ret(3), Ok(Returned::Waits));
+    assert_eq!([0, 1, 2, 3].map(|place| engine.state.frames[FRAME_RECORD_WORDS * place + 11]), [NONE, 2, 3, NONE]);
+}
+
+/// In whatever order the children end, also if the run is saved and read back in between.
+#[test]
+fn totals_do_not_depend_on_who_ends_first() {
+    with_workers(|engine| {
+        let mut image = [0; image_array_bytes(40)];
+        for order in [[0, 1, 2], [0, 2, 1], [1, 0, 2], [1, 2, 0], [2, 0, 1], [2, 1, 0]] {
+            engine.start(4, &[10, 20, 30, 40, 50]).expect("at least T(5) nodes");
+            three_siblings(engine);
+            for worker in order {
+                assert_eq!(engine.state.totals(), None);
+                digit(engine, worker, 2 + 2 * u16::from(worker));
+                engine.ret(worker).expect("a frame without a child");
+                engine.save(&mut image).expect("room for the image");
+                engine.pool.fill(7);
+                engine.load(&image).expect("an image as it was saved");
+            }
+            let totals = Totals { sum: 28, min: 1, multiplier: 10_000_000, addend: 1_234_567 };
+            assert_eq!(engine.state.totals(), Some(totals));
+        }
+    });
+}
+
+#[test]
+fn a_fold_into_no_reducer_is_refused() {
+    with_example(|engine| {
+        for reducer in [3, 4, 65_535] {
+            let mut words = [7; 2];
+            let [low, high] = u16::to_le_bytes(reducer);
+            engine.tape(&[7, 0, low, high, 1, 0, 0, 0], &mut words).expect("a whole record");
+            assert_eq!((words, answer(words)), ([20, 0], Err(Refusal::UnknownReducer)));
+        }
+        assert_eq!(engine.fold(1, Reducer::Sum, 1), Err(Refusal::WorkerHasNoFrame));
+        assert_eq!(engine.fold(2, Reducer::Sum, 1), Err(Refusal::UnknownWorker));
     });
 }
 
@@ -393,7 +475,9 @@ fn what_refused_saves_and_readings_leave() {
         image[600] ^= 64;
         assert_eq!(engine.load(&image), Err(Refusal::BadCheck));
         assert!(*engine.state == State::ZERO && engine.pool == pool);
-        assert_eq!(engine.load(&[0; image_array_bytes(0)]), Err(Refusal::Unsound));
+        let mut words = [0; NUMBERS_WORDS + DEQUES_WORDS + FRAMES_WORDS];
+        words[0] = IMAGE_VERSION;
+        assert_eq!(engine.load(&blocks(&words)), Err(Refusal::Unsound));
         assert!(*engine.state == State::ZERO && engine.pool.iter().all(|word| *word == 0));
     });
 }

@@ -1,6 +1,8 @@
-//! The search for a block layout, as in `host/c/layout.c`: a branch for each choice of a spare.
+//! The search for a block layout, as in `host/c/layout.c`: a branch for each choice of a spare. The costs of
+//! the layouts are folded: their sum, the least of them, and a digest of them in the order of a search by one
+//! worker.
 
-use splitter::{tree_nodes, Engine, Refusal, Returned, State, Synced, NODE_WORDS};
+use splitter::{affine, tree_nodes, Engine, Reducer, Refusal, Returned, State, Synced, Totals, NODE_WORDS};
 
 pub const BLOCKS: u16 = 16;
 const FIRST_SPARE: u16 = 12;
@@ -14,6 +16,10 @@ const SPARE: u32 = 2;
 const STANDS_FOR: u32 = 100;
 
 pub const FACTORY_MARKS: [u32; BLOCKS as usize] = [0, 0, 0, BAD, 0, 0, 0, 0, 0, BAD, 0, 0, SPARE, SPARE, SPARE, SPARE];
+
+/// The map of the digest multiplies by this and adds the cost: its total tells the order of the costs in a
+/// search by one worker.
+const DIGEST: u16 = 31;
 
 /// Memory to lend, for some number of nodes.
 pub struct Memory {
@@ -104,6 +110,11 @@ pub struct Search<'a> {
 /// Stands for the controller's own test.
 fn passes_erase_test(block: u16) -> bool {
     block != 13
+}
+
+/// The totals as a line of splitrun has them.
+pub fn print_totals(totals: Totals) {
+    println!("reduced {} {} {} {}", totals.sum, totals.min, totals.multiplier, totals.addend);
 }
 
 impl<'a> Search<'a> {
@@ -230,11 +241,14 @@ impl<'a> Search<'a> {
         Ok(())
     }
 
-    /// What was found.
+    /// What was found, and what was folded.
     pub fn tell_result(&self, nodes: usize, workers: u8) {
         let Search { least_free, waits, given_up, layouts, .. } = self;
         print!("nodes {nodes}, workers {workers}: least free {least_free}, waits {waits}, ");
         println!("given up {given_up}, layouts {layouts}, best {}", self.best());
+        let totals = self.engine.state.totals().expect("Main has returned");
+        assert_eq!(totals.min, self.best.map_or(u32::MAX, |(_, cost)| cost));
+        print_totals(totals);
     }
 
     /// One turn of a worker; true if it got something done.
@@ -363,6 +377,7 @@ impl<'a> Search<'a> {
                 cost += moved * moved;
             }
         }
+        self.fold(worker, cost)?;
         self.layouts += 1;
         if self.best.is_none_or(|(_, least)| cost < least) {
             self.best = Some((branch, cost));
@@ -370,6 +385,13 @@ impl<'a> Search<'a> {
         self.branches[branch].stage = Stage::End;
         self.tell(worker, branch, &format!("a layout, cost {cost}"));
         Ok(())
+    }
+
+    /// Takes a cost into the reducers. Which worker does so, and when, makes no difference to the totals.
+    fn fold(&mut self, worker: u8, cost: u32) -> Result<(), Refusal> {
+        self.engine.fold(worker, Reducer::Sum, cost)?;
+        self.engine.fold(worker, Reducer::Min, cost)?;
+        self.engine.fold(worker, Reducer::Affine, affine(DIGEST, cost as u16))
     }
 
     fn end(&mut self, worker: u8, branch: usize) -> Result<(), Refusal> {

@@ -1,6 +1,6 @@
 //! A tape, and each refusal once.
 
-use crate::layout::{Memory, BLOCKS, FACTORY_MARKS};
+use crate::layout::{print_totals, Memory, BLOCKS, FACTORY_MARKS};
 use splitter::{answer, answers, image_bytes, raw, tree_nodes, Engine, Refusal, Returned, State, Step, NODE_WORDS};
 use std::error::Error;
 use std::fmt::Debug;
@@ -34,6 +34,7 @@ pub fn tape() -> Outcome {
             Err(refusal) => println!("{} 0  {refusal}", refusal.number()),
         }
     }
+    print_totals(engine.state.totals().ok_or("surprise: Main has not returned")?);
     Ok(())
 }
 
@@ -92,7 +93,9 @@ fn refused_images(memory: &mut Memory) -> Outcome {
     image[0] ^= 1;
     image[1] += 1;
     show(engine.load(&image), Refusal::BadBlocks, "an image of a later form")?;
-    image[1] -= 1;
+    image[1] -= 2;
+    show(engine.load(&image), Refusal::BadBlocks, "an image of the form before")?;
+    image[1] += 1;
     let Memory { state, pool, work } = memory;
     let short = pool.len() - NODE_WORDS;
     let mut engine = Engine { state, pool: &mut pool[..short], work };
@@ -110,7 +113,9 @@ fn refused_steps(engine: &mut Engine) -> Outcome {
     show(answer(words), Refusal::BadRecord, "a record of kind 9")?;
     show(engine.spawn(2), Refusal::UnknownWorker, "worker 2 of 2 spawns")?;
     show(engine.sync(1), Refusal::WorkerHasNoFrame, "worker 1 syncs")?;
-    show(engine.read(0, BLOCKS), Refusal::UnknownSplitter, "worker 0 reads block 16")
+    show(engine.read(0, BLOCKS), Refusal::UnknownSplitter, "worker 0 reads block 16")?;
+    engine.tape(&[7, 0, 3, 0, 1, 0, 0, 0], &mut words)?; // no Step names such a reducer
+    show(answer(words), Refusal::UnknownReducer, "worker 0 folds into reducer 3")
 }
 
 fn refused_steals(engine: &mut Engine) -> Outcome {

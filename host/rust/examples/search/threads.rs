@@ -1,8 +1,8 @@
 //! The search on threads, one for each worker, with a lock around each turn, and with turns in any order:
-//! however they interleave, the same layout is the best.
+//! however they interleave, the same layout is the best, and the totals of the costs are the same.
 
 use crate::layout::{Memory, Search, Syncs, MAX_WORKERS, SYNCS};
-use splitter::FRAME_RECORD_WORDS;
+use splitter::{Totals, FRAME_RECORD_WORDS};
 use std::sync::Mutex;
 use std::thread;
 
@@ -21,8 +21,12 @@ fn work(search: &Mutex<Search>, worker: u8) {
     }
 }
 
+/// Of the costs 106, 117, 130, 157, 153 and 169, in this order; the digest is theirs to the base 31.
+const TOTALS: Totals = Totals { sum: 832, min: 106, multiplier: 887_503_681, addend: 3_146_770_582 };
+
 /// What each search must find.
 fn check_found(search: &Search) {
+    assert_eq!(search.engine.state.totals(), Some(TOTALS));
     assert_eq!(search.best(), "3>12 9>14, cost 106");
     assert_eq!((search.layouts, search.waits, search.given_up), (6, 0, 0));
 }
