@@ -8,9 +8,11 @@ use std::{env, fs};
 include!("faults.rs");
 
 /// The copying program's files: each uses only those before it.
-const FILES: [&str; 6] = [
+const FILES: [&str; 8] = [
     "refusal.rs",
     "shape.rs",
+    "name.rs",
+    "reducer.rs",
     "record.rs",
     "history.rs",
     "machine.rs",

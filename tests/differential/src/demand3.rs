@@ -1,22 +1,21 @@
 //! Demand 3 seen from outside: a run in which Main has returned, and its
-//! one-worker run ("A run and its one-worker run").
+//! one-worker run ("A run and its one-worker run"). R-5's totals too.
 
 use crate::machine::{Counting, FrameId, Machine, MAIN};
+use crate::name::{self, Name};
+use crate::orders::{self, Event, Rule, Words};
 use crate::record::{self, Step};
 use crate::splitrun::{Input, MAX_TAPE_BYTES};
 use std::collections::BTreeMap;
-
-/// "Main's name is the empty chain. The child made by a frame's k-th accepted
-/// spawn, k counted from 1, has its parent's name with k after it."
-pub type Name = Vec<usize>;
 
 /// "What a frame has read", by the frame's name.
 type Reads = BTreeMap<Name, Vec<u32>>;
 
 /// One of a frame's steps, with the child that a spawn made.
-struct FrameStep {
-    step: Step,
-    child: Option<FrameId>,
+#[derive(Clone, Copy)]
+pub struct FrameStep {
+    pub step: Step,
+    pub child: Option<FrameId>,
 }
 
 #[derive(Default)]
@@ -32,8 +31,11 @@ struct FrameLog {
 /// What was seen of one run: a log for each frame it made.
 pub struct Run {
     logs: Vec<FrameLog>,
+    /// What happened to views.
+    events: Vec<Event>,
     refused: usize,
     free: u32,
+    reduced: Option<Words>,
 }
 
 /// "Main has returned once a return of the run was answered with outcome 3."
@@ -53,20 +55,28 @@ impl Run {
             Counting::Cached,
         )
         .map_err(|refusal| format!("the plain machine refuses the start: {refusal:?}"))?;
-        let (answers, free) = answers(output)?;
+        let printed = Printed::parse(output)?;
         let mut run = Run {
             logs: vec![FrameLog::default()],
+            events: Vec::new(),
             refused: 0,
-            free,
+            free: printed.free,
+            reduced: printed.reduced,
         };
         for (place, record) in record::records(&input.tape).enumerate() {
-            let (word, number) = *answers.get(place).ok_or("an answer is missing")?;
+            let answer = printed.answers.get(place);
+            let (word, number) = *answer.ok_or("an answer is missing")?;
             match record::decode(record) {
                 Ok(step) if word == 100 + u32::from(step.kind()) => {
                     run.log(&machine, step, number)?;
+                    let live = match step {
+                        Step::Return { .. } => machine.in_order(),
+                        _ => Vec::new(),
+                    };
                     machine
                         .step(step)
                         .map_err(|r| format!("record {place}: the plain machine says {r:?}"))?;
+                    run.log_ends(&machine, &live);
                 }
                 _ => run.refused += 1,
             }
@@ -96,6 +106,11 @@ impl Run {
         match step {
             Step::Read { .. } => log.reads.push(number),
             Step::Return { .. } => log.returned = Some(number),
+            Step::Fold { reducer, value, .. } => self.events.push(Event::Fold {
+                frame: bottom,
+                reducer,
+                value,
+            }),
             _ => {}
         }
         Ok(())
@@ -103,15 +118,23 @@ impl Run {
 
     fn name_child(&mut self, parent: FrameId, child: FrameId) -> FrameId {
         assert_eq!(child, self.logs.len(), "frames are logged as they are made");
+        self.events.push(Event::Spawn { parent, child });
         let parent = &mut self.logs[parent];
         parent.spawns += 1;
-        let mut name = parent.name.clone();
-        name.push(parent.spawns);
+        let name = name::of_child(&parent.name, parent.spawns);
         self.logs.push(FrameLog {
             name,
             ..FrameLog::default()
         });
         child
+    }
+
+    /// Of the frames that were live before, those that are not any more: a
+    /// child before its parent.
+    fn log_ends(&mut self, machine: &Machine, before: &[FrameId]) {
+        let ended = before.iter().filter(|frame| !machine.is_live(**frame));
+        let ends = ended.map(|frame| Event::End { frame: *frame });
+        self.events.extend(ends);
     }
 
     /// "A frame's child-first list is its steps in order, each spawn followed
@@ -144,6 +167,39 @@ impl Run {
         })
     }
 
+    /// The steps of a frame, by its place among the frames made.
+    pub fn steps(&self, frame: FrameId) -> &[FrameStep] {
+        &self.logs[frame].steps
+    }
+
+    pub fn events(&self) -> &[Event] {
+        &self.events
+    }
+
+    pub fn reduced(&self) -> Option<Words> {
+        self.reduced
+    }
+
+    /// "Each total is the identity joined with the values folded into its
+    /// reducer, in the order of Main's child-first list." The affine map is
+    /// known by what it makes of 0 and of 1.
+    pub fn folded_child_first(&self) -> Words {
+        let (mut sum, mut minimum) = (0, 4_294_967_295);
+        let mut made = [0, 1];
+        for step in self.child_first(MAIN) {
+            let Step::Fold { reducer, value, .. } = step else {
+                continue;
+            };
+            match reducer {
+                0 => sum = orders::multiply_add(1, sum, value),
+                1 => minimum = value.min(minimum),
+                _ => made = made.map(|x| orders::multiply_add(value / 65_536, x, value % 65_536)),
+            }
+        }
+        let [of_0, of_1] = made;
+        [sum, minimum, of_1.wrapping_sub(of_0), of_0]
+    }
+
     /// The frames whose return waited for a child.
     pub fn waited(&self) -> usize {
         let logs = self.logs.iter();
@@ -168,6 +224,7 @@ pub fn check(nodes: u32, run: &Run, one_worker: &Run) -> Result<(), String> {
     }
     check_reads(&run.reads(), &one_worker.reads())?;
     check_returns(run, one_worker)?;
+    check_totals(run, one_worker)?;
     if run.free != nodes || one_worker.free != nodes {
         return Err(format!(
             "of {nodes} nodes, {} are free after the run and {} after its one-worker run",
@@ -196,6 +253,47 @@ fn check_reads(run: &Reads, one_worker: &Reads) -> Result<(), String> {
     Ok(())
 }
 
+/// R-5: "Once Main has returned, each total is the identity joined with the
+/// values folded into its reducer, in the order of Main's child-first list, as
+/// in the one-worker run." And as the views give it that a family tree has.
+fn check_totals(run: &Run, one_worker: &Run) -> Result<(), String> {
+    let expected = Some(run.folded_child_first());
+    let ways = [
+        (run.reduced, "the run"),
+        (one_worker.reduced, "its one-worker run"),
+        (orders::totals(&run.events, Rule::Right), "the family tree"),
+        (
+            orders::totals(&one_worker.events, Rule::Right),
+            "the family tree of the one-worker run",
+        ),
+    ];
+    for (totals, whose) in ways {
+        if totals != expected {
+            return Err(format!(
+                "{whose} has the totals {totals:?}, the child-first list {expected:?}"
+            ));
+        }
+    }
+    Ok(())
+}
+
+/// The same frames' steps under another schedule: the frames have the same
+/// names and have read the same, the totals are the same, and every node is
+/// free.
+pub fn check_rescheduled(nodes: u32, run: &Run, other: &Run) -> Result<(), String> {
+    check_reads(&run.reads(), &other.reads())?;
+    if other.free != nodes {
+        return Err(format!("of {nodes} nodes, {} are free", other.free));
+    }
+    if other.reduced != run.reduced || other.reduced.is_none() {
+        return Err(format!(
+            "the totals are {:?}, under the first schedule {:?}",
+            other.reduced, run.reduced
+        ));
+    }
+    Ok(())
+}
+
 /// Main has returned only after every other frame has. In the one-worker run
 /// a return finds no live child (R-3): Main's is outcome 3, the others' 0.
 fn check_returns(run: &Run, one_worker: &Run) -> Result<(), String> {
@@ -216,21 +314,48 @@ fn check_returns(run: &Run, one_worker: &Run) -> Result<(), String> {
     Ok(())
 }
 
-/// The two answer words of each record, and the number of the `free` line.
-fn answers(output: &str) -> Result<(Vec<(u32, u32)>, u32), String> {
-    let lines: Vec<&str> = output.lines().collect();
-    let [_first, records @ .., last] = lines.as_slice() else {
-        return Err("fewer than two lines".to_string());
-    };
-    let answers = records.iter().map(|line| answer(line)).collect();
-    let free = last.strip_prefix("free ").and_then(|n| n.parse().ok());
-    let bad_line = || "a line that is not an answer".to_string();
-    Option::zip(answers, free).ok_or_else(bad_line)
+/// What a run that is not refused whole printed after its first line.
+struct Printed {
+    /// The two answer words of each record.
+    answers: Vec<(u32, u32)>,
+    free: u32,
+    reduced: Option<Words>,
+}
+
+impl Printed {
+    fn parse(output: &str) -> Result<Printed, String> {
+        let lines: Vec<&str> = output.lines().collect();
+        let (lines, reduced) = match lines.as_slice() {
+            [before @ .., last] if last.starts_with("reduced") => (before, Some(*last)),
+            all => (all, None),
+        };
+        let [_first, records @ .., free] = lines else {
+            return Err("fewer than two lines".to_string());
+        };
+        let bad_line = || "a line that is not an answer".to_string();
+        let answers: Option<Vec<_>> = records.iter().map(|line| answer(line)).collect();
+        let free = free.strip_prefix("free ").and_then(|n| n.parse().ok());
+        Ok(Printed {
+            answers: answers.ok_or_else(bad_line)?,
+            free: free.ok_or_else(bad_line)?,
+            reduced: match reduced {
+                Some(line) => Some(totals(line).ok_or_else(bad_line)?),
+                None => None,
+            },
+        })
+    }
 }
 
 fn answer(line: &str) -> Option<(u32, u32)> {
     let (word, number) = line.split_once(' ')?;
     Some((word.parse().ok()?, number.parse().ok()?))
+}
+
+/// The words of the line `reduced`.
+fn totals(line: &str) -> Option<Words> {
+    let numbers = line.strip_prefix("reduced ")?.split(' ');
+    let words: Option<Vec<u32>> = numbers.map(|number| number.parse().ok()).collect();
+    words?.try_into().ok()
 }
 
 #[cfg(test)]
@@ -290,7 +415,8 @@ mod tests {
         let one_worker = run.one_worker_input(&input).expect("a short tape");
         assert_eq!(
             splitrun::output(&one_worker.to_bytes(), Counting::Recounted),
-            "1 5 20\n101 1\n105 50\n102 0\n106 9\n104 0\n105 99\n102 3\nfree 20\n"
+            "1 5 20\n101 1\n105 50\n102 0\n106 9\n104 0\n105 99\n102 3\nfree 20\n\
+             reduced 0 4294967295 1 0\n"
         );
         assert_eq!(check_changed("", ""), Ok(()));
     }
@@ -303,6 +429,8 @@ mod tests {
         assert!(refused.starts_with("1 steps"), "{refused}");
         let lost = check_changed("free 20", "free 19").expect_err("a lost node");
         assert!(lost.starts_with("of 20 nodes"), "{lost}");
+        let totals = check_changed(" 1 0\n", " 1 1\n").expect_err("other totals");
+        assert!(totals.starts_with("its one-worker run has"), "{totals}");
     }
 
     /// Returns that wait are last steps, and no return waits with one worker.
@@ -314,7 +442,8 @@ mod tests {
         let one_worker = run.one_worker_input(&input).expect("a short tape");
         assert_eq!(
             splitrun::output(&one_worker.to_bytes(), Counting::Recounted),
-            "1 5 20\n101 1\n101 2\n102 0\n102 0\n101 1\n101 2\n102 0\n102 0\n102 3\nfree 20\n"
+            "1 5 20\n101 1\n101 2\n102 0\n102 0\n101 1\n101 2\n102 0\n102 0\n102 3\nfree 20\n\
+             reduced 0 4294967295 1 0\n"
         );
         assert_eq!(check_changed_in(waiting_example(), "", ""), Ok(()));
         let waits = check_changed_in(waiting_example(), "102 0", "102 4");

@@ -1,8 +1,9 @@
-//! The edges of document 01, as of document 02 change them,
+//! The edges of document 01, as of document 02 change them,
 //! starred or not, and the edges of its refusals and lines. Every expected
 //! line is written by hand from the documents.
 
 mod lengths;
+mod reducers;
 mod shared;
 mod waiting;
 
@@ -34,6 +35,7 @@ pub fn all() -> Vec<Edge> {
     edges.extend(pools());
     edges.extend(shared::shared());
     edges.extend(waiting::waiting());
+    edges.extend(reducers::reducers());
     edges
 }
 
@@ -42,6 +44,7 @@ pub fn all() -> Vec<Edge> {
 pub fn in_pieces() -> Vec<Edge> {
     let mut edges = starred();
     edges.extend(lengths::telling_ends());
+    edges.extend(reducers::in_pieces());
     edges
 }
 
@@ -80,6 +83,15 @@ fn write(worker: u8, splitter: u16, value: u32) -> Record {
     .encode()
 }
 
+fn fold(worker: u8, reducer: u16, value: u32) -> Record {
+    Step::Fold {
+        worker,
+        reducer,
+        value,
+    }
+    .encode()
+}
+
 fn edge(name: impl Into<String>, input: Vec<u8>, lines: &[&str]) -> Edge {
     let expected = lines.iter().map(|line| format!("{line}\n")).collect();
     Edge {
@@ -99,19 +111,37 @@ fn bytes(workers: u16, nodes: u32, values: &[u32], tape: &[u8]) -> Vec<u8> {
     input.to_bytes()
 }
 
-/// A run that is not refused whole: its first line, its answered records and
-/// its last line.
+/// what a run that folds nothing prints last, once Main has returned.
+const IDENTITIES: &str = "reduced 0 4294967295 1 0";
+
+/// A run that folds nothing and is not refused whole: its first line, its
+/// answered records and `free`. If Main has returned, the identities follow.
 fn run(
+    name: impl Into<String>,
+    start: (u16, u32, &[u32]),
+    first: &str,
+    answered: &[Answered],
+    free: &str,
+) -> Edge {
+    let returned = answered.iter().any(|(_, line)| *line == "102 3");
+    let last = [free, IDENTITIES];
+    let last = if returned { &last[..] } else { &last[..1] };
+    run_to(name, start, first, answered, last)
+}
+
+/// A run that is not refused whole: its first line, its answered records and
+/// its last lines.
+fn run_to(
     name: impl Into<String>,
     (workers, nodes, values): (u16, u32, &[u32]),
     first: &str,
     answered: &[Answered],
-    last: &str,
+    last: &[&str],
 ) -> Edge {
     let tape: Vec<u8> = answered.iter().flat_map(|(record, _)| *record).collect();
     let mut lines = vec![first];
     lines.extend(answered.iter().map(|(_, line)| *line));
-    lines.push(last);
+    lines.extend(last);
     edge(name, bytes(workers, nodes, values, &tape), &lines)
 }
 
@@ -532,7 +562,7 @@ fn unused_field(kind: &str, place: usize, spoilt: Record) -> Edge {
 }
 
 fn bad_kinds() -> Vec<Edge> {
-    [0, 7, 8, 101, 106, 129, 255]
+    [0, 8, 9, 101, 106, 107, 129, 135, 255]
         .into_iter()
         .map(|kind| {
             run(
@@ -672,7 +702,7 @@ fn checking_order() -> Vec<Edge> {
             "1 5 20",
             &[
                 (ret(0), "102 3"),
-                ([7, 0, 0, 0, 0, 0, 0, 0], "7 0"),
+                ([8, 0, 0, 0, 0, 0, 0, 0], "7 0"),
                 ([2, 0, 0, 0, 1, 0, 0, 0], "7 0"),
                 (ret(1), "8 0"),
                 (steal(1, 0), "8 0"),

@@ -22,9 +22,10 @@ pub fn input(seed: u64) -> Vec<u8> {
         6..=11 => refused_whole(&mut random),
         12..=13 => longest(&mut random),
         14..=19 => run(&mut random, Ending::Unfinished).to_bytes(),
-        20..=41 => run(&mut random, Ending::Home).to_bytes(),
-        42..=57 => waiting(&mut random).to_bytes(),
-        58..=82 => aimed(&mut random).to_bytes(),
+        20..=28 => run(&mut random, Ending::Home).to_bytes(),
+        29..=42 => waiting(&mut random).to_bytes(),
+        43..=64 => aimed(&mut random).to_bytes(),
+        65..=93 => families(&mut random).to_bytes(),
         _ => run(&mut random, Ending::PastHome).to_bytes(),
     }
 }
@@ -193,13 +194,14 @@ fn pool_nodes(random: &mut Random, splitters: usize) -> u32 {
     nodes.min(most) as u32
 }
 
-/// The weights of spawn, return, steal, sync, read and write.
-const MIXTURES: [[usize; 6]; 5] = [
-    [20, 15, 20, 10, 20, 20], // even
-    [60, 5, 10, 2, 8, 10],    // deep
-    [30, 10, 60, 15, 15, 20], // wide
-    [10, 10, 20, 5, 15, 60],  // writing
-    [12, 25, 25, 25, 30, 15], // syncing
+/// The weights of spawn, return, steal, sync, read, write and fold.
+const MIXTURES: [[usize; 7]; 6] = [
+    [20, 15, 20, 10, 20, 20, 20], // even
+    [60, 5, 10, 2, 8, 10, 20],    // deep
+    [30, 10, 60, 15, 15, 20, 20], // wide
+    [10, 10, 20, 5, 15, 60, 10],  // writing
+    [12, 25, 25, 25, 30, 15, 20], // syncing
+    [25, 15, 60, 5, 2, 3, 60],    // folding
 ];
 
 /// Steps of the tape's body.
@@ -247,6 +249,28 @@ fn waiting(random: &mut Random) -> Input {
     })
 }
 
+/// A run aimed at R-5's cases: frames with several live children, which fold
+/// and end in any order, by three workers or more.
+fn families(random: &mut Random) -> Input {
+    let splitters = random.pick(&[1, 2, 5, 9]);
+    let nodes = pool_nodes(random, splitters);
+    let ending = random.pick(&[
+        Ending::Unfinished,
+        Ending::Home,
+        Ending::Home,
+        Ending::Home,
+        Ending::Home,
+        Ending::PastHome,
+    ]);
+    let workers = random.between(3, 8);
+    run_by(random, workers, splitters, nodes, |writer| {
+        for _ in 0..writer.random.between(1, 6) {
+            writer.family();
+        }
+        writer.finish(ending);
+    })
+}
+
 /// A run whose writes are aimed at R-2's cases, in a pool that holds the tree
 /// and a few paths.
 fn aimed(random: &mut Random) -> Input {
@@ -276,6 +300,17 @@ fn run_with(
     write: impl FnOnce(&mut TapeWriter),
 ) -> Input {
     let workers = random.between(1, 8);
+    run_by(random, workers, splitters, nodes, write)
+}
+
+/// A run with so many workers, splitters and nodes.
+fn run_by(
+    random: &mut Random,
+    workers: usize,
+    splitters: usize,
+    nodes: u32,
+    write: impl FnOnce(&mut TapeWriter),
+) -> Input {
     let values = initial_values(random, splitters);
     let machine = Machine::start(workers, nodes as usize, &values, Counting::Cached)
         .expect("a start that is not refused");
@@ -295,7 +330,7 @@ struct TapeWriter<'a> {
     tape: Vec<u8>,
     /// Splitters that most reads and writes go to.
     favourites: Vec<u16>,
-    weights: [usize; 6],
+    weights: [usize; 7],
     small_values: bool,
     /// Of 100 records of the body, those that are not meant to be accepted.
     strays: usize,
@@ -387,7 +422,7 @@ impl<'a> TapeWriter<'a> {
     }
 
     fn step_aside(&mut self) -> Step {
-        let kind = self.random.pick(&[3, 4, 5, 5, 6]);
+        let kind = self.random.pick(&[3, 4, 5, 6, 7, 7]);
         self.step_of_kind(kind).unwrap_or_else(|| self.step_home())
     }
 
@@ -415,7 +450,8 @@ impl<'a> TapeWriter<'a> {
             3 => return self.accepted_steal(),
             4 => Step::Sync { worker },
             5 => self.read(worker),
-            _ => self.write(worker),
+            6 => self.write(worker),
+            _ => self.fold(worker),
         };
         let wanted = match self.machine.check(step) {
             Err(Refusal::TooFewNodes) => self.random.percent(40),
@@ -477,6 +513,86 @@ impl<'a> TapeWriter<'a> {
         }
     }
 
+    fn fold(&mut self, worker: u8) -> Step {
+        let reducer = self.random.pick(&[0, 1, 2, 2, 2]);
+        let value = self.folded_value(reducer);
+        Step::Fold {
+            worker,
+            reducer,
+            value,
+        }
+    }
+
+    /// A map that multiplies by an even number loses what was before it, bit
+    /// by bit, so most multipliers are odd.
+    fn folded_value(&mut self, reducer: u16) -> u32 {
+        let word = self.random.word();
+        match (reducer, self.random.below(20)) {
+            (2, 0) => word % 65_536,
+            (2, 1) => 65_536 + word % 65_536,
+            (2, 2) => word,
+            (2, _) => word | 65_536,
+            (_, 0) => 0,
+            (_, 1) => u32::MAX,
+            _ => word >> self.random.below(32),
+        }
+    }
+
+    /// A frame with several children, each on a worker of its own: an idle
+    /// worker steals the frame, spawns, and so on. Then steps of all of them.
+    fn family(&mut self) {
+        let mut worker = self.busy_worker();
+        for _ in 0..self.random.between(3, 8) {
+            self.fold_often(worker);
+            self.accepted(Step::Spawn { worker });
+            let thieves = (0..self.machine.workers() as u8).map(|thief| Step::Steal {
+                worker: thief,
+                victim: worker.into(),
+            });
+            let Some(steal) = thieves
+                .into_iter()
+                .find(|steal| self.machine.check(*steal).is_ok())
+            else {
+                break;
+            };
+            self.push(steal.encode());
+            worker = steal.worker();
+        }
+        for _ in 0..self.random.between(5, 40) {
+            self.step_of_a_family();
+        }
+    }
+
+    fn fold_often(&mut self, worker: u8) {
+        while self.random.percent(60) {
+            let fold = self.fold(worker);
+            self.push(fold.encode());
+        }
+    }
+
+    /// A fold, an end or a wait of a child, a further child, a steal.
+    fn step_of_a_family(&mut self) {
+        let worker = self.busy_worker();
+        match self.random.below(20) {
+            0..=8 => self.fold_often(worker),
+            9..=11 => {
+                self.end_a_child();
+            }
+            12..=13 => {
+                self.accepted(Step::Spawn { worker });
+            }
+            14 => {
+                self.accepted(Step::Sync { worker });
+            }
+            15 => self.leave_stolen(worker, 0),
+            _ => {
+                if let Some(steal) = self.accepted_steal() {
+                    self.push(steal.encode());
+                }
+            }
+        }
+    }
+
     /// Some nested frames, most of them stolen and returned while their
     /// child lives; then some ends.
     fn chain(&mut self) {
@@ -518,11 +634,12 @@ impl<'a> TapeWriter<'a> {
         }
     }
 
-    /// One time in three.
+    /// A read, a write or a fold, one time in two.
     fn read_or_write(&mut self, worker: u8) {
         let step = match self.random.below(6) {
             0 => self.read(worker),
             1 => self.write(worker),
+            2 => self.fold(worker),
             _ => return,
         };
         self.push(step.encode());
@@ -642,7 +759,7 @@ impl<'a> TapeWriter<'a> {
 
     fn bad_kind(&mut self) -> Record {
         let mut record = self.stray_step().encode();
-        record[0] = self.random.pick(&[0, 7, 8, 128 + 1, 255]);
+        record[0] = self.random.pick(&[0, 8, 9, 128 + 1, 128 + 7, 255]);
         record
     }
 
@@ -658,7 +775,7 @@ impl<'a> TapeWriter<'a> {
     }
 
     fn stray_step(&mut self) -> Step {
-        let kind = self.random.between(1, 6);
+        let kind = self.random.between(1, 7);
         let worker = self.stray_worker();
         self.stray_step_of_kind(kind, worker)
     }
@@ -676,9 +793,14 @@ impl<'a> TapeWriter<'a> {
                 worker,
                 splitter: self.stray_splitter(),
             },
-            _ => Step::Write {
+            6 => Step::Write {
                 worker,
                 splitter: self.stray_splitter(),
+                value: self.random.word(),
+            },
+            _ => Step::Fold {
+                worker,
+                reducer: self.stray_reducer(),
                 value: self.random.word(),
             },
         }
@@ -700,6 +822,15 @@ impl<'a> TapeWriter<'a> {
             self.random.pick(&[workers as u16, 8, 255, 256, u16::MAX])
         } else {
             self.random.below(workers) as u16
+        }
+    }
+
+    /// Any reducer, one time in three a number that names none.
+    fn stray_reducer(&mut self) -> u16 {
+        if self.random.percent(33) {
+            self.random.pick(&[3, 4, 255, 256, 258, u16::MAX])
+        } else {
+            self.random.below(3) as u16
         }
     }
 

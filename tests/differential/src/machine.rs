@@ -1,9 +1,12 @@
-//! Document 01's plain machine, with R-2 and R-3 of document 02: each live
+//! Document 01's plain machine, with R-2, R-3 and R-5 of document 02: each live
 //! frame has its own full list of values and its whole history, and nodes in
-//! use are counted from those.
+//! use are counted from those. Each has its name and its view of the reducers;
+//! whose view comes next is told by the names.
 
 use super::history::{self, History, WriteId};
+use super::name::{self, Name};
 use super::record::Step;
+use super::reducer::{View, REDUCERS};
 use super::refusal::Refusal;
 use super::shape;
 use std::collections::BTreeMap;
@@ -29,6 +32,10 @@ struct Frame {
     returning: bool,
     values: Vec<u32>,
     history: History,
+    name: Name,
+    /// The frame's accepted spawns so far.
+    spawns: usize,
+    view: View,
 }
 
 /// How nodes in use are counted.
@@ -48,6 +55,8 @@ pub struct Machine {
     deques: Vec<Vec<FrameId>>,
     frames_made: usize,
     writes_made: WriteId,
+    /// R-5: Main's view at its end, none while Main lives.
+    totals: Option<View>,
     counting: Counting,
 }
 
@@ -76,6 +85,10 @@ impl Machine {
             returning: false,
             values: values.to_vec(),
             history: History::of_main(splitters),
+            name: Name::new(),
+            spawns: 0,
+            // "Main begins with the identities."
+            view: View::IDENTITY,
         };
         // "At the start Main, depth 0, is alone on worker 0's deque."
         let mut deques = vec![Vec::new(); workers];
@@ -87,6 +100,7 @@ impl Machine {
             deques,
             frames_made: 1,
             writes_made: 0,
+            totals: None,
             counting,
         })
     }
@@ -98,7 +112,8 @@ impl Machine {
         Ok(self.take(step))
     }
 
-    /// Refusals 8 to 16, in checking order. 14 no longer occurs (R-3).
+    /// Refusals 8 to 16, in checking order. 14 no longer occurs (R-3), and 20
+    /// has the place of 15 (R-5).
     pub fn check(&self, step: Step) -> Result<(), Refusal> {
         let worker = usize::from(step.worker());
         if worker >= self.workers() {
@@ -117,6 +132,7 @@ impl Machine {
             Step::Spawn { .. } => self.check_spawn(),
             Step::Read { splitter, .. } => self.check_splitter(splitter),
             Step::Write { splitter, .. } => self.check_write(bottom, splitter),
+            Step::Fold { reducer, .. } => self.check_reducer(reducer),
             Step::Return { .. } | Step::Steal { .. } | Step::Sync { .. } => Ok(()),
         }
     }
@@ -155,9 +171,18 @@ impl Machine {
         Ok(())
     }
 
+    /// R-5: "20, kind 7 names no reducer".
+    fn check_reducer(&self, reducer: u16) -> Result<(), Refusal> {
+        if reducer >= REDUCERS {
+            return Err(Refusal::Reducer);
+        }
+        Ok(())
+    }
+
     /// Takes a step that passed `check` and gives the answer's number: "spawn
     /// the child's depth, steal the stolen frame's depth, return and sync the
-    /// outcome, read the value, write the free nodes left".
+    /// outcome, read the value, write the free nodes left". A fold "answers
+    /// 107 0" (R-5).
     fn take(&mut self, step: Step) -> u32 {
         let worker = usize::from(step.worker());
         match step {
@@ -169,15 +194,18 @@ impl Machine {
             Step::Write {
                 splitter, value, ..
             } => self.write(worker, usize::from(splitter), value),
+            Step::Fold { reducer, value, .. } => self.fold(worker, reducer, value),
         }
     }
 
     /// "A new frame, child of the worker's bottom frame and one deeper, goes
     /// to the bottom of the same deque." "Spawn copies the parent's list as
-    /// it is then."
+    /// it is then." R-5: "The child inherits, the continuation begins with the
+    /// identity."
     fn spawn(&mut self, worker: usize) -> u32 {
         let parent_id = self.executed(worker);
-        let parent = &self.frames[&parent_id];
+        let parent = self.frame_mut(parent_id);
+        parent.spawns += 1;
         let child = Frame {
             parent: Some(parent_id),
             depth: parent.depth + 1,
@@ -185,7 +213,11 @@ impl Machine {
             returning: false,
             values: parent.values.clone(),
             history: parent.history.clone(),
+            name: name::of_child(&parent.name, parent.spawns),
+            spawns: 0,
+            view: parent.view,
         };
+        parent.view = View::IDENTITY;
         let depth = child.depth;
         let child_id = self.frames_made;
         self.frames_made += 1;
@@ -213,7 +245,9 @@ impl Machine {
     /// A frame that is in no deque any more ends on this worker. "Return
     /// drops the child's list."
     fn end(&mut self, worker: usize, ended_id: FrameId) -> u32 {
+        let next = self.next_in_order(ended_id);
         let ended = self.frames.remove(&ended_id).expect("a live frame");
+        self.hand_on(ended.view, next);
         // "The end of Main is outcome 3."
         let Some(parent) = ended.parent else {
             return 3;
@@ -237,6 +271,31 @@ impl Machine {
         // outcome 2."
         self.resume(worker, parent);
         2
+    }
+
+    /// R-5: "The view of a frame that ends joins on the left of the next one's
+    /// in that order." Main is the last one, and no other lives then.
+    fn hand_on(&mut self, view: View, next: Option<FrameId>) {
+        match next {
+            Some(next) => {
+                let next = self.frame_mut(next);
+                next.view = view.join(next.view);
+            }
+            None => self.totals = Some(view),
+        }
+    }
+
+    /// The live frames, sorted by their names.
+    pub fn in_order(&self) -> Vec<FrameId> {
+        let mut frames: Vec<FrameId> = self.frames.keys().copied().collect();
+        frames.sort_by(|one, other| name::order(self.name(*one), self.name(*other)));
+        frames
+    }
+
+    fn next_in_order(&self, frame: FrameId) -> Option<FrameId> {
+        let frames = self.in_order();
+        let place = frames.iter().position(|other| *other == frame)?;
+        frames.get(place + 1).copied()
     }
 
     /// "Sync, steal and resumption alter none" of the lists.
@@ -279,6 +338,20 @@ impl Machine {
         frame.values[splitter] = value;
         frame.history.push(id, splitter);
         self.free_nodes() as u32
+    }
+
+    /// The value is folded into the bottom frame's view, after all that is
+    /// there.
+    fn fold(&mut self, worker: usize, reducer: u16, value: u32) -> u32 {
+        let frame_id = self.executed(worker);
+        let frame = self.frame_mut(frame_id);
+        frame.view = frame.view.join(View::of(reducer, value));
+        0
+    }
+
+    /// R-5: the four totals, "once Main has returned".
+    pub fn totals(&self) -> Option<View> {
+        self.totals
     }
 
     /// "Its free nodes are the pool's less those in use."
@@ -350,6 +423,23 @@ impl Machine {
 
     pub fn parent(&self, frame: FrameId) -> Option<FrameId> {
         self.frames[&frame].parent
+    }
+
+    pub fn name(&self, frame: FrameId) -> &Name {
+        &self.frames[&frame].name
+    }
+
+    pub fn is_live(&self, frame: FrameId) -> bool {
+        self.frames.contains_key(&frame)
+    }
+
+    /// The most live children that a frame has.
+    pub fn most_siblings(&self) -> usize {
+        let mut children: BTreeMap<FrameId, usize> = BTreeMap::new();
+        for parent in self.frames.values().filter_map(|frame| frame.parent) {
+            *children.entry(parent).or_default() += 1;
+        }
+        children.values().copied().max().unwrap_or(0)
     }
 
     pub fn live_frames(&self) -> usize {

@@ -1,4 +1,4 @@
-//! The six kinds of step, and the tape's records that stand for them.
+//! The kinds of step, and the tape's records that stand for them.
 
 use super::refusal::Refusal;
 
@@ -6,7 +6,8 @@ pub const RECORD_BYTES: usize = 8;
 
 pub type Record = [u8; RECORD_BYTES];
 
-/// "A step is one of six kinds, each with only its own fields."
+/// "A step is one of six kinds, each with only its own fields." R-5 has a
+/// seventh.
 #[derive(Clone, Copy, Debug, PartialEq, Eq)]
 pub enum Step {
     Spawn {
@@ -31,6 +32,11 @@ pub enum Step {
         splitter: u16,
         value: u32,
     },
+    Fold {
+        worker: u8,
+        reducer: u16,
+        value: u32,
+    },
 }
 
 impl Step {
@@ -42,6 +48,7 @@ impl Step {
             Step::Sync { .. } => 4,
             Step::Read { .. } => 5,
             Step::Write { .. } => 6,
+            Step::Fold { .. } => 7,
         }
     }
 
@@ -52,7 +59,8 @@ impl Step {
             | Step::Steal { worker, .. }
             | Step::Sync { worker }
             | Step::Read { worker, .. }
-            | Step::Write { worker, .. } => worker,
+            | Step::Write { worker, .. }
+            | Step::Fold { worker, .. } => worker,
         }
     }
 
@@ -64,13 +72,16 @@ impl Step {
             | Step::Steal { worker, .. }
             | Step::Sync { worker }
             | Step::Read { worker, .. }
-            | Step::Write { worker, .. } => *worker = other,
+            | Step::Write { worker, .. }
+            | Step::Fold { worker, .. } => *worker = other,
         }
         self
     }
 
     /// "A record is 8 bytes: kind, worker, a 16-bit splitter (victim for
-    /// steal), a 32-bit value (write only). Unused fields are zero."
+    /// steal), a 32-bit value (write only). Unused fields are zero." R-5:
+    /// "Record kind 7 folds its value into the reducer named in its splitter
+    /// field."
     pub fn encode(self) -> Record {
         let (splitter, value) = match self {
             Step::Spawn { .. } | Step::Return { .. } | Step::Sync { .. } => (0, 0),
@@ -79,6 +90,7 @@ impl Step {
             Step::Write {
                 splitter, value, ..
             } => (splitter, value),
+            Step::Fold { reducer, value, .. } => (reducer, value),
         };
         let [s0, s1] = u16::to_le_bytes(splitter);
         let [v0, v1, v2, v3] = u32::to_le_bytes(value);
@@ -87,6 +99,7 @@ impl Step {
 }
 
 /// Refused by 7: "The kind is not 1 to 6, or an unused field is not zero."
+/// R-5: "Refusal 7 lets kind 7 pass."
 pub fn decode(record: Record) -> Result<Step, Refusal> {
     let [kind, worker, s0, s1, v0, v1, v2, v3] = record;
     let field = u16::from_le_bytes([s0, s1]);
@@ -100,6 +113,11 @@ pub fn decode(record: Record) -> Result<Step, Refusal> {
         (6, splitter, value) => Ok(Step::Write {
             worker,
             splitter,
+            value,
+        }),
+        (7, reducer, value) => Ok(Step::Fold {
+            worker,
+            reducer,
             value,
         }),
         _ => Err(Refusal::Record),
@@ -116,7 +134,7 @@ pub fn records(tape: &[u8]) -> impl Iterator<Item = Record> + '_ {
 mod tests {
     use super::*;
 
-    const STEPS: [Step; 6] = [
+    const STEPS: [Step; 7] = [
         Step::Spawn { worker: 1 },
         Step::Return { worker: 2 },
         Step::Steal {
@@ -133,11 +151,17 @@ mod tests {
             splitter: 772,
             value: 0x0403_0201,
         },
+        Step::Fold {
+            worker: 7,
+            reducer: 0x0605,
+            value: 0x0403_0201,
+        },
     ];
 
     #[test]
     fn records_are_little_endian() {
         assert_eq!(STEPS[5].encode(), [6, 6, 4, 3, 1, 2, 3, 4]);
+        assert_eq!(STEPS[6].encode(), [7, 7, 5, 6, 1, 2, 3, 4]);
         assert_eq!(STEPS[2].encode(), [3, 3, 1, 2, 0, 0, 0, 0]);
     }
 
@@ -150,7 +174,7 @@ mod tests {
 
     #[test]
     fn bad_kinds_are_refused() {
-        for kind in [0, 7, 100, 255] {
+        for kind in [0, 8, 100, 255] {
             let record = [kind, 0, 0, 0, 0, 0, 0, 0];
             assert_eq!(decode(record), Err(Refusal::Record));
         }

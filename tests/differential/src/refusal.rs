@@ -1,6 +1,6 @@
 //! The refusals, "Refused, in checking order". Numbers 5 and 6 cannot occur
 //! in splitrun: its work slice is long enough and its state is sound. 14 no
-//! longer occurs (R-3 of document 02).
+//! longer occurs (R-3 of document 02); 20 is R-5's.
 
 #[derive(Clone, Copy, Debug, PartialEq, Eq)]
 pub enum Refusal {
@@ -12,7 +12,8 @@ pub enum Refusal {
     PoolNodes = 3,
     /// "The tape is not a multiple of 8 bytes."
     RaggedTape = 4,
-    /// "The kind is not 1 to 6, or an unused field is not zero."
+    /// "The kind is not 1 to 6, or an unused field is not zero." R-5: "Refusal
+    /// 7 lets kind 7 pass."
     Record = 7,
     /// "The worker does not exist."
     NoWorker = 8,
@@ -31,6 +32,8 @@ pub enum Refusal {
     /// The step is a write, and fewer nodes are free than "the rest of the
     /// path" has that must be new (R-2 of document 02).
     TooFewNodes = 16,
+    /// R-5: "kind 7 names no reducer, in the place of 15".
+    Reducer = 20,
 }
 
 impl Refusal {

@@ -2,6 +2,7 @@
 
 use super::machine::{Counting, Machine};
 use super::record::{self, Record, RECORD_BYTES};
+use super::reducer::View;
 use super::refusal::Refusal;
 use std::fmt::Write;
 
@@ -82,11 +83,29 @@ pub fn watched_output(bytes: &[u8], counting: Counting, watch: Watch) -> String 
     let mut lines = String::new();
     line(&mut lines, &[input.workers.into(), n(&input), input.nodes]);
     match run(&input, counting, watch, &mut lines) {
-        Ok(free) => writeln!(lines, "free {free}"),
+        Ok(end) => print_end(&mut lines, end),
         Err(refusal) => writeln!(lines, "refused {}", refusal.number()),
     }
     .expect("a string takes every line");
     lines
+}
+
+/// What is printed after the records' lines.
+struct End {
+    free: usize,
+    totals: Option<View>,
+}
+
+/// "Last `free` and the free nodes." R-5: once Main has returned, "only then
+/// splitrun prints, as a line after `free`, `reduced`, the sum, the minimum,
+/// the multiplier and the addend".
+fn print_end(lines: &mut String, end: End) -> std::fmt::Result {
+    writeln!(lines, "free {}", end.free)?;
+    if let Some(totals) = end.totals {
+        let [sum, minimum, multiplier, addend] = totals.words();
+        writeln!(lines, "reduced {sum} {minimum} {multiplier} {addend}")?;
+    }
+    Ok(())
 }
 
 fn n(input: &Input) -> u32 {
@@ -96,14 +115,14 @@ fn n(input: &Input) -> u32 {
 /// What looks at the machine and at the record that it is about to take.
 pub type Watch<'a> = &'a mut dyn FnMut(&Machine, Record);
 
-/// The start and the tape: the free nodes at the end, or the refusal of a
-/// call refused whole.
+/// The start and the tape: what there is at the end, or the refusal of a call
+/// refused whole.
 fn run(
     input: &Input,
     counting: Counting,
     watch: Watch,
     lines: &mut String,
-) -> Result<usize, Refusal> {
+) -> Result<End, Refusal> {
     let mut machine = input.start(counting)?;
     if !input.tape.len().is_multiple_of(RECORD_BYTES) {
         return Err(Refusal::RaggedTape);
@@ -112,7 +131,10 @@ fn run(
         watch(&machine, record);
         line(lines, &answer(&mut machine, record));
     }
-    Ok(machine.free_nodes())
+    Ok(End {
+        free: machine.free_nodes(),
+        totals: machine.totals(),
+    })
 }
 
 /// "Each record gives two answer words: 100 plus the kind, then a number." "A
@@ -173,7 +195,7 @@ mod tests {
             tape: steps.into_iter().flat_map(Step::encode).collect(),
         };
         let expected = "2 5 20\n101 1\n103 0\n106 5\n105 50\n104 1\n10 0\n102 2\n\
-                        105 99\n102 3\nfree 20\n";
+                        105 99\n102 3\nfree 20\nreduced 0 4294967295 1 0\n";
         assert_eq!(output(&input.to_bytes(), Counting::Recounted), expected);
     }
 }

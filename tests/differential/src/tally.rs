@@ -1,6 +1,7 @@
 //! How often each accepted kind, outcome and refusal occurred, and each case
-//! of a write and of a chain of ends.
+//! of a write, of a chain of ends and of a view that is handed on.
 
+use crate::families::Families;
 use crate::machine::Machine;
 use crate::record::Record;
 use crate::sharing::Sharing;
@@ -8,7 +9,7 @@ use crate::waiting::Waiting;
 use std::collections::BTreeMap;
 
 /// Each line that splitrun can show, by the words that tell it apart.
-const EVENTS: [(&str, &str); 25] = [
+const EVENTS: [(&str, &str); 28] = [
     ("101", "spawn"),
     ("102 0", "return, outcome 0"),
     ("102 1", "return, outcome 1"),
@@ -20,6 +21,8 @@ const EVENTS: [(&str, &str); 25] = [
     ("104 1", "sync, outcome 1"),
     ("105", "read"),
     ("106", "write"),
+    ("107 0", "fold"),
+    ("reduced", "reduced"),
     ("unfit", "unfit"),
     ("refused 1", "refusal 1"),
     ("refused 2", "refusal 2"),
@@ -34,6 +37,7 @@ const EVENTS: [(&str, &str); 25] = [
     ("13 0", "refusal 13"),
     ("15 0", "refusal 15"),
     ("16 0", "refusal 16"),
+    ("20 0", "refusal 20"),
 ];
 
 #[derive(Default)]
@@ -41,6 +45,7 @@ pub struct Tally {
     counts: BTreeMap<String, usize>,
     pub sharing: Sharing,
     pub waiting: Waiting,
+    pub families: Families,
 }
 
 impl Tally {
@@ -57,6 +62,7 @@ impl Tally {
     pub fn see(&mut self, machine: &Machine, record: Record) {
         self.sharing.see(machine, record);
         self.waiting.see(machine, record);
+        self.families.see(machine, record);
     }
 
     /// Every event and case by its name, with its count.
@@ -65,15 +71,19 @@ impl Tally {
         let events = EVENTS
             .iter()
             .map(|(key, name)| (name.to_string(), count(key)));
-        let cases = self.sharing.cases().into_iter().chain(self.waiting.cases());
-        events.chain(cases).collect()
+        let cases = [
+            self.sharing.cases(),
+            self.waiting.cases(),
+            self.families.cases(),
+        ];
+        events.chain(cases.concat()).collect()
     }
 }
 
 /// Numbers other than outcomes are left out of the event.
 fn event(line: &str) -> String {
     match line.split_once(' ') {
-        Some((word @ ("101" | "103" | "105" | "106"), _)) => word.to_string(),
+        Some((word @ ("101" | "103" | "105" | "106" | "reduced"), _)) => word.to_string(),
         _ => line.to_string(),
     }
 }

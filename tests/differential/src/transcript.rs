@@ -35,7 +35,7 @@ pub fn difference(input: &[u8], expected: &str, came: &str) -> String {
     text
 }
 
-/// The words for each line of the output: first line, records, last line.
+/// The words for each line of the output: first line, records, last lines.
 pub fn in_words(input: &[u8]) -> Vec<String> {
     let Some(input) = Input::parse(input) else {
         return vec![format!("unfit input of {} bytes", input.len())];
@@ -51,7 +51,7 @@ pub fn in_words(input: &[u8]) -> Vec<String> {
         return words;
     }
     words.extend(record::records(&input.tape).map(record_in_words));
-    words.push("the end".to_string());
+    words.extend(["the end", "the totals, if Main has returned"].map(String::from));
     words
 }
 
@@ -74,5 +74,10 @@ fn step_in_words(step: Step) -> String {
             splitter,
             value,
         } => format!("worker {worker} writes {value} to {splitter}"),
+        Step::Fold {
+            worker,
+            reducer,
+            value,
+        } => format!("worker {worker} folds {value} into reducer {reducer}"),
     }
 }

@@ -32,16 +32,19 @@ pub fn played(splitters: usize, nodes: u32, random: &Random) -> Pair {
     match random.below(24) {
         0 | 1 => take(&mut pair, 64, homeward),
         2 => take(&mut pair, 64, |_| [SPAWN, 0, 0, 0]),
-        3 => wait_in_line(&mut pair, random),
+        3 => sketch(&mut pair, random, |sketch| {
+            sketch.line(random.pick(&[3, 10, 63]));
+        }),
+        4..8 => sketch(&mut pair, random, |sketch| sketch.family()),
         _ => {}
     }
     pair
 }
 
-/// Frames that wait one for the other.
-fn wait_in_line(pair: &mut Pair, random: &Random) {
+/// Frames that wait one for the other, or with several children.
+fn sketch(pair: &mut Pair, random: &Random, draw: impl FnOnce(&mut Sketch)) {
     let mut sketch = Sketch::new(pair.state.clone(), pair.pool.clone(), random);
-    sketch.line(random.pick(&[3, 10, 63]));
+    draw(&mut sketch);
     (pair.state, pair.pool) = (sketch.state, sketch.pool);
 }
 

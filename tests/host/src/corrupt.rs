@@ -2,6 +2,7 @@
 
 mod frames;
 mod numbers;
+mod siblings;
 mod trees;
 mod words;
 
@@ -45,7 +46,7 @@ const fn kind(name: &'static str, expected: Expected, share: usize, change: Chan
     }
 }
 
-pub const KINDS: [Kind; 60] = [
+pub const KINDS: [Kind; 73] = [
     kind("state word", Either, 120, words::state_word),
     kind("pool word", Either, 40, words::pool_word),
     kind("two words", Either, 10, words::two_words),
@@ -104,6 +105,24 @@ pub const KINDS: [Kind; 60] = [
     kind("returning over 1", Unsound, 6, frames::returning_over_1),
     kind("free, returning", Unsound, 6, frames::free_place_returning),
     kind("wait turned", Sound, 6, frames::wait_turned),
+    kind("siblings reordered", Sound, 8, siblings::reordered),
+    kind("view words", Sound, 6, siblings::view_words),
+    kind("totals after Main", Sound, 40, siblings::totals_after_main),
+    kind("totals, Main lives", Unsound, 6, siblings::totals_too_early),
+    kind("sibling cycle", Unsound, 6, siblings::cycle),
+    kind("chain and cycle", Unsound, 20, siblings::chain_and_cycle),
+    kind("link to itself", Unsound, 5, siblings::link_to_itself),
+    kind("chain cut in two", Unsound, 6, siblings::cut_in_two),
+    kind("sibling skipped", Unsound, 20, siblings::skipped),
+    kind(
+        "link to a stranger",
+        Unsound,
+        8,
+        siblings::link_to_a_stranger,
+    ),
+    kind("Main linked", Unsound, 5, siblings::main_linked),
+    kind("links exchanged", Unsound, 8, siblings::links_exchanged),
+    kind("free place's view", Unsound, 6, siblings::free_place_view),
     kind("numbers moved", Either, 10, numbers::moved),
     kind("16,384 nodes", Either, 1, numbers::brink),
 ];
@@ -158,6 +177,33 @@ impl Pair {
         (0..MAX_FRAMES)
             .filter(|&place| self.state.frames[place].live != 0)
             .collect()
+    }
+
+    /// The live children of a frame, eldest first by their links; those of a place that none is the child of are none.
+    fn children(&self, parent: u32) -> Vec<u32> {
+        let is_child = |&place: &usize| self.state.frames[place].parent == parent;
+        let children: Vec<usize> = self.live().into_iter().filter(is_child).collect();
+        let younger = |place: usize| self.state.frames[place].younger;
+        let linked = |place: usize| children.iter().any(|&other| younger(other) == place as u32);
+        let mut next = children
+            .iter()
+            .find(|&&place| !linked(place))
+            .map_or(NONE, |&place| place as u32);
+        let mut chain = Vec::new();
+        while next != NONE {
+            chain.push(next);
+            next = younger(next as usize);
+        }
+        chain
+    }
+
+    /// Chains these frames by their links, in this order.
+    fn chain_siblings(&mut self, siblings: &[u32]) {
+        let mut next = NONE;
+        for &place in siblings.iter().rev() {
+            self.state.frames[place as usize].younger = next;
+            next = place;
+        }
     }
 
     /// Each node in use, once.

@@ -4,14 +4,14 @@
 use crate::corrupt::Pair;
 use crate::image::{self, BLOCK_BYTES, DATA_BYTES, PER_VERSION, VERSION, WORKERS};
 use crate::parts::Parts;
-use crate::plain::{FRAME_WORDS, MAX_FRAMES, MAX_NODES};
+use crate::plain::{FRAMES_WORDS, FRAME_WORDS, MAX_FRAMES, MAX_NODES, NUMBERS_WORDS, STATE_WORDS};
 use crate::random::Random;
 
-/// What a damaged image is made from: images of one version, but for the last.
+/// What a damaged image is made from.
 pub struct Source {
     pub image: Vec<u8>,
-    /// The same in the other version.
-    pub otherwise: Vec<u8>,
+    /// The same in a form from before.
+    pub before: Vec<u8>,
     /// Saved some steps earlier in the same run.
     pub older: Vec<u8>,
     /// Saved in another run.
@@ -39,7 +39,7 @@ const fn damage(name: &'static str, answers: &'static [u32], change: Change) -> 
 /// No images have more nodes than this, but where they record more than they have.
 pub const MOST_NODES: usize = MAX_NODES + 100;
 
-pub const DAMAGES: [Damage; 44] = [
+pub const DAMAGES: [Damage; 48] = [
     damage("none", &[0], |_, _, _| Some(())),
     damage("a bit", &[17, 18], bit),
     damage("a byte", &[17, 18], byte),
@@ -65,7 +65,8 @@ pub const DAMAGES: [Damage; 44] = [
     damage("garbage", &[17, 18], garbage),
     damage("garbage, right length", &[18], garbage_called_for),
     damage("garbage, right checks", &[6, 18], garbage_checked),
-    damage("zeros", &[6, 17], zeros),
+    damage("zeros", &[17], zeros),
+    damage("zeros of the form", &[6, 17], zeros_of_the_form),
     damage("nodes lied", &[6, 17, 18], nodes_lied),
     damage("nodes lied wildly", &[17], nodes_lied_wildly),
     damage("nodes wrapped", &[17], nodes_wrapped),
@@ -78,34 +79,51 @@ pub const DAMAGES: [Damage; 44] = [
     damage("rest not zero", &[18], rest_not_zero),
     damage("big-endian", &[], big_endian),
     damage("no checks", &[17, 18], no_checks),
-    damage("other version", &[0], other_version),
-    damage("first word", &[0, 6, 17, 18], first_word),
+    damage("a form from before", &[17], form_from_before),
+    damage("first word", &[0, 6, 17], first_word),
     damage("first word, no version", &[17], first_word_of_no_version),
     damage("version lied", &[6, 17, 18], version_lied),
     damage("version lied, fitting", &[6], version_lied_fitting),
     damage("a seventh word", &[0, 6], seventh_word),
+    damage("a view word", &[0, 6], view_word),
+    damage("a link", &[6], sibling_link),
+    damage("a total", &[0, 6], total),
 ];
 
-/// The image of a pair, sound or not, in version 0 or 1: of as many nodes as it records, zero where the pool has none. Of the pool's nodes,
-/// if it records far too many.
-pub fn image_of(pair: &Pair, version: u32) -> Vec<u8> {
+/// The image of a pair, sound or not: of as many nodes as it records, zero where the pool has none. Of the pool's nodes, if it records far
+/// too many.
+pub fn image_of(pair: &Pair) -> Vec<u8> {
+    let (nodes, there) = nodes_of(pair);
+    let state = Parts::of(&pair.state);
+    let mut image = vec![0; image::bytes(nodes as u32) as usize];
+    image::put(image::image_words(&state, &pair.pool[..there]), &mut image);
+    image
+}
+
+/// The nodes of a pair's image, and the words of them that the pool has.
+fn nodes_of(pair: &Pair) -> (usize, usize) {
     let recorded = pair.state.nodes as usize;
     let nodes = if recorded <= MOST_NODES {
         recorded
     } else {
         pair.pool.len() / 4
     };
-    let state = Parts::of(&pair.state);
-    let there = pair.pool.len().min(4 * nodes);
-    let words = image::image_words(version, &state, &pair.pool[..there]);
-    let mut image = vec![0; image::bytes_of(version, nodes as u32) as usize];
-    image::put(words, &mut image);
-    image
+    (nodes, pair.pool.len().min(4 * nodes))
 }
 
-/// The version that an image says, the present one if it says none that is readable.
-fn version(image: &[u8]) -> u32 {
-    image::version(image).unwrap_or(VERSION)
+/// The image of a sound pair in the form before R-3, version 0, or that before R-5, version 1: no totals, six or seven words to a record.
+pub fn image_before(pair: &Pair, version: u32) -> Vec<u8> {
+    let (_, there) = nodes_of(pair);
+    let state = Parts::of(&pair.state);
+    let records = state.frames.chunks(FRAME_WORDS);
+    let kept = records.flat_map(|record| &record[..6 + version as usize]);
+    let words = state.numbers[..5].iter().chain(&state.deques);
+    let words = words.chain(kept).chain(&pair.pool[..there]);
+    let mut words: Vec<u32> = words.copied().collect();
+    words[WORKERS] += version * PER_VERSION;
+    let mut image = vec![0; words.len().div_ceil(127) * BLOCK_BYTES];
+    image::put(words, &mut image);
+    image
 }
 
 fn blocks(image: &[u8]) -> usize {
@@ -310,10 +328,10 @@ fn garbage(image: &mut Vec<u8>, _: &Source, random: &Random) -> Option<()> {
 
 /// Random bytes, but just as many blocks as they call for.
 fn garbage_called_for(image: &mut Vec<u8>, _: &Source, random: &Random) -> Option<()> {
-    let (version, nodes) = (version(image), random.word_below(200));
-    *image = random_bytes(image::bytes_of(version, nodes) as usize, random);
+    let nodes = random.word_below(200);
+    *image = random_bytes(image::bytes(nodes) as usize, random);
     let workers = random.word_below(random.pick(&[9, PER_VERSION]));
-    image::set_word(image, WORKERS, workers + version * PER_VERSION);
+    image::set_word(image, WORKERS, workers + VERSION * PER_VERSION);
     image::set_word(image, image::NODES, nodes);
     Some(())
 }
@@ -329,15 +347,23 @@ fn garbage_checked(image: &mut Vec<u8>, source: &Source, random: &Random) -> Opt
 
 /// Zeros in the words after the recorded nodes.
 fn clear_rest(image: &mut [u8]) {
-    let of_version = |nodes| image::words_of(version(image), nodes);
-    let first = image::recorded(image).map_or(0, of_version) as usize;
+    let first = image::recorded(image).map_or(0, image::words) as usize;
     for word in first..blocks(image) * 127 {
         image::set_word(image, word, 0);
     }
 }
 
 fn zeros(image: &mut Vec<u8>, _: &Source, random: &Random) -> Option<()> {
-    *image = vec![0; random.pick(&[0, 1, 7, 8, 8, 8, 9]) * BLOCK_BYTES];
+    *image = vec![0; random.pick(&[0, 1, 8, 10, 11, 11, 12]) * BLOCK_BYTES];
+    Some(())
+}
+
+/// Zeros but for the first word and its check.
+fn zeros_of_the_form(image: &mut Vec<u8>, _: &Source, random: &Random) -> Option<()> {
+    *image = vec![0; random.pick(&[1, 8, 10, 11, 11, 11, 12]) * BLOCK_BYTES];
+    let workers = random.word_below(3);
+    image::set_word(image, WORKERS, workers + VERSION * PER_VERSION);
+    image::repair(image);
     Some(())
 }
 
@@ -387,7 +413,7 @@ fn nodes_lied_wildly(image: &mut Vec<u8>, _: &Source, random: &Random) -> Option
 
 /// A few blocks, and a number of nodes that calls for as many if its words are counted modulo 2^32.
 fn nodes_wrapped(image: &mut Vec<u8>, _: &Source, random: &Random) -> Option<()> {
-    let state = image::words_of(version(image), 0) as u32; // 909 or 973: one more than a multiple of four
+    let state = STATE_WORDS as u32; // 1,297: one more than a multiple of four
     let words = 1 + 4 * random.word_below(state / 4);
     let quarter = random.word_below(4) << 30;
     let nodes = (words.wrapping_sub(state) / 4).wrapping_add(quarter);
@@ -399,7 +425,7 @@ fn nodes_wrapped(image: &mut Vec<u8>, _: &Source, random: &Random) -> Option<()>
 fn nodes_fewer(image: &mut Vec<u8>, _: &Source, random: &Random) -> Option<()> {
     let old = image::recorded(image).filter(|&nodes| nodes > 0)?;
     let nodes = random.pick(&[0, old - 1, random.word_below(old)]);
-    image.truncate(image::bytes_of(version(image), nodes) as usize);
+    image.truncate(image::bytes(nodes) as usize);
     image::set_word(image, image::NODES, nodes);
     clear_rest(image);
     image::repair(image);
@@ -413,11 +439,10 @@ fn nodes_more(image: &mut Vec<u8>, _: &Source, random: &Random) -> Option<()> {
         0 => MAX_NODES as u32 + random.word_below(2),
         _ => (old + 1 + random.word_below(40)).min(MOST_NODES as u32),
     };
-    let version = version(image);
-    let length = image::bytes_of(version, nodes) as usize;
+    let length = image::bytes(nodes) as usize;
     image.resize(length.max(image.len()), 0);
     if random.one_in(2) {
-        let [from, to] = [old.min(nodes), nodes].map(|nodes| image::words_of(version, nodes));
+        let [from, to] = [old.min(nodes), nodes].map(image::words);
         (from..to).for_each(|word| image::set_word(image, word as usize, random.word()));
     }
     image.truncate(length);
@@ -459,7 +484,7 @@ fn keep_sum(image: &mut [u8], word: usize, other: usize, random: &Random) -> Opt
 
 /// The place of the first word in the rest of the last block, by the recorded nodes.
 fn first_of_rest(image: &[u8]) -> Option<usize> {
-    Some(image::words_of(version(image), image::recorded(image)?) as usize)
+    Some(image::words(image::recorded(image)?) as usize)
 }
 
 /// Neither word is the image's first or third, or in the rest of the last block.
@@ -514,8 +539,8 @@ fn no_checks(image: &mut Vec<u8>, _: &Source, _: &Random) -> Option<()> {
     Some(())
 }
 
-fn other_version(image: &mut Vec<u8>, source: &Source, _: &Random) -> Option<()> {
-    image.clone_from(&source.otherwise);
+fn form_from_before(image: &mut Vec<u8>, source: &Source, _: &Random) -> Option<()> {
+    image.clone_from(&source.before);
     Some(())
 }
 
@@ -528,63 +553,126 @@ fn set_first(image: &mut [u8], first: u32) -> Option<()> {
 }
 
 fn first_word(image: &mut Vec<u8>, _: &Source, random: &Random) -> Option<()> {
-    let near = random.pick(&[0, PER_VERSION]) + random.word_below(12);
-    let edges = [0, 8, 9, 255, 256, 264, 265, 511, 512, 1 << 31, near, near];
+    let form = VERSION * PER_VERSION;
+    let near = form + random.word_below(12);
+    let edges = [
+        8,
+        255,
+        256,
+        264,
+        511,
+        512,
+        513,
+        520,
+        521,
+        767,
+        768,
+        776,
+        1 << 31,
+        near,
+        near,
+        near,
+    ];
     set_first(image, random.pick(&edges))
 }
 
-/// The versions to come, and words that are none.
+/// The versions from before and to come, and words that are none.
 fn first_word_of_no_version(image: &mut Vec<u8>, _: &Source, random: &Random) -> Option<()> {
     let old = image::get(image).nth(WORKERS)?;
     let workers = old % PER_VERSION;
     let words = [
-        512,
-        512 + workers,
+        workers,
+        256 + workers,
+        511,
+        768,
         768 + workers,
+        1_024 + workers,
         65_536 + old,
         old.swap_bytes(),
         1 << 31,
         1 << 31 | old,
         u32::MAX,
-        512 | random.word(),
+        1_024 | random.word(),
     ];
     let word = random.pick(&words);
-    (word >= 2 * PER_VERSION).then_some(())?;
+    (word / PER_VERSION != VERSION).then_some(())?;
     set_first(image, word)
 }
 
-/// The other version's first word before what the image has.
-fn version_lied(image: &mut Vec<u8>, _: &Source, _: &Random) -> Option<()> {
+/// The present form's first word before what a form from before has.
+fn version_lied(image: &mut Vec<u8>, source: &Source, _: &Random) -> Option<()> {
+    image.clone_from(&source.before);
     let old = image::get(image).nth(WORKERS)?;
-    set_first(image, old ^ PER_VERSION)
+    set_first(image, VERSION * PER_VERSION + old % PER_VERSION)
 }
 
-/// The same, and the length as the other version calls for.
+/// The same, and the length as the present form calls for.
 fn version_lied_fitting(image: &mut Vec<u8>, source: &Source, random: &Random) -> Option<()> {
     version_lied(image, source, random)?;
     let nodes = image::recorded(image).filter(|&nodes| nodes as usize <= MOST_NODES)?;
-    image.resize(image::bytes_of(version(image), nodes) as usize, 0);
+    image.resize(image::bytes(nodes) as usize, 0);
     clear_rest(image);
     image::repair(image);
     Some(())
 }
 
-/// The last word of a frame record, with the checks right.
-fn seventh_word(image: &mut Vec<u8>, _: &Source, random: &Random) -> Option<()> {
-    if version(image) == 0 {
-        return None;
-    }
-    let records = image::words_of(VERSION, 0) as usize - MAX_FRAMES * FRAME_WORDS;
-    let words: Vec<u32> = image::get(image).collect();
-    let suspended = |place: &usize| words.get(records + place * FRAME_WORDS + 4) == Some(&1);
-    let any = random.below(MAX_FRAMES);
-    let place = match random.below(3) {
-        0 => any,
-        _ => random.some(&(0..MAX_FRAMES).filter(suspended).collect::<Vec<_>>())?,
-    };
-    let word = records + place * FRAME_WORDS + FRAME_WORDS - 1;
-    let new = [words.get(word)? ^ 1, 1, 2, 3, 256, 1 << 31, u32::MAX];
-    image::set_word(image, word, random.pick(&new));
+/// The first word of the frame records.
+const RECORDS: usize = STATE_WORDS - FRAMES_WORDS;
+
+/// Another value of a word of the image, with the checks right.
+fn set_checked(image: &mut [u8], word: usize, news: &[u32], random: &Random) -> Option<()> {
+    let old = image::get(image).nth(word)?;
+    let new = random.pick(news);
+    image::set_word(image, word, new);
     image::repair(image);
-    Some(())
+    (old != new).then_some(())
+}
+
+/// A place of a frame: two times in three one to whose record the test says yes.
+fn some_place(image: &[u8], random: &Random, test: impl Fn(&[u32]) -> bool) -> Option<usize> {
+    let words: Vec<u32> = image::get(image).skip(RECORDS).take(FRAMES_WORDS).collect();
+    let records = words.chunks_exact(FRAME_WORDS).enumerate();
+    let such: Vec<usize> = records
+        .filter(|(_, record)| test(record))
+        .map(|(place, _)| place)
+        .collect();
+    match random.below(3) {
+        0 => Some(random.below(MAX_FRAMES)),
+        _ => random.some(&such),
+    }
+}
+
+/// R-3's word of a frame record.
+fn seventh_word(image: &mut Vec<u8>, _: &Source, random: &Random) -> Option<()> {
+    let place = some_place(image, random, |record| record[4] == 1)?;
+    let word = RECORDS + place * FRAME_WORDS + 6;
+    let old = image::get(image).nth(word)?;
+    set_checked(
+        image,
+        word,
+        &[old ^ 1, 1, 2, 3, 256, 1 << 31, u32::MAX],
+        random,
+    )
+}
+
+/// R-5's: any on a live frame, zero on a free place.
+fn view_word(image: &mut Vec<u8>, _: &Source, random: &Random) -> Option<()> {
+    let place = some_place(image, random, |record| record[0] == 1)?;
+    let word = RECORDS + place * FRAME_WORDS + 7 + random.below(4);
+    set_checked(image, word, &[0, 1, u32::MAX, random.word()], random)
+}
+
+/// The link to the next younger sibling, mostly of a frame that is not Main.
+fn sibling_link(image: &mut Vec<u8>, _: &Source, random: &Random) -> Option<()> {
+    let place = some_place(image, random, |record| record[0] == 1 && record[2] > 0)?;
+    let word = RECORDS + place * FRAME_WORDS + 11;
+    let near = random.word_below(MAX_FRAMES as u32);
+    let news = [0, place as u32, near, near, 64, 1 << 31, u32::MAX];
+    set_checked(image, word, &news, random)
+}
+
+/// A total: any once Main has returned, zero before.
+fn total(image: &mut Vec<u8>, _: &Source, random: &Random) -> Option<()> {
+    let word = NUMBERS_WORDS - 4 + random.below(4);
+    set_checked(image, word, &[0, 1, u32::MAX, random.word()], random)
 }

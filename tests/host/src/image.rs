@@ -1,5 +1,5 @@
-//! R-1's image, as R-3 changes it, in plain Rust: what a save writes and what a reading accepts, refuses and leaves. Written from documents
-//! 01 and 02 alone.
+//! R-1's image, as change it, in plain Rust: what a save writes and what a reading accepts, refuses and leaves. Written from
+//! documents 01 and 02 alone.
 
 #[cfg(test)]
 mod before;
@@ -9,7 +9,7 @@ mod tests;
 
 use crate::call::BAD_STATE;
 use crate::parts::Parts;
-use crate::plain::{self, Refusal, DEQUES_WORDS, FRAME_WORDS, MAX_FRAMES, NUMBERS_WORDS};
+use crate::plain::{self, Refusal, STATE_WORDS};
 
 pub const BLOCK_BYTES: usize = 512;
 /// A block's bytes of data; the check follows them.
@@ -20,8 +20,8 @@ pub const WORKERS: usize = 0;
 pub const NODES: usize = 2;
 /// The first word has the version times this added.
 pub const PER_VERSION: u32 = 256;
-/// The version that a save writes. A reading takes it and 0, the one from before R-3, whose frame records have a word less.
-pub const VERSION: u32 = 1;
+/// The version that a save writes, and the only one that a reading takes.
+pub const VERSION: u32 = 2;
 
 /// The image is not just as many whole blocks as its first block calls for, has no whole block, or a first word of no readable form.
 pub const NOT_ITS_BLOCKS: u32 = 17;
@@ -30,25 +30,14 @@ pub const WRONG_CHECK: u32 = 18;
 /// The target is too short.
 pub const SHORT_TARGET: u32 = 19;
 
-/// The words of a frame record in an image of this version, 0 or 1.
-pub fn record_words(version: u32) -> usize {
-    FRAME_WORDS - usize::from(version == 0)
-}
-
 /// The words of an image of so many nodes: the state's, then four for each node.
-pub fn words_of(version: u32, nodes: u32) -> u64 {
-    let state = NUMBERS_WORDS + DEQUES_WORDS + MAX_FRAMES * record_words(version);
-    state as u64 + 4 * u64::from(nodes)
+pub fn words(nodes: u32) -> u64 {
+    STATE_WORDS as u64 + 4 * u64::from(nodes)
 }
 
 /// The bytes of an image of so many nodes, any number.
-pub fn bytes_of(version: u32, nodes: u32) -> u64 {
-    words_of(version, nodes).div_ceil(DATA_WORDS) * BLOCK_BYTES as u64
-}
-
-/// The same for an image that a save writes.
 pub fn bytes(nodes: u32) -> u64 {
-    bytes_of(VERSION, nodes)
+    words(nodes).div_ceil(DATA_WORDS) * BLOCK_BYTES as u64
 }
 
 /// The sum of each byte times 256 raised to its offset modulo 4.
@@ -89,23 +78,17 @@ pub fn recorded(image: &[u8]) -> Option<u32> {
     get(image).nth(NODES)
 }
 
-/// The version, if there is a whole block and its first word is of a readable form.
-pub fn version(image: &[u8]) -> Option<u32> {
-    let version = get(image).nth(WORKERS)? / PER_VERSION;
-    (version <= VERSION).then_some(version)
+/// Whether there is a whole block and its first word is of the readable form.
+pub fn readable(image: &[u8]) -> bool {
+    let first = get(image).nth(WORKERS);
+    first.is_some_and(|first| first / PER_VERSION == VERSION)
 }
 
-/// The words of an image of this version, 0 or 1, from those of a state and its nodes. A record loses its last word in version 0.
-pub fn image_words<'a>(
-    version: u32,
-    state: &'a Parts,
-    nodes: &'a [u32],
-) -> impl Iterator<Item = u32> + 'a {
-    let first = state.numbers[WORKERS].wrapping_add(version * PER_VERSION);
-    let records = state.frames.chunks(FRAME_WORDS);
-    let frames = records.flat_map(move |record| &record[..record_words(version)]);
-    let others = state.numbers[1..].iter().chain(&state.deques);
-    std::iter::once(first).chain(others.chain(frames).chain(nodes).copied())
+/// The words of an image, from those of a state and its nodes.
+pub fn image_words<'a>(state: &'a Parts, nodes: &'a [u32]) -> impl Iterator<Item = u32> + 'a {
+    let first = state.numbers[WORKERS].wrapping_add(VERSION * PER_VERSION);
+    let others = [&state.numbers[1..], &state.deques, &state.frames, nodes];
+    std::iter::once(first).chain(others.into_iter().flatten().copied())
 }
 
 /// 0 with the image in the front of the target, or 99, 5, 6, 19.
@@ -122,7 +105,7 @@ pub fn save(state: &Parts, pool: &[u32], work: &mut [u32], target: &mut [u8]) ->
     }
     match target.get_mut(..bytes(typed.nodes) as usize) {
         Some(front) => {
-            put(image_words(VERSION, state, &pool[..4 * nodes]), front);
+            put(image_words(state, &pool[..4 * nodes]), front);
             0
         }
         None => SHORT_TARGET,
@@ -144,20 +127,20 @@ pub fn load(state: &mut Parts, pool: &mut [u32], work: &mut [u32], image: &[u8])
 }
 
 fn take(state: &mut Parts, pool: &mut [u32], work: &mut [u32], image: &[u8]) -> u32 {
-    let Some((version, nodes)) = version(image).zip(recorded(image)) else {
+    let Some(nodes) = recorded(image).filter(|_| readable(image)) else {
         return NOT_ITS_BLOCKS;
     };
-    if bytes_of(version, nodes) != image.len() as u64 {
+    if bytes(nodes) != image.len() as u64 {
         return NOT_ITS_BLOCKS;
     }
-    let mut rest = get(image).skip(words_of(version, nodes) as usize);
+    let mut rest = get(image).skip(words(nodes) as usize);
     if !checks_right(image) || rest.any(|word| word != 0) {
         return WRONG_CHECK;
     }
     if work.len() < nodes as usize {
         return Refusal::ShortWork as u32;
     }
-    read(version, nodes as usize, state, pool, image);
+    read(nodes as usize, state, pool, image);
     let sound = state
         .state()
         .and_then(|state| plain::sound(&state, pool, work));
@@ -169,19 +152,12 @@ fn take(state: &mut Parts, pool: &mut [u32], work: &mut [u32], image: &[u8]) -> 
     0
 }
 
-/// The words of the image in state and pool; the last word of a record is 0 in version 0. A pool with fewer nodes stays as it is: the count
-/// alone makes it unsound.
-fn read(version: u32, nodes: usize, state: &mut Parts, pool: &mut [u32], image: &[u8]) {
+/// The words of the image in state and pool. A pool with fewer nodes stays as it is: the count alone makes it unsound.
+fn read(nodes: usize, state: &mut Parts, pool: &mut [u32], image: &[u8]) {
     let mut words = get(image);
     let mut fill = |part: &mut [u32]| part.fill_with(|| words.next().unwrap_or(0));
-    fill(&mut state.numbers);
-    fill(&mut state.deques);
-    state.numbers[WORKERS] -= version * PER_VERSION;
-    for record in state.frames.chunks_mut(FRAME_WORDS) {
-        let (there, absent) = record.split_at_mut(record_words(version));
-        fill(there);
-        absent.fill(0);
-    }
+    state.each_mut().into_iter().for_each(|part| fill(part));
+    state.numbers[WORKERS] -= VERSION * PER_VERSION;
     if let Some(front) = pool.get_mut(..4 * nodes) {
         fill(front);
     }

@@ -101,7 +101,7 @@ pub fn compare_sizes() -> Result<(), Failure> {
     let wraps = (0..=128).map(|times: u32| times.wrapping_mul(127 << 18));
     let mut sizes = (0..=MOST_NODES as u32)
         .chain(powers)
-        .chain(wraps.flat_map(|nodes| [0, 227, 228, 243, 244].map(|less| nodes.wrapping_sub(less))))
+        .chain(wraps.flat_map(|nodes| [0, 227, 243, 324, 325].map(|less| nodes.wrapping_sub(less))))
         .chain([u32::MAX - 1, u32::MAX]);
     let wrong = sizes.find(|&nodes| {
         let bytes = image::bytes(nodes);
@@ -152,9 +152,10 @@ fn pair(random: &Random) -> Pair {
             base::played(splitters, (MAX_NODES - random.below(3)) as u32, random)
         }
         1..100 => {
-            // 106 nodes fill 11 blocks, and 127 nodes four more
-            let nodes = 105 + random.word_below(4) + 127 * random.word_below(3);
-            base::played(1 + random.below(50), nodes, random)
+            // 25 nodes fill 11 blocks, and 127 nodes four more
+            let nodes = 24 + random.word_below(4) + 127 * random.word_below(4);
+            let splitters = 1 + random.below(if nodes < 105 { 11 } else { 50 });
+            base::played(splitters, nodes, random)
         }
         _ => base::any(random),
     }
@@ -259,7 +260,7 @@ fn go_on(
     random: &Random,
     session: &mut Session,
 ) -> Result<Outcome, Failure> {
-    let step = || steps::plausible(&pair.state, SPAWN + random.word_below(6), random);
+    let step = || steps::plausible(&pair.state, SPAWN + random.word_below(7), random);
     let bytes: Vec<u8> = (0..1 + random.below(6))
         .flat_map(|_| steps::record(step()))
         .collect();
@@ -337,19 +338,18 @@ pub fn group(
 ) -> Result<(), Failure> {
     let random = Random::new(!seed ^ 0x1333_5777);
     let mut pair = base::any(&random);
-    let version = u32::from(!random.one_in(4));
-    let older = damage::image_of(&pair, version);
+    let older = damage::image_of(&pair);
     base::play(&mut pair, random.below(30), &random);
     let source = Source {
-        image: damage::image_of(&pair, version),
-        otherwise: damage::image_of(&pair, 1 - version),
+        image: damage::image_of(&pair),
+        before: damage::image_before(&pair, random.word_below(2)),
         older,
-        other: damage::image_of(&base::any(&random), version),
+        other: damage::image_of(&base::any(&random)),
     };
     let mut read = 0;
     while read < images.min(PER_SEED) {
         let made = if random.one_in(3) {
-            corrupted(&pair, version, &random)
+            corrupted(&pair, &random)
         } else {
             damaged(&source, &random)
         };
@@ -369,21 +369,20 @@ struct Made {
     answers: &'static [u32],
 }
 
-/// The image of a corrupted pair. Version 0 has no seventh words: without them, what was unsound may be sound.
-fn corrupted(pair: &Pair, version: u32, random: &Random) -> Option<Made> {
+/// The image of a corrupted pair.
+fn corrupted(pair: &Pair, random: &Random) -> Option<Made> {
     let mut pair = pair.clone();
     pair.turn = random.below(plain::STATE_WORDS);
     let kind = corrupt::choose(random);
     (KINDS[kind].change)(&mut pair, random)?;
     let cut = KINDS[kind].name == "pool cut off"; // an image has all its nodes
-    let lost = version == 0 && pair.state.frames.iter().any(|frame| frame.returning != 0);
     Some(Made {
-        image: damage::image_of(&pair, version),
+        image: damage::image_of(&pair),
         damage: None,
         kind: Some(kind),
         answers: match KINDS[kind].expected {
             Expected::Sound => &[0],
-            Expected::Unsound if !cut && !lost => &[6],
+            Expected::Unsound if !cut => &[6],
             _ => &[],
         },
     })
@@ -487,7 +486,7 @@ fn expect_sound(after: &Outcome, random: &Random, session: &mut Session) -> Resu
         work: random.words(state.nodes as usize),
         entry: Entry::Step(steps::plausible(
             &state,
-            SPAWN + random.word_below(6),
+            SPAWN + random.word_below(7),
             random,
         )),
     };

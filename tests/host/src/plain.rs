@@ -1,9 +1,9 @@
-//! Document 01's engine, with of document 02, in plain, fast, safe Rust: copying of what is shared of a path, reference
-//! counts, free lists, recursive release, returns that wait. Written from the documents alone. It is what the library is compared with,
+//! Document 01's engine, with of document 02, in plain, fast, safe Rust: copying of what is shared of a path, reference
+//! counts, free lists, recursive release, returns that wait, views that join. Written from the documents alone. It is what the library is compared with,
 //! and the peer it is timed against: what a tape and a single step share is inlined in both, so that each is as fast as if the other
 //! were not there.
 
-use std::array;
+use std::{array, mem};
 
 pub const NONE: u32 = u32::MAX;
 pub const MAX_WORKERS: usize = 8;
@@ -12,8 +12,8 @@ pub const MAX_SPLITTERS: usize = 256;
 pub const MAX_NODES: usize = 16_384;
 
 const DEQUE_WORDS: usize = 1 + MAX_FRAMES;
-pub const FRAME_WORDS: usize = 7;
-pub const NUMBERS_WORDS: usize = 5;
+pub const FRAME_WORDS: usize = 12;
+pub const NUMBERS_WORDS: usize = 9;
 pub const DEQUES_WORDS: usize = MAX_WORKERS * DEQUE_WORDS;
 pub const FRAMES_WORDS: usize = MAX_FRAMES * FRAME_WORDS;
 pub const STATE_WORDS: usize = NUMBERS_WORDS + DEQUES_WORDS + FRAMES_WORDS;
@@ -32,6 +32,12 @@ pub const STEAL: u32 = 3;
 pub const SYNC: u32 = 4;
 pub const READ: u32 = 5;
 pub const WRITE: u32 = 6;
+pub const FOLD: u32 = 7;
+
+/// The reducers, with their numbers.
+pub const SUM: u32 = 0;
+pub const MIN: u32 = 1;
+pub const AFFINE: u32 = 2;
 
 /// The documents' refusals, with their numbers; 14 no longer occurs.
 #[derive(Clone, Copy, Debug, PartialEq, Eq)]
@@ -52,10 +58,62 @@ pub enum Refusal {
     FramesFull,
     UnknownSplitter = 15,
     PoolFull,
+    UnknownReducer = 20,
+}
+
+/// What was folded, of each reducer: the sum, the minimum, and the affine map, multiply then add. A view of zeros stands in free places.
+#[derive(Clone, Copy, Debug, Default, PartialEq, Eq)]
+pub struct View {
+    pub sum: u32,
+    pub min: u32,
+    pub multiplier: u32,
+    pub addend: u32,
+}
+
+impl View {
+    pub const IDENTITY: View = View {
+        sum: 0,
+        min: u32::MAX,
+        multiplier: 1,
+        addend: 0,
+    };
+
+    /// With a later view on its right.
+    #[must_use]
+    pub fn join(self, later: View) -> View {
+        let joined = View {
+            sum: self.sum.wrapping_add(later.sum),
+            min: self.min.min(later.min),
+            ..self
+        };
+        joined.then(later.multiplier, later.addend)
+    }
+
+    /// With a later map applied after its own.
+    fn then(self, multiplier: u32, addend: u32) -> View {
+        View {
+            multiplier: self.multiplier.wrapping_mul(multiplier),
+            addend: self.addend.wrapping_mul(multiplier).wrapping_add(addend),
+            ..self
+        }
+    }
+
+    pub fn words(self) -> [u32; 4] {
+        [self.sum, self.min, self.multiplier, self.addend]
+    }
+
+    pub fn of_words([sum, min, multiplier, addend]: [u32; 4]) -> View {
+        View {
+            sum,
+            min,
+            multiplier,
+            addend,
+        }
+    }
 }
 
 /// A frame place. `parent` of a free place is the next free place, or none. `returning` is 1 on a suspended frame that ends with its last
-/// child, else 0. In memory it takes eight words, so that a place is found by a shift.
+/// child, else 0. `younger` is the next younger live sibling, or none.
 #[derive(Clone, Copy, Debug, Default, PartialEq, Eq)]
 #[repr(align(16))]
 pub struct Frame {
@@ -66,6 +124,8 @@ pub struct Frame {
     pub suspended: u32,
     pub root: u32,
     pub returning: u32,
+    pub view: View,
+    pub younger: u32,
 }
 
 impl Frame {
@@ -113,7 +173,7 @@ impl Deque {
     }
 }
 
-/// The engine's state. `free` is the first free node, `vacant` the first free frame place.
+/// The engine's state. `free` is the first free node, `vacant` the first free frame place; `totals` are zeros while Main lives.
 #[derive(Clone, Debug, PartialEq, Eq)]
 pub struct State {
     pub workers: u32,
@@ -121,6 +181,7 @@ pub struct State {
     pub nodes: u32,
     pub free: u32,
     pub vacant: u32,
+    pub totals: View,
     pub deques: [Deque; MAX_WORKERS],
     pub frames: [Frame; MAX_FRAMES],
 }
@@ -134,6 +195,7 @@ impl State {
             nodes: 0,
             free: 0,
             vacant: 0,
+            totals: View::default(),
             deques: [Deque::EMPTY; MAX_WORKERS],
             frames: [Frame::default(); MAX_FRAMES],
         }
@@ -144,7 +206,7 @@ impl State {
     }
 }
 
-/// The state's words in the image's order: the five numbers, the deques, the frame records.
+/// The state's words in the image's order: the nine numbers, the deques, the frame records.
 #[derive(Clone, Debug, PartialEq, Eq)]
 pub struct Words {
     pub numbers: [u32; NUMBERS_WORDS],
@@ -153,6 +215,7 @@ pub struct Words {
 }
 
 pub fn to_words(state: &State) -> Words {
+    let [sum, min, multiplier, addend] = state.totals.words();
     let mut words = Words {
         numbers: [
             state.workers,
@@ -160,6 +223,10 @@ pub fn to_words(state: &State) -> Words {
             state.nodes,
             state.free,
             state.vacant,
+            sum,
+            min,
+            multiplier,
+            addend,
         ],
         deques: [0; DEQUES_WORDS],
         frames: [0; FRAMES_WORDS],
@@ -171,27 +238,57 @@ pub fn to_words(state: &State) -> Words {
     }
     let frames = words.frames.chunks_exact_mut(FRAME_WORDS);
     for (words, f) in frames.zip(&state.frames) {
-        words.copy_from_slice(&[
-            f.live,
-            f.parent,
-            f.depth,
-            f.outstanding,
-            f.suspended,
-            f.root,
-            f.returning,
-        ]);
+        words.copy_from_slice(&record(f));
     }
     words
 }
 
+/// The words of a frame place.
+pub fn record(f: &Frame) -> [u32; FRAME_WORDS] {
+    let [sum, min, multiplier, addend] = f.view.words();
+    [
+        f.live,
+        f.parent,
+        f.depth,
+        f.outstanding,
+        f.suspended,
+        f.root,
+        f.returning,
+        sum,
+        min,
+        multiplier,
+        addend,
+        f.younger,
+    ]
+}
+
+/// The frame place of these words.
+pub fn of_record(words: &[u32; FRAME_WORDS]) -> Frame {
+    let &[live, parent, depth, outstanding, suspended, root, returning, sum, min, multiplier, addend, younger] =
+        words;
+    Frame {
+        live,
+        parent,
+        depth,
+        outstanding,
+        suspended,
+        root,
+        returning,
+        view: View::of_words([sum, min, multiplier, addend]),
+        younger,
+    }
+}
+
 pub fn from_words(words: &Words) -> State {
-    let [workers, splitters, nodes, free, vacant] = words.numbers;
+    let [workers, splitters, nodes, free, vacant, totals @ ..] = words.numbers;
+    let (records, _) = words.frames.as_chunks();
     State {
         workers,
         splitters,
         nodes,
         free,
         vacant,
+        totals: View::of_words(totals),
         deques: array::from_fn(|worker| {
             let words = &words.deques[worker * DEQUE_WORDS..][..DEQUE_WORDS];
             Deque {
@@ -199,18 +296,7 @@ pub fn from_words(words: &Words) -> State {
                 places: array::from_fn(|place| words[1 + place]),
             }
         }),
-        frames: array::from_fn(|place| {
-            let words = &words.frames[place * FRAME_WORDS..][..FRAME_WORDS];
-            Frame {
-                live: words[0],
-                parent: words[1],
-                depth: words[2],
-                outstanding: words[3],
-                suspended: words[4],
-                root: words[5],
-                returning: words[6],
-            }
-        }),
+        frames: array::from_fn(|place| of_record(&records[place])),
     }
 }
 
@@ -251,6 +337,8 @@ pub fn start(workers: u32, values: &[u32], pool: &mut [u32]) -> (State, u32) {
     state.frames[0] = Frame {
         live: 1,
         parent: NONE,
+        view: View::IDENTITY,
+        younger: NONE,
         ..Frame::default()
     };
     state.deques[0].push(0);
@@ -364,10 +452,11 @@ enum Step {
     Sync(u32),
     Read(u32, u32),
     Write(u32, u32, u32),
+    Fold(u32, u32, u32),
 }
 
 impl Step {
-    /// None if the kind is not 1 to 6 or an unused field is not zero.
+    /// None if the kind is not 1 to 7 or an unused field is not zero.
     fn decode(kind: u32, worker: u32, field: u32, value: u32) -> Option<Step> {
         match (kind, field, value) {
             (SPAWN, 0, 0) => Some(Step::Spawn(worker)),
@@ -376,6 +465,7 @@ impl Step {
             (SYNC, 0, 0) => Some(Step::Sync(worker)),
             (READ, splitter, 0) => Some(Step::Read(worker, splitter)),
             (WRITE, splitter, value) => Some(Step::Write(worker, splitter, value)),
+            (FOLD, reducer, value) => Some(Step::Fold(worker, reducer, value)),
             _ => None,
         }
     }
@@ -419,6 +509,7 @@ impl<'a> Engine<'a> {
             Step::Sync(worker) => (104, self.sync(worker)?),
             Step::Read(worker, splitter) => (105, self.read(worker, splitter)?),
             Step::Write(worker, splitter, value) => (106, self.write(worker, splitter, value)?),
+            Step::Fold(worker, reducer, value) => (107, self.fold(worker, reducer, value)?),
         })
     }
 
@@ -442,6 +533,9 @@ impl<'a> Engine<'a> {
         if place == NONE {
             return Err(Refusal::FramesFull);
         }
+        if self.state.frames[bottom].outstanding > 0 {
+            self.relink(bottom as u32, NONE, place);
+        }
         let parent = &mut self.state.frames[bottom];
         parent.outstanding += 1;
         let child = Frame {
@@ -452,6 +546,8 @@ impl<'a> Engine<'a> {
             suspended: 0,
             root: parent.root,
             returning: 0,
+            view: mem::replace(&mut parent.view, View::IDENTITY),
+            younger: NONE,
         };
         self.retain(child.root);
         self.state.vacant = self.state.frames[place as usize].parent;
@@ -464,41 +560,106 @@ impl<'a> Engine<'a> {
     #[inline(always)]
     fn end(&mut self, worker: u32) -> Result<u32, Refusal> {
         let bottom = self.bottom(worker)?;
-        let frame = self.state.frames[bottom];
         self.state.deques[worker as usize].pop();
+        let frame = &mut self.state.frames[bottom];
         if frame.outstanding > 0 {
-            self.state.frames[bottom].suspended = 1;
-            self.state.frames[bottom].returning = 1;
+            frame.suspended = 1;
+            frame.returning = 1;
             return Ok(4);
         }
-        self.vacate(bottom as u32, frame.root);
-        if frame.parent == NONE {
-            self.main_lives = false;
+        let parent = self.vacate(bottom as u32);
+        if parent == NONE {
             return Ok(3);
         }
-        let parent = &mut self.state.frames[frame.parent as usize];
-        parent.outstanding -= 1;
         let deque = &mut self.state.deques[worker as usize];
         if deque.length > 0 {
             return Ok(0);
         }
-        if parent.suspended == 0 || parent.outstanding > 0 {
+        let above = &mut self.state.frames[parent as usize];
+        if above.suspended == 0 || above.outstanding > 0 {
             return Ok(1);
         }
-        if parent.returning == 1 {
-            return Ok(self.end_waiting(worker, frame.parent));
+        if above.returning == 1 {
+            return Ok(self.end_waiting(worker, parent));
         }
-        parent.suspended = 0;
-        deque.push(frame.parent);
+        above.suspended = 0;
+        deque.push(parent);
         Ok(2)
     }
 
-    /// Frees the place of a frame that has ended, and releases its tree.
+    /// A frame ends: its view joins the next one's, or becomes the totals, its place is free, and its tree is released. Its parent, or none.
     #[inline(always)]
-    fn vacate(&mut self, place: u32, root: u32) {
+    fn vacate(&mut self, place: u32) -> u32 {
+        let Frame {
+            parent, root, view, ..
+        } = self.state.frames[place as usize];
+        if parent == NONE {
+            self.main_lives = false;
+            self.state.totals = view;
+        } else {
+            self.leave(place, parent, view);
+        }
         self.state.frames[place as usize] = Frame::vacant(self.state.vacant);
         self.state.vacant = place;
         self.release(root);
+        parent
+    }
+
+    /// An only child's view joins its parent's.
+    #[inline(always)]
+    fn leave(&mut self, place: u32, parent: u32, view: View) {
+        let above = &mut self.state.frames[parent as usize];
+        above.outstanding -= 1;
+        if above.outstanding > 0 {
+            self.leave_siblings(place);
+        } else {
+            above.view = view.join(above.view);
+        }
+    }
+
+    /// The next one in the order of the live frames is the first of the next younger sibling and all below it, or the parent after the
+    /// youngest child.
+    #[inline(never)]
+    fn leave_siblings(&mut self, place: u32) {
+        let Frame {
+            parent,
+            younger,
+            view,
+            ..
+        } = self.state.frames[place as usize];
+        self.relink(parent, place, younger);
+        let next = match younger {
+            NONE => parent,
+            _ => self.first_from(younger),
+        };
+        let next = &mut self.state.frames[next as usize];
+        next.view = view.join(next.view);
+    }
+
+    /// The live child of this parent that names `old` as its next younger sibling, if there is one, names `new` instead.
+    #[inline(never)]
+    fn relink(&mut self, parent: u32, old: u32, new: u32) {
+        let mut frames = self.state.frames.iter_mut();
+        let elder = frames.find(|f| f.live == 1 && f.parent == parent && f.younger == old);
+        if let Some(elder) = elder {
+            elder.younger = new;
+        }
+    }
+
+    /// Down the eldest children.
+    fn first_from(&self, mut place: u32) -> u32 {
+        while self.state.frames[place as usize].outstanding > 0 {
+            place = self.eldest(place);
+        }
+        place
+    }
+
+    /// The eldest live child: of the children's places and the links between them, the last of which is none, all but this place and none
+    /// come twice.
+    fn eldest(&self, parent: u32) -> u32 {
+        let frames = (0..).zip(&self.state.frames);
+        let children = frames.filter(|(_, f)| f.live == 1 && f.parent == parent);
+        children.fold(NONE, |rest, (place, f)| rest ^ place ^ f.younger)
     }
 
     /// Ends frames that wait as returning, from this one upward, each after its last child; the worker's deque is empty.
@@ -506,14 +667,11 @@ impl<'a> Engine<'a> {
     #[inline(never)]
     fn end_waiting(&mut self, worker: u32, mut ending: u32) -> u32 {
         loop {
-            let Frame { parent, root, .. } = self.state.frames[ending as usize];
-            self.vacate(ending, root);
+            let parent = self.vacate(ending);
             if parent == NONE {
-                self.main_lives = false;
                 return 3;
             }
             let above = &mut self.state.frames[parent as usize];
-            above.outstanding -= 1;
             if above.suspended == 0 || above.outstanding > 0 {
                 return 1;
             }
@@ -600,6 +758,20 @@ impl<'a> Engine<'a> {
             self.nodes[above as usize][LEFT + (splitter >> level & 1) as usize] = new;
         }
         Ok(self.free_nodes)
+    }
+
+    /// For the affine map the value divided by 65,536 is the multiplier and its remainder the addend.
+    #[inline(always)]
+    fn fold(&mut self, worker: u32, reducer: u32, value: u32) -> Result<u32, Refusal> {
+        let bottom = self.bottom(worker)?;
+        let view = &mut self.state.frames[bottom].view;
+        match reducer {
+            SUM => view.sum = view.sum.wrapping_add(value),
+            MIN => view.min = view.min.min(value),
+            AFFINE => *view = view.then(value >> 16, value & 0xFFFF),
+            _ => return Err(Refusal::UnknownReducer),
+        }
+        Ok(0)
     }
 
     /// A new path from a node of this level to the splitter, beside the old siblings; its first node.
@@ -732,6 +904,7 @@ fn deque_sound(state: &State, deque: &Deque, queued: &mut u64) -> bool {
 
 fn live_frames_sound(state: &State, queued: u64) -> bool {
     let mut children = [0; MAX_FRAMES];
+    let mut eldest = [NONE; MAX_FRAMES];
     let (mut live, mut mains) = (0, 0);
     for (number, frame) in state.frames.iter().enumerate() {
         match (frame.live, frame.suspended, queued >> number & 1) {
@@ -743,7 +916,7 @@ fn live_frames_sound(state: &State, queued: u64) -> bool {
         live += 1;
         if frame.depth == 0 {
             mains += 1;
-            if frame.parent != NONE {
+            if frame.parent != NONE || frame.younger != NONE {
                 return false;
             }
             continue;
@@ -753,12 +926,26 @@ fn live_frames_sound(state: &State, queued: u64) -> bool {
             _ => return false,
         }
         children[frame.parent as usize] += 1;
+        eldest[frame.parent as usize] ^= number as u32 ^ frame.younger;
     }
-    let counts_right = children
-        .iter()
-        .zip(&state.frames)
-        .all(|(&count, frame)| frame.live == 0 || frame.outstanding == count);
-    mains == live.min(1) && counts_right
+    let mut frames = (0..).zip(&state.frames).zip(children.iter().zip(&eldest));
+    let children_right = frames.all(|((number, frame), (&count, &eldest))| {
+        frame.live == 0
+            || frame.outstanding == count && siblings_chained(state, number, count, eldest)
+    });
+    mains == live.min(1) && children_right && (live == 0 || state.totals == View::default())
+}
+
+/// A chain that ends after as many steps as the frame has live children, through these only, holds each of them once.
+fn siblings_chained(state: &State, parent: u32, count: u32, eldest: u32) -> bool {
+    let mut next = eldest;
+    for _ in 0..count {
+        match state.frames.get(next as usize) {
+            Some(frame) if frame.live == 1 && frame.parent == parent => next = frame.younger,
+            _ => return false,
+        }
+    }
+    next == NONE
 }
 
 /// A chain that ends after as many steps as there are free places, through free places only, holds each of them once.

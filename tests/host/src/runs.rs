@@ -1,9 +1,11 @@
 //! Seeded random runs: a start, then steps and tapes, each call made on both sides with what the call before left.
 
 use crate::call::{Call, Entry, Outcome};
+use crate::family::Family;
 use crate::parts::Parts;
 use crate::plain::{self, Refusal, State, MAX_NODES, RECORD_BYTES, WRITE};
 use crate::random::Random;
+use crate::replay;
 use crate::sentences;
 use crate::session::{Failure, Session};
 use crate::sharing::{self, Case};
@@ -14,12 +16,13 @@ const POOL_FULL: u32 = Refusal::PoolFull as u32;
 const WRITTEN: u32 = 106;
 const SIZES: [usize; 12] = [1, 2, 3, 5, 7, 8, 16, 31, 64, 100, 255, 256];
 
-/// The run of one seed: three of twelve are aimed at R-2's cases, two at R-3's.
+/// The run of one seed: three of twelve are aimed at R-2's cases, two at R-3's, three at R-5's.
 pub fn run(seed: u64, session: &mut Session) -> Result<(), Failure> {
     let random = Random::new(seed);
     match random.below(12) {
         0..3 => aimed(random, session),
         3 | 4 => chained(random, session),
+        5..8 => families(random, session),
         _ => mixed(random, session),
     }
 }
@@ -78,6 +81,28 @@ fn chained(random: Random, session: &mut Session) -> Result<(), Failure> {
                 sketch.push(driver.next(&sketch.state, random));
             }
             sketch.chain(random.pick(&[1, 2, 3, 4, 7, 20, 63]));
+        };
+        if run.random.one_in(4) {
+            run.make_steps(session, draw)?;
+        } else {
+            run.make_tape(session, draw)?;
+        }
+    }
+    run.end(session)
+}
+
+/// Frames with several live children, folds by all of them, ends in any order.
+fn families(random: Random, session: &mut Session) -> Result<(), Failure> {
+    let Some(mut run) = Run::begin(starting_wide(&random), random, session)? else {
+        return Ok(());
+    };
+    for _ in 0..1 + run.random.below(6) {
+        run.vary_pool();
+        let draw = |sketch: &mut Sketch, driver: &mut Driver, random: &Random| {
+            for _ in 0..random.below(12) {
+                sketch.push(driver.next(&sketch.state, random));
+            }
+            sketch.family();
         };
         if run.random.one_in(4) {
             run.make_steps(session, draw)?;
@@ -175,6 +200,7 @@ fn nodes_for(splitters: usize, random: &Random) -> usize {
 struct Run {
     state: Parts,
     pool: Vec<u32>,
+    family: Family,
     driver: Driver,
     random: Random,
 }
@@ -186,6 +212,7 @@ impl Run {
         let run = Run {
             state: after.state,
             pool: after.pool,
+            family: Family::of_main(),
             driver: Driver::new(12, 30),
             random,
         };
@@ -200,6 +227,7 @@ impl Run {
                 go_home(live + 4, sketch, driver, random)
             })?;
         }
+        session.families.end_run(&self.family);
         Ok(())
     }
 
@@ -209,8 +237,12 @@ impl Run {
         if matches!(after.result[0], 0 | POOL_FULL | WRITTEN) {
             cases.iter().for_each(|case| session.sharing.add(case));
         }
-        session.waits.add(call, &after);
-        self.adopt(after)
+        replay::each(call, &after, |taken| {
+            session.waits.count(&taken);
+            self.family.take(&taken, &mut session.families);
+        });
+        self.adopt(after)?;
+        self.family.check(&self.typed())
     }
 
     /// A tape of what is sketched.

@@ -1,6 +1,6 @@
-//! Document 01's "Soundness", with what of document 02 ask, sentence by sentence, over the words of a state and a pool: for
-//! clarity, not for speed. It shares nothing with plain.rs. Every sentence can be asked of every state, so that one can tell which ones are
-//! broken.
+//! Document 01's "Soundness", with what of document 02 ask, sentence by sentence, over the words of a state and a pool:
+//! for clarity, not for speed. It shares nothing with plain.rs. Every sentence can be asked of every state, so that one can tell which
+//! ones are broken.
 
 use crate::parts::Parts;
 use std::collections::{HashMap, HashSet};
@@ -8,9 +8,9 @@ use std::collections::{HashMap, HashSet};
 const NONE: u32 = 4_294_967_295;
 const FRAMES: usize = 64;
 
-/// R-1's layout with R-3's word: 5 numbers, 8 deques of 65 words, 64 frame records of 7 words.
+/// R-1's layout with R-3's and R-5's words: 5 numbers and 4 totals, 8 deques of 65 words, 64 frame records of 12 words.
 const DEQUE_WORDS: usize = 65;
-const FRAME_WORDS: usize = 7;
+const FRAME_WORDS: usize = 12;
 
 /// A sentence and what it asks.
 pub struct Sentence {
@@ -18,7 +18,7 @@ pub struct Sentence {
     holds: fn(&Pair) -> bool,
 }
 
-pub const SENTENCES: [Sentence; 19] = [
+pub const SENTENCES: [Sentence; 22] = [
     Sentence {
         text: "workers are 1 to 8",
         holds: workers_are_1_to_8,
@@ -95,6 +95,18 @@ pub const SENTENCES: [Sentence; 19] = [
         text: "free frame places are zero and once on their chain",
         holds: free_places_are_chained,
     },
+    Sentence {
+        text: "the totals are zero while Main lives",
+        holds: totals_are_zero,
+    },
+    Sentence {
+        text: "links chain the live children of each frame, each once",
+        holds: links_chain_the_children,
+    },
+    Sentence {
+        text: "Main's link is none",
+        holds: mains_link_is_none,
+    },
 ];
 
 /// The numbers of the sentences that are broken, as indexes of SENTENCES. Sound means none.
@@ -113,6 +125,9 @@ struct Frame {
     suspended: u32,
     root: u32,
     returning: u32,
+    /// The four view words.
+    view: [u32; 4],
+    next_younger: u32,
 }
 
 struct Node {
@@ -129,6 +144,7 @@ struct Pair {
     recorded_nodes: u32,
     first_free_node: u32,
     first_free_place: u32,
+    totals: [u32; 4],
     /// Each deque's recorded length.
     lengths: Vec<u32>,
     /// Each deque's frames, from the top.
@@ -153,6 +169,7 @@ impl Pair {
             recorded_nodes: numbers[2],
             first_free_node: numbers[3],
             first_free_place: numbers[4],
+            totals: [numbers[5], numbers[6], numbers[7], numbers[8]],
             lengths: deques.iter().map(|deque| deque[0]).collect(),
             queued: deques.iter().map(|d| d[1..end(d)].to_vec()).collect(),
             past: deques.iter().map(|d| d[end(d)..].to_vec()).collect(),
@@ -217,6 +234,8 @@ fn read_frames(words: &[u32]) -> Vec<Frame> {
         suspended: record[4],
         root: record[5],
         returning: record[6],
+        view: [record[7], record[8], record[9], record[10]],
+        next_younger: record[11],
     };
     records.map(read).collect()
 }
@@ -448,15 +467,41 @@ fn free_places_are_chained(pair: &Pair) -> bool {
             suspended,
             root,
             returning,
+            view,
+            next_younger,
             ..
         } = *frame;
-        [depth, outstanding, suspended, root, returning] == [0; 5]
+        let others = [depth, outstanding, suspended, root, returning, next_younger];
+        others == [0; 6] && view == [0; 4]
     };
     let all_zero = free
         .iter()
         .all(|&place| pair.frame(place).is_some_and(is_zero));
     let next = |place| pair.frame(place).map(|frame| frame.parent);
     all_zero && chained_once(pair.first_free_place, next) == Some(free)
+}
+
+/// "the four totals ... zero while Main lives"; "Soundness asks for those zeros" (document 02, R-5)
+fn totals_are_zero(pair: &Pair) -> bool {
+    pair.live_frames().count() == 0 || pair.totals == [0; 4]
+}
+
+/// "these links chain the live children of each frame, each once" (document 02, R-5): from one of them, the links lead to all of them.
+fn links_chain_the_children(pair: &Pair) -> bool {
+    let next = |number| pair.frame(number).map(|frame| frame.next_younger);
+    pair.live_frames().all(|(parent, _)| {
+        let children = pair.children(parent);
+        let all: HashSet<u32> = children.iter().copied().collect();
+        let chains_all = |&first: &u32| chained_once(first, next).as_ref() == Some(&all);
+        all.is_empty() || children.iter().any(chains_all)
+    })
+}
+
+/// "Main's being none" (document 02, R-5)
+fn mains_link_is_none(pair: &Pair) -> bool {
+    pair.live_frames()
+        .filter(|(_, frame)| frame.depth == 0)
+        .all(|(_, frame)| frame.next_younger == NONE)
 }
 
 /// What lies on a chain, if it ends with none and nothing lies on it twice.

@@ -1,6 +1,7 @@
 //! A comparison under way: makes each call on both sides and stops at the first difference.
 
 use crate::call::{Call, Entry, Outcome};
+use crate::family;
 use crate::plain::RECORD_BYTES;
 use crate::record::Recorder;
 use crate::sharing::Sharing;
@@ -17,6 +18,7 @@ pub struct Session {
     pub tally: Tally,
     pub sharing: Sharing,
     pub waits: Waits,
+    pub families: family::Counts,
     pub calls: u64,
     pub records: u64,
 }
@@ -29,6 +31,7 @@ impl Session {
             tally: Tally::default(),
             sharing: Sharing::default(),
             waits: Waits::default(),
+            families: family::Counts::default(),
             calls: 0,
             records: 0,
         }

@@ -42,7 +42,7 @@ impl<'a> Sketch<'a> {
     /// Takes the step, cut to a record's fields; whether it was accepted.
     pub fn push(&mut self, step: StepWords) -> bool {
         let record = steps::record(step);
-        let step = cut(record);
+        let step = steps::words(record);
         let case = Case::of(step, &self.state, &self.pool, self.free_nodes);
         let mut answer = [0; 2];
         self.free_nodes = plain::run_tape(
@@ -116,6 +116,9 @@ impl<'a> Sketch<'a> {
         for _ in 0..length {
             self.push([SPAWN, worker, 0, 0]);
             if random.one_in(3) {
+                self.push(steps::fold(worker, random));
+            }
+            if random.one_in(3) {
                 self.push([
                     WRITE,
                     worker,
@@ -130,6 +133,56 @@ impl<'a> Sketch<'a> {
             self.leave(thief);
         }
         Some(worker)
+    }
+
+    /// A frame with several children, each on a worker of its own: an idle worker steals the frame, spawns, and so on, with folds between.
+    /// Then steps of all of them, and the ends of some, in any order.
+    pub fn family(&mut self) {
+        let random = self.random;
+        let Some(mut worker) = self.busy_worker() else {
+            return;
+        };
+        for _ in 0..3 + random.below(6) {
+            self.fold_often(worker);
+            self.push([SPAWN, worker, 0, 0]);
+            let Some(thief) = self.idle_worker() else {
+                break;
+            };
+            self.push([STEAL, thief, worker, 0]);
+            worker = thief;
+        }
+        for _ in 0..random.below(40) {
+            self.step_of_a_family();
+        }
+    }
+
+    fn fold_often(&mut self, worker: u32) {
+        while self.random.below(5) < 3 {
+            self.push(steps::fold(worker, self.random));
+        }
+    }
+
+    fn step_of_a_family(&mut self) {
+        let random = self.random;
+        let Some(worker) = self.busy_worker() else {
+            return;
+        };
+        match random.below(20) {
+            0..9 => self.fold_often(worker),
+            9..12 => {
+                self.end_a_child();
+            }
+            12 | 13 => {
+                self.push([SPAWN, worker, 0, 0]);
+            }
+            14 => {
+                self.push([SYNC, worker, 0, 0]);
+            }
+            15 => self.leave(worker),
+            _ => {
+                self.push(steps::plausible(&self.state, STEAL, random));
+            }
+        }
     }
 
     /// The thief's frame, which has a child elsewhere, waits as returning, or something else happens to it.
@@ -224,14 +277,4 @@ impl<'a> Sketch<'a> {
         self.push([WRITE, worker, splitter, value]);
         true
     }
-}
-
-/// What a record keeps of a step's words.
-fn cut([kind, worker, f0, f1, v0, v1, v2, v3]: [u8; 8]) -> StepWords {
-    [
-        kind.into(),
-        worker.into(),
-        u16::from_le_bytes([f0, f1]).into(),
-        u32::from_le_bytes([v0, v1, v2, v3]),
-    ]
 }

@@ -3,13 +3,15 @@
 use crate::base;
 use crate::call::{Call, Entry, Outcome};
 use crate::corrupt::{self, Expected, Pair, KINDS};
+use crate::order;
 use crate::parts::Parts;
-use crate::plain::{Refusal, SPAWN, STATE_WORDS, WRITE};
+use crate::plain::{Refusal, State, NONE, RETURN, SPAWN, STATE_WORDS, WRITE};
 use crate::random::Random;
+use crate::replay;
 use crate::sentences::{self, SENTENCES};
 use crate::session::{Failure, Session};
 use crate::sharing::Case;
-use crate::steps;
+use crate::steps::{self, StepWords};
 
 /// Pairs made from one base: as many as are judged under one seed.
 pub const PER_SEED: usize = 40;
@@ -32,6 +34,29 @@ pub struct Counts {
     /// several places of its tree.
     pub writes: [u64; 3],
     pub beside_itself: u64,
+    /// From sound pairs: returns of a frame that has its parent above it and a younger sibling, which no run leads to; spawns by a frame
+    /// with a live child.
+    pub younger_within: u64,
+    pub further_children: u64,
+}
+
+impl Counts {
+    fn count_family(&mut self, state: &State, [kind, worker, ..]: StepWords) {
+        let within = kind == RETURN && younger_within(state, worker);
+        let deque = state.deques.get(worker as usize);
+        let bottom = deque.and_then(|deque| deque.bottom());
+        let outstanding = bottom.map_or(0, |place| state.frames[place as usize].outstanding);
+        self.younger_within += u64::from(within);
+        self.further_children += u64::from(kind == SPAWN && outstanding > 0);
+    }
+}
+
+/// Whether the worker's bottom frame has its parent above it in the deque and a younger sibling.
+fn younger_within(state: &State, worker: u32) -> bool {
+    let deque = state.deques.get(worker as usize);
+    let deque = deque.filter(|deque| deque.length > 1);
+    let bottom = deque.and_then(|deque| deque.bottom());
+    bottom.is_some_and(|place| state.frames[place as usize].younger != NONE)
 }
 
 impl Default for Counts {
@@ -42,6 +67,8 @@ impl Default for Counts {
             turns: [0; STATE_WORDS],
             writes: [0; 3],
             beside_itself: 0,
+            younger_within: 0,
+            further_children: 0,
         }
     }
 }
@@ -164,7 +191,7 @@ fn expect_agreement(broken: &[usize], expected: Expected, result: u32) -> Result
     )
 }
 
-/// One likely step from a sound pair, every other one a write; what it leaves must be sound.
+/// One likely step from a sound pair, often a write or a return; what it leaves must be sound.
 fn go_on(
     call: Call,
     pair: &Pair,
@@ -172,12 +199,17 @@ fn go_on(
     session: &mut Session,
     counts: &mut Counts,
 ) -> Result<(), Failure> {
-    let kind = if random.one_in(2) {
-        WRITE
-    } else {
-        SPAWN + random.word_below(6)
+    let kind = match random.below(6) {
+        0 | 1 => WRITE,
+        2 => RETURN,
+        _ => SPAWN + random.word_below(7),
     };
-    let step = steps::plausible(&pair.state, kind, random);
+    let within = (0..pair.state.workers).find(|&worker| younger_within(&pair.state, worker));
+    let step = match within {
+        Some(worker) if random.one_in(2) => [RETURN, worker, 0, 0],
+        _ => steps::plausible(&pair.state, kind, random),
+    };
+    counts.count_family(&pair.state, step);
     if let Some(case) = Case::of(step, &pair.state, &pair.pool, 0) {
         counts.writes[case.part()] += 1;
         let alone = pair.live().len() == 1;
@@ -189,5 +221,12 @@ fn go_on(
     };
     let after = session.both(&step)?;
     let broken = sentences::broken(&after.state, &after.pool);
-    expect(broken.is_empty(), "a step left an unsound state")
+    expect(broken.is_empty(), "a step left an unsound state")?;
+    let mut ordered = Ok(());
+    replay::each(&step, &after, |taken| {
+        if taken.accepted() {
+            ordered = order::check(&taken);
+        }
+    });
+    ordered
 }

@@ -1,25 +1,28 @@
 //! Random steps that suit a state, and spoilt ones.
 
-use crate::plain::{State, MAX_WORKERS, NONE, READ, RETURN, SPAWN, STEAL, SYNC, WRITE};
+use crate::plain::{
+    State, FOLD, MAX_WORKERS, NONE, READ, RETURN, SPAWN, STEAL, SYNC, WRITE,
+};
 use crate::random::Random;
 
 /// Kind, worker, field, value.
 pub type StepWords = [u32; 4];
 
-/// What a run is bent on for a while: the weights of spawn, return, steal, sync, read and write.
-const MOODS: [[usize; 6]; 7] = [
-    [60, 2, 15, 3, 5, 15],
-    [90, 1, 1, 1, 2, 5],
-    [25, 8, 35, 12, 5, 15],
-    [5, 3, 5, 2, 15, 70],
-    [2, 45, 15, 25, 5, 8],
-    [10, 10, 10, 10, 10, 10],
-    [15, 35, 40, 4, 2, 4],
+/// What a run is bent on for a while: the weights of spawn, return, steal, sync, read, write and fold.
+const MOODS: [[usize; 7]; 8] = [
+    [60, 2, 15, 3, 5, 15, 10],
+    [90, 1, 1, 1, 2, 5, 10],
+    [25, 8, 35, 12, 5, 15, 10],
+    [5, 3, 5, 2, 15, 70, 5],
+    [2, 45, 15, 25, 5, 8, 10],
+    [10, 10, 10, 10, 10, 10, 10],
+    [15, 35, 40, 4, 2, 4, 10],
+    [25, 12, 50, 2, 1, 2, 40],
 ];
 
 /// Makes one step after another; its mood changes now and then.
 pub struct Driver {
-    mood: [usize; 6],
+    mood: [usize; 7],
     left: usize,
     /// One step in so many is spoilt.
     spoilt_in: usize,
@@ -61,7 +64,7 @@ fn ends_main(state: &State, [kind, worker, ..]: StepWords) -> bool {
     kind == RETURN && bottom.is_some_and(|frame| state.frames[frame as usize].parent == NONE)
 }
 
-fn weighted(weights: &[usize; 6], random: &Random) -> u32 {
+fn weighted(weights: &[usize; 7], random: &Random) -> u32 {
     let mut left = random.below(weights.iter().sum());
     for (kind, &weight) in (SPAWN..).zip(weights) {
         if left < weight {
@@ -69,7 +72,7 @@ fn weighted(weights: &[usize; 6], random: &Random) -> u32 {
         }
         left -= weight;
     }
-    WRITE
+    FOLD
 }
 
 /// A step of this kind that the state is likely to accept.
@@ -89,13 +92,33 @@ pub fn plausible(state: &State, kind: u32, random: &Random) -> StepWords {
     let field = match kind {
         STEAL => victim(state, random),
         READ | WRITE => random.word_below(state.splitters.max(1)),
+        FOLD => random.pick(&[0, 1, 2, 2]),
         _ => 0,
     };
     let value = match kind {
         WRITE => random.word() >> random.word_below(32),
+        FOLD => folded_value(field, random),
         _ => 0,
     };
     [kind, worker, field, value]
+}
+
+/// A fold by the worker. A map that multiplies by an even number loses what was before it, bit by bit, so most multipliers are odd.
+pub fn fold(worker: u32, random: &Random) -> StepWords {
+    let reducer = random.pick(&[0, 1, 2, 2]);
+    [FOLD, worker, reducer, folded_value(reducer, random)]
+}
+
+fn folded_value(reducer: u32, random: &Random) -> u32 {
+    let word = random.word();
+    match (reducer, random.below(20)) {
+        (2, 0) => word & 0xFFFF,
+        (2, 1) => 1 << 16,
+        (2, 2) => word,
+        (2, _) => word | 1 << 16,
+        (_, 0) => u32::MAX,
+        _ => word >> random.word_below(32),
+    }
 }
 
 fn suits(state: &State, kind: u32, worker: u32) -> bool {
@@ -121,9 +144,9 @@ fn victim(state: &State, random: &Random) -> u32 {
 
 /// The same step with something wrong, or likely to be. Bits beyond a record's fields are lost on a tape, but not from outside.
 fn spoil([kind, worker, field, value]: StepWords, state: &State, random: &Random) -> StepWords {
-    match random.below(9) {
+    match random.below(10) {
         0 => {
-            let kinds = [0, 7, 8, 255, kind + 256, kind | 1 << 31, u32::MAX];
+            let kinds = [0, 8, 9, 255, kind + 256, kind | 1 << 31, u32::MAX];
             [random.pick(&kinds), worker, field, value]
         }
         1 => [
@@ -150,6 +173,10 @@ fn spoil([kind, worker, field, value]: StepWords, state: &State, random: &Random
             [kind, worker, random.pick(&fields), value]
         }
         7 => [random.pick(&[RETURN, SYNC, SPAWN]), worker, 0, 0],
+        8 => {
+            let fields = [3, 4, 255, 256, 65_535, 65_536, u32::MAX, 1 << 31];
+            [FOLD, worker, random.pick(&fields), random.word()]
+        }
         _ => [random.word(), random.word(), random.word(), random.word()],
     }
 }
@@ -162,6 +189,16 @@ pub fn homeward(state: &State) -> StepWords {
     };
     let deepest = (0..state.workers).max_by_key(depth).unwrap_or(0);
     [RETURN, deepest, 0, 0]
+}
+
+/// What a record keeps of a step's words.
+pub fn words([kind, worker, f0, f1, v0, v1, v2, v3]: [u8; 8]) -> StepWords {
+    [
+        kind.into(),
+        worker.into(),
+        u16::from_le_bytes([f0, f1]).into(),
+        u32::from_le_bytes([v0, v1, v2, v3]),
+    ]
 }
 
 /// A record's bytes.

@@ -3,7 +3,7 @@
 use std::collections::BTreeMap;
 
 /// Everything that a full comparison must have met. Returns and syncs are told apart by their outcomes.
-const EVENTS: [(u32, u32); 27] = [
+const EVENTS: [(u32, u32); 29] = [
     (1, 0),
     (2, 0),
     (3, 0),
@@ -19,6 +19,7 @@ const EVENTS: [(u32, u32); 27] = [
     (13, 0),
     (15, 0),
     (16, 0),
+    (20, 0),
     (99, 0),
     (101, 0),
     (102, 0),
@@ -31,6 +32,7 @@ const EVENTS: [(u32, u32); 27] = [
     (104, 1),
     (105, 0),
     (106, 0),
+    (107, 0),
 ];
 
 #[derive(Default)]

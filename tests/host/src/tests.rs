@@ -1,6 +1,7 @@
-//! Document 01's example and edges, as change them, through plain.rs and the library, and the sentences on states corrupted by
-//! hand.
+//! Document 01's example and edges, as change them, through plain.rs and the library, and the sentences on states
+//! corrupted by hand.
 
+mod reducers;
 mod waiting;
 
 use crate::call::{Call, Entry, Outcome, BAD_STATE};
@@ -382,7 +383,7 @@ fn broken(change: fn(&mut Parts, &mut [u32])) -> Vec<&'static str> {
 /// Word 0 of a worker's deque, of a frame record, of a node.
 const DEQUE_1: usize = 65;
 const FRAME_0: usize = 0;
-const FRAME_1: usize = 7;
+const FRAME_1: usize = 12;
 const NODE_3: usize = 12;
 const NODE_7: usize = 28;
 

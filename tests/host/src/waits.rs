@@ -1,7 +1,7 @@
 //! R-3's cases: returns that wait for a child, and how many frames one return ends. Counted are the accepted returns of the runs.
 
-use crate::call::{Call, Entry, Outcome};
-use crate::plain::{self, State, NONE, RECORD_BYTES, RETURN};
+use crate::plain::{self, State, NONE, RETURN};
+use crate::replay::Taken;
 use std::collections::BTreeMap;
 
 const RETURNED: u32 = 102;
@@ -26,37 +26,10 @@ pub struct Waits {
 }
 
 impl Waits {
-    /// Counts a step, or a tape's records, which are taken again one by one.
-    pub fn add(&mut self, call: &Call, after: &Outcome) {
-        let Some(before) = call.state.state() else {
-            return;
-        };
-        match &call.entry {
-            &Entry::Step([kind, worker, ..]) => {
-                if let Some(state) = after.state.state() {
-                    self.count(kind, worker, &before, after.result, &state);
-                }
-            }
-            Entry::Tape { bytes, .. } if after.result[0] == 0 => {
-                self.replay(before, &call.pool, bytes)
-            }
-            _ => {}
-        }
-    }
-
-    fn replay(&mut self, mut state: State, pool: &[u32], bytes: &[u8]) {
-        let (mut pool, mut work) = (pool.to_vec(), vec![0; state.nodes as usize]);
-        let mut free_nodes = plain::sound(&state, &pool, &mut work).unwrap_or(0);
-        for record in bytes.chunks_exact(RECORD_BYTES) {
-            let before = state.clone();
-            let mut answer = [0; 2];
-            free_nodes = plain::run_tape(&mut state, free_nodes, &mut pool, record, &mut answer);
-            self.count(record[0].into(), record[1].into(), &before, answer, &state);
-        }
-    }
-
-    fn count(&mut self, kind: u32, worker: u32, before: &State, answer: [u32; 2], after: &State) {
-        let [first, outcome] = answer;
+    /// Counts a step.
+    pub fn count(&mut self, taken: &Taken) {
+        let Taken { before, after, .. } = taken;
+        let ([kind, worker, ..], [first, outcome]) = (taken.step, taken.answer);
         let is_main = |frame: &&plain::Frame| frame.live == 1 && frame.parent == NONE;
         let main = before.frames.iter().find(is_main);
         let main_waits = main.is_some_and(|main| main.returning == 1);

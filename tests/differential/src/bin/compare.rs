@@ -1,14 +1,16 @@
 //! The differential test: `compare PROGRAM [--runs 3000] [--seed S]` runs
 //! PROGRAM (splitrun) on document 01's edges and on seeded inputs, beside the
-//! copying machine, and sees demand 3 from outside.
+//! copying machine, and sees demand 3 and R-5's totals from outside.
 
 use differential::demand3::{self, Run};
 use differential::machine::Counting;
+use differential::orders::Shown;
 use differential::program::Program;
+use differential::random::Random;
 use differential::record::RECORD_BYTES;
 use differential::splitrun::{self, Input};
 use differential::tally::{self, Tally};
-use differential::{edges, generate, transcript};
+use differential::{edges, generate, schedules, transcript};
 use std::path::PathBuf;
 use std::process::ExitCode;
 use std::time::Instant;
@@ -18,6 +20,9 @@ PROGRAM is the path of an executable that reads splitrun's input.";
 
 /// From so many on, every case of a write must have been met at every n.
 const ENOUGH_RUNS: u64 = 3_000;
+
+/// One run in so many that ended Main is made again under another schedule.
+const RESCHEDULED_ONE_IN: usize = 3;
 
 struct Options {
     program: PathBuf,
@@ -74,8 +79,10 @@ fn compare(options: &Options) -> bool {
     }
     let seen = events_seen(&edge_tally, &random.tally);
     let waited = returns_waited(&random.tally);
+    let large = families_seen(&random.tally);
+    let shown = wrong_rules_shown(&random.shown);
     let written = writes_at_every_n(&random.tally, options.runs);
-    seen && waited && written
+    seen && waited && large && shown && written
 }
 
 /// Every event of the table occurred in both columns.
@@ -94,6 +101,26 @@ fn returns_waited(random: &Tally) -> bool {
     println!("random: {line}");
     if !met {
         println!("too few returns wait, or a chain's stop was never seen in the random runs");
+    }
+    met
+}
+
+/// Enough random runs had three live siblings or more.
+fn families_seen(random: &Tally) -> bool {
+    let (line, met) = random.families.line();
+    println!("random: {line}");
+    if !met {
+        println!("too few random runs have so many");
+    }
+    met
+}
+
+/// Each wrong rule for views would show in enough random runs.
+fn wrong_rules_shown(shown: &Shown) -> bool {
+    let (lines, met) = shown.lines();
+    print!("random: {lines}");
+    if !met {
+        println!("a wrong rule shows in too few random runs");
     }
     met
 }
@@ -176,6 +203,10 @@ struct RandomRuns<'a> {
     homes: usize,
     waited: usize,
     too_long: usize,
+    shown: Shown,
+    rescheduled: usize,
+    /// Schedules at which no frame could go on, or that are too long.
+    given_up: usize,
 }
 
 impl<'a> RandomRuns<'a> {
@@ -188,6 +219,9 @@ impl<'a> RandomRuns<'a> {
             homes: 0,
             waited: 0,
             too_long: 0,
+            shown: Shown::default(),
+            rescheduled: 0,
+            given_up: 0,
         }
     }
 
@@ -207,6 +241,11 @@ impl<'a> RandomRuns<'a> {
              run)",
             options.runs, self.homes, self.records, self.waited, self.too_long
         );
+        println!(
+            "random: the frames' steps of {} runs again under another schedule, with the same \
+             reads and totals ({} schedules given up)",
+            self.rescheduled, self.given_up
+        );
         true
     }
 
@@ -216,17 +255,27 @@ impl<'a> RandomRuns<'a> {
         let expected = splitrun::watched_output(&bytes, self.counting, &mut watch);
         let output = expect(self.program, &bytes, &expected)?;
         self.tally.add(&output);
+        if output.contains("\nfree ") {
+            self.tally.families.end_run();
+        }
         if !demand3::main_has_returned(&output) {
             return Ok(());
         }
         let input = Input::parse(&bytes).ok_or("a run of an unfit input")?;
         self.homes += 1;
         self.records += input.tape.len() / RECORD_BYTES;
-        self.see_demand_3(&input, &output)
+        let run = Run::observe(&input, &output)?;
+        self.see_demand_3(&run, &input)?;
+        if let Some(totals) = run.reduced() {
+            self.shown.add(run.events(), totals);
+        }
+        if self.homes.is_multiple_of(RESCHEDULED_ONE_IN) {
+            self.see_rescheduled(&run, &input, seed)?;
+        }
+        Ok(())
     }
 
-    fn see_demand_3(&mut self, input: &Input, output: &str) -> Result<(), String> {
-        let run = Run::observe(input, output)?;
+    fn see_demand_3(&mut self, run: &Run, input: &Input) -> Result<(), String> {
         self.waited += run.waited();
         let Some(one_worker_input) = run.one_worker_input(input) else {
             self.too_long += 1;
@@ -235,11 +284,34 @@ impl<'a> RandomRuns<'a> {
         let bytes = one_worker_input.to_bytes();
         let one_worker_output = self.program.output(&bytes)?;
         Run::observe(&one_worker_input, &one_worker_output)
-            .and_then(|one_worker| demand3::check(input.nodes, &run, &one_worker))
+            .and_then(|one_worker| demand3::check(input.nodes, run, &one_worker))
             .map_err(|reason| {
-                let expected = splitrun::output(&bytes, self.counting);
-                let lines = transcript::difference(&bytes, &expected, &one_worker_output);
+                let lines = self.lines(&bytes, &one_worker_output);
                 format!("demand 3: {reason}\nthe one-worker run:\n{lines}")
             })
+    }
+
+    /// The same frames' steps under another schedule.
+    fn see_rescheduled(&mut self, run: &Run, input: &Input, seed: u64) -> Result<(), String> {
+        let other = schedules::reschedule(run, input, &mut Random::new(!seed));
+        let Some(other_input) = other else {
+            self.given_up += 1;
+            return Ok(());
+        };
+        self.rescheduled += 1;
+        let bytes = other_input.to_bytes();
+        let other_output = self.program.output(&bytes)?;
+        Run::observe(&other_input, &other_output)
+            .and_then(|other| demand3::check_rescheduled(other_input.nodes, run, &other))
+            .map_err(|reason| {
+                let lines = self.lines(&bytes, &other_output);
+                format!("another schedule: {reason}\nthe run under it:\n{lines}")
+            })
+    }
+
+    /// What came for an input beside what the copying machine prints.
+    fn lines(&self, bytes: &[u8], came: &str) -> String {
+        let expected = splitrun::output(bytes, self.counting);
+        transcript::difference(bytes, &expected, came)
     }
 }

@@ -3,7 +3,7 @@
 //! 17,416 bytes; a program that looks at no more than that many cannot tell
 //! it from a longer one, which is unfit.
 
-use super::{bytes, edge, ret, spawn, write, Edge};
+use super::{bytes, edge, ret, spawn, write, Edge, IDENTITIES};
 use crate::record::{Step, RECORD_BYTES};
 use crate::splitrun::header;
 
@@ -154,7 +154,7 @@ pub fn telling_ends() -> Vec<Edge> {
     let mut returned = tape.clone();
     returned.extend(ret(0));
     let mut returned_lines = lines.clone();
-    returned_lines.extend(["102 3", "free 520"]);
+    returned_lines.extend(["102 3", "free 520", IDENTITIES]);
     let mut spawned = tape;
     spawned.extend(spawn(0));
     let mut spawned_lines = lines;

@@ -122,7 +122,12 @@ fn compare_runs(options: &Options, session: &mut Session) -> Result<(), Failure>
     );
     println!("{}", session.tally.line());
     if options.runs > 0 {
-        let lines = [session.sharing.lines(), session.waits.lines()].concat();
+        let lines = [
+            session.sharing.lines(),
+            session.waits.lines(),
+            session.families.lines(),
+        ]
+        .concat();
         lines.iter().for_each(|line| println!("{line}"));
     }
     let missing = session.tally.missing();
@@ -132,6 +137,10 @@ fn compare_runs(options: &Options, session: &mut Session) -> Result<(), Failure>
     let missing = session.waits.missing();
     if options.runs >= ENOUGH_RUNS && !missing.is_empty() {
         return Err(format!("returns not met: {missing:?}"));
+    }
+    let missing = session.families.missing();
+    if options.runs >= ENOUGH_RUNS && !missing.is_empty() {
+        return Err(format!("views not met: {missing:?}"));
     }
     let missing = session.sharing.missing();
     if options.runs >= ENOUGH_WRITES && !missing.is_empty() {
@@ -243,6 +252,10 @@ fn report(counts: &Counts) {
         "writes from sound pairs: {none} with none of the path shared, {some} with some, {all} with all; {} by the only frame, in a tree with a node in two places",
         counts.beside_itself
     );
+    println!(
+        "returns from sound pairs, of a frame with its parent above it and a younger sibling: {}; spawns by a frame with a live child: {}",
+        counts.younger_within, counts.further_children
+    );
 }
 
 fn all_met(counts: &Counts) -> Result<(), Failure> {
@@ -263,6 +276,9 @@ fn all_met(counts: &Counts) -> Result<(), Failure> {
     }
     if counts.writes.contains(&0) || counts.beside_itself == 0 {
         return Err("a case of a write from a sound pair was never met".to_string());
+    }
+    if counts.younger_within == 0 || counts.further_children == 0 {
+        return Err("a case of siblings from a sound pair was never met".to_string());
     }
     Ok(())
 }

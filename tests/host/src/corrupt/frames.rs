@@ -1,7 +1,7 @@
 //! Changes of frames and deques.
 
 use super::Pair;
-use crate::plain::{Deque, Frame, MAX_FRAMES, MAX_WORKERS, NONE};
+use crate::plain::{Deque, Frame, View, MAX_FRAMES, MAX_WORKERS, NONE};
 use crate::random::Random;
 
 /// Words that no flag can have.
@@ -21,7 +21,7 @@ fn busy(pair: &Pair, random: &Random) -> Option<usize> {
     random.some(&workers(pair, |deque| deque.length > 0))
 }
 
-fn free_places(pair: &Pair) -> Vec<usize> {
+pub fn free_places(pair: &Pair) -> Vec<usize> {
     (0..MAX_FRAMES)
         .filter(|&place| pair.state.frames[place].live == 0)
         .collect()
@@ -101,12 +101,13 @@ pub fn place_not_zero(pair: &mut Pair, random: &Random) -> Option<()> {
     let place = random.some(&free_places(pair))?;
     let word = random.pick(&[1, NONE, random.word() | 1]);
     let frame = &mut pair.state.frames[place];
-    match random.below(5) {
+    match random.below(6) {
         0 => frame.depth = word,
         1 => frame.outstanding = word,
         2 => frame.suspended = word,
         3 => frame.root = word,
-        _ => frame.returning = word,
+        4 => frame.returning = word,
+        _ => frame.younger = word,
     }
     Some(())
 }
@@ -122,6 +123,9 @@ pub fn places_renumbered(pair: &mut Pair, random: &Random) -> Option<()> {
     let old = pair.state.frames;
     for (number, mut frame) in (0..).zip(old) {
         frame.parent = place(frame.parent);
+        if frame.live != 0 {
+            frame.younger = place(frame.younger);
+        }
         pair.state.frames[place(number) as usize] = frame;
     }
     pair.state.vacant = place(pair.state.vacant);
@@ -234,7 +238,8 @@ pub fn deque_out_of_order(pair: &mut Pair, random: &Random) -> Option<()> {
     (a != b).then_some(())
 }
 
-/// A live frame gets another parent, with the outstanding counts put right. This is sound if depths and deques allow it.
+/// A live frame gets another parent, with the outstanding counts put right, and mostly the links. This is sound if depths and deques allow
+/// it.
 pub fn another_parent(pair: &mut Pair, random: &Random) -> Option<()> {
     let live = pair.live();
     let mut children = live.clone();
@@ -250,8 +255,23 @@ pub fn another_parent(pair: &mut Pair, random: &Random) -> Option<()> {
     };
     pair.state.frames[old].outstanding -= 1;
     pair.state.frames[new].outstanding += 1;
+    if random.one_in(5) {
+        pair.state.frames[child].parent = new as u32;
+        return Some(());
+    }
+    leave_siblings(pair, child as u32);
+    let mut siblings = pair.children(new as u32);
+    siblings.insert(random.below(siblings.len() + 1), child as u32);
     pair.state.frames[child].parent = new as u32;
+    pair.chain_siblings(&siblings);
     Some(())
+}
+
+/// The links go past this frame.
+fn leave_siblings(pair: &mut Pair, place: u32) {
+    let mut siblings = pair.children(pair.state.frames[place as usize].parent);
+    siblings.retain(|&sibling| sibling != place);
+    pair.chain_siblings(&siblings);
 }
 
 pub fn depth_changed(pair: &mut Pair, random: &Random) -> Option<()> {
@@ -290,9 +310,11 @@ pub fn second_main(pair: &mut Pair, random: &Random) -> Option<()> {
     });
     let place = random.some(&frames)?;
     let parent = pair.state.frames[place].parent as usize;
+    leave_siblings(pair, place as u32);
     pair.state.frames[parent].outstanding -= 1;
     pair.state.frames[place].parent = NONE;
     pair.state.frames[place].depth = 0;
+    pair.state.frames[place].younger = NONE;
     Some(())
 }
 
@@ -302,6 +324,7 @@ pub fn child_by_hand(pair: &mut Pair, random: &Random) -> Option<()> {
     let worker = idle(pair, random)?;
     let place = pair.state.vacant;
     let next = pair.state.frames.get(place as usize)?.parent;
+    let mut siblings = pair.children(parent as u32);
     let above = &mut pair.state.frames[parent];
     above.outstanding += 1;
     let child = Frame {
@@ -312,9 +335,13 @@ pub fn child_by_hand(pair: &mut Pair, random: &Random) -> Option<()> {
         suspended: 0,
         root: above.root,
         returning: 0,
+        view: View::IDENTITY,
+        younger: NONE,
     };
     pair.retain(child.root);
     pair.state.frames[place as usize] = child;
+    siblings.insert(random.below(siblings.len() + 1), place);
+    pair.chain_siblings(&siblings);
     pair.state.vacant = next;
     pair.state.deques[worker].push(place);
     Some(())

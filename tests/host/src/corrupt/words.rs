@@ -1,7 +1,7 @@
 //! Words changed without regard to what they mean.
 
 use super::Pair;
-use crate::plain::{self, Words, NONE, STATE_WORDS};
+use crate::plain::{self, View, Words, NONE, STATE_WORDS};
 use crate::random::Random;
 use std::array;
 
@@ -102,6 +102,8 @@ pub fn garbage_frames(pair: &mut Pair, random: &Random) -> Option<()> {
             frame.suspended = random.word_below(2);
             frame.root = random.word_below(pair.state.nodes + 1);
             frame.returning = random.pick(&[0, 0, 1]);
+            frame.view = random.pick(&[View::of_words([0; 4]), View::IDENTITY]);
+            frame.younger = random.pick(&[0, NONE, random.word_below(64)]);
         }
     }
     Some(())

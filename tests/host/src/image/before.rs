@@ -1,8 +1,10 @@
-//! A file that R-1's library wrote, before there were frames that wait as returning: data/README.md says how.
+//! A file that R-1's library wrote, before there were frames that wait as returning, views and totals: data/README.md says how. It is no
+//! longer read, nor is it in the form from before R-5; the same run in the present form goes on as it did.
 
 use super::tests::both;
 use super::*;
 use crate::call::{Call, Entry, Outcome};
+use crate::plain::NONE;
 use crate::random::Random;
 use crate::sentences;
 use crate::steps;
@@ -46,16 +48,44 @@ fn file_words() -> Vec<u32> {
     blocks.map(|&word| u32::from_le_bytes(word)).collect()
 }
 
-/// The state that the file must be read as: six words of each record and a zero.
-fn expected() -> (Parts, Vec<u32>) {
+/// The same run in the present form: no totals, seventh words of zero, nothing folded. Of Main's children the elder is in place 1, the
+/// younger in place 2; the frames in places 3 and 4 have no sibling.
+fn present() -> (Parts, Vec<u32>) {
     let words = file_words();
-    let records = words[525..909].chunks(6);
+    let mut frames: Vec<u32> = words[525..909]
+        .chunks(6)
+        .flat_map(|record| match record[0] {
+            1 => [record, &[0, 0, NONE, 1, 0, NONE]].concat(),
+            _ => [record, &[0; 6]].concat(),
+        })
+        .collect();
+    frames[12 + 11] = 2;
     let parts = Parts {
-        numbers: words[..5].to_vec(),
+        numbers: [&words[..5], &[0; 4]].concat(),
         deques: words[5..525].to_vec(),
-        frames: records.flat_map(|record| [record, &[0]].concat()).collect(),
+        frames,
     };
     (parts, words[909..909 + 4 * NODE_COUNT].to_vec())
+}
+
+/// Its image, written here: 1,457 words in 12 blocks; the rest is zero.
+fn present_image() -> Vec<u8> {
+    let (state, nodes) = present();
+    let mut words = [&state.numbers[..], &state.deques, &state.frames, &nodes].concat();
+    assert_eq!((words[0], words.len()), (4, 1_457));
+    words[0] = 516;
+    in_blocks(words)
+}
+
+fn in_blocks(mut words: Vec<u32>) -> Vec<u8> {
+    words.resize(words.len().next_multiple_of(127), 0);
+    let blocks = words.chunks(127).flat_map(|data| {
+        let sum = data
+            .iter()
+            .fold(0, |sum: u32, &word| sum.wrapping_add(word));
+        [data, &[sum]].concat()
+    });
+    blocks.flat_map(u32::to_le_bytes).collect()
 }
 
 fn loading(image: &[u8]) -> Call {
@@ -74,7 +104,7 @@ fn loaded(image: &[u8]) -> Outcome {
     let call = loading(image);
     let after = both(&call);
     assert_eq!(after.result, [0, 0]);
-    let (state, nodes) = expected();
+    let (state, nodes) = present();
     assert_eq!(after.state, state);
     assert_eq!(after.pool[..4 * NODE_COUNT], nodes);
     assert_eq!(after.pool[4 * NODE_COUNT..], call.pool[4 * NODE_COUNT..]);
@@ -104,79 +134,82 @@ fn goes_on(read: &Outcome) {
     }
     assert!(state == ended.state && pool == ended.pool);
     assert!(!state.state().expect("a whole state").main_lives());
+    assert_eq!(state.numbers[5..], [0, NONE, 1, 0]); // nothing was folded
 }
 
 #[test]
 fn the_file() {
-    assert_eq!(IMAGE.len(), 4_608);
-    assert_eq!(bytes_of(0, NODE_COUNT as u32), 4_608);
-    assert_eq!((version(IMAGE), file_words()[0]), (Some(0), 4));
+    assert_eq!((IMAGE.len(), file_words()[0]), (4_608, 4));
     let lines = section("saved", "after the save");
-    let (state, _) = expected();
+    let words = file_words();
     let mut live = 0;
     for line in lines {
-        let (name, words) = line.split_once('=').expect("a part");
+        let (name, numbers_of) = line.split_once('=').expect("a part");
         let (name, place) = name.split_once(' ').expect("a number");
-        let (place, words) = (numbers(place)[0] as usize, numbers(words));
+        let (place, expected) = (numbers(place)[0] as usize, numbers(numbers_of));
         match name {
-            "numbers" => assert_eq!(state.numbers, words),
+            "numbers" => assert_eq!(words[..5], expected),
             "deque" => {
-                let deque = &state.deques[65 * place..][..65];
+                let deque = &words[5 + 65 * place..][..65];
                 assert_eq!(
-                    (deque[0] as usize, &deque[1..][..words.len()]),
-                    (words.len(), &words[..])
+                    (deque[0] as usize, &deque[1..][..expected.len()]),
+                    (expected.len(), &expected[..])
                 );
             }
             _ => {
                 live += 1;
-                assert_eq!(state.frames[7 * place..][..7], [&words[..], &[0]].concat());
+                assert_eq!(words[525 + 6 * place..][..6], expected);
             }
         }
     }
-    let suspended = state.frames.chunks(7).filter(|record| record[4] == 1);
+    let suspended = words[525..909].chunks(6).filter(|record| record[4] == 1);
     assert_eq!((live, suspended.count()), (5, 2));
+}
+
+/// The file is refused by 17, and so is the same run in the form from before R-5: 256 more in the first word, seven words to a record.
+#[test]
+fn refused() {
+    let words = file_words();
+    let records = words[525..909].chunks(6);
+    let records: Vec<u32> = records.flat_map(|record| [record, &[0]].concat()).collect();
+    let mut later = [&words[..525], &records, &words[909..909 + 4 * NODE_COUNT]].concat();
+    assert_eq!(later.len(), 1_133);
+    later[0] += 256;
+    for image in [IMAGE.to_vec(), in_blocks(later)] {
+        let call = loading(&image);
+        let after = both(&call);
+        assert_eq!(after.result, [17, 0]);
+        assert!(after
+            .state
+            .each()
+            .iter()
+            .all(|part| part.iter().all(|&word| word == 0)));
+        assert!(after.pool == call.pool && after.work == call.work);
+    }
 }
 
 #[test]
 fn read_and_gone_on_with() {
-    let read = loaded(IMAGE);
+    let read = loaded(&present_image());
     assert!(sentences::broken(&read.state, &read.pool).is_empty());
     goes_on(&read);
 }
 
-/// The new form: 256 more in the first word, seven words to a record, 1,133 words in 9 blocks; the rest is zero.
 #[test]
 fn saved_again() {
-    let read = loaded(IMAGE);
+    let read = loaded(&present_image());
     let save = Call {
         state: read.state,
         pool: read.pool,
         work: vec![7; NODE_COUNT],
         entry: Entry::Save {
-            target: vec![5; 9 * 512 + 1],
+            target: vec![5; 12 * 512 + 1],
         },
     };
     let saved = both(&save);
     assert_eq!(saved.result, [0, 0]);
-    let (state, nodes) = expected();
-    let mut words = [&state.numbers[..], &state.deques, &state.frames, &nodes].concat();
-    assert_eq!((words[0], words.len()), (4, 1_133));
-    words[0] = 260;
-    words.resize(9 * 127, 0);
-    let blocks = words.chunks(127).flat_map(|data| {
-        let sum = data
-            .iter()
-            .fold(0, |sum: u32, &word| sum.wrapping_add(word));
-        [data, &[sum]].concat()
-    });
-    let mut image: Vec<u8> = blocks.flat_map(u32::to_le_bytes).collect();
-    assert_eq!(saved.bytes[..9 * 512], image);
-    assert_eq!(saved.bytes[9 * 512], 5);
-    goes_on(&loaded(&image));
-    // the old first word before the new form: the rest is not zero then, and 6 words are no records
-    image[1] = 0;
-    repair(&mut image);
-    assert_eq!(both(&loading(&image)).result[0], 18);
+    assert_eq!(saved.bytes[..12 * 512], present_image());
+    assert_eq!(saved.bytes[12 * 512], 5);
 }
 
 /// The further records end with Main's return, and no answer of R-1's library in the text is one that R-3 takes away.

@@ -5,45 +5,24 @@ use crate::parts::{Parts, LENGTHS};
 use crate::sentences;
 use splitter::raw;
 
-/// The two readable forms, told by the first word: "The first word of an image has 256 added; below 256, it is an image from before".
-#[derive(Clone, Copy, PartialEq)]
-enum Form {
-    Before,
-    Now,
-}
+/// "The first word of an image has 256 added". "Each later change of the image adds 256 again and reads only its own form": R-5's is
+/// the first.
+const ADDED: u32 = 256 + 256;
 
-fn form_of(first: u32) -> Option<Form> {
-    if first < 256 {
-        Some(Form::Before)
-    } else if first < 512 {
-        Some(Form::Now)
-    } else {
-        None
-    }
-}
-
-/// "Frame records gain a word": six words before, seven now.
-fn record_words(form: Form) -> usize {
-    match form {
-        Form::Before => 6,
-        Form::Now => 7,
-    }
-}
-
-/// 5 words, 8 times 65, 64 records; "then the pool's nodes", of four words.
-fn words_of(form: Form, nodes: u32) -> u128 {
-    5 + 8 * (1 + 64) + 64 * record_words(form) as u128 + u128::from(nodes) * 4
+/// 5 words, R-5's 4 totals, 8 times 65, 64 records of 6, R-3's 1 and R-5's 5 words; "then the pool's nodes", of four words.
+fn words_of(nodes: u32) -> u128 {
+    5 + 4 + 8 * (1 + 64) + 64 * (6 + 1 + 5) + u128::from(nodes) * 4
 }
 
 /// "blocks of 512 bytes: 508 of data": the least number of blocks whose data has room.
-fn blocks_of(form: Form, nodes: u32) -> u128 {
-    let data = 4 * words_of(form, nodes);
+fn blocks_of(nodes: u32) -> u128 {
+    let data = 4 * words_of(nodes);
     data / 508 + u128::from(data % 508 != 0)
 }
 
 /// The bytes of an image of so many nodes, as it is saved.
 pub fn image_bytes(nodes: u32) -> u64 {
-    (512 * blocks_of(Form::Now, nodes)) as u64
+    (512 * blocks_of(nodes)) as u64
 }
 
 /// "the sum modulo 4,294,967,296 of each data byte times 256 raised to its offset modulo 4"
@@ -120,26 +99,29 @@ pub fn save(state: raw::Parts, pool: &[u32], work: &mut [u32], target: &mut [u8]
     if !sound(&state, pool, work) {
         return 6;
     }
-    let blocks = blocks_of(Form::Now, nodes);
+    let blocks = blocks_of(nodes);
     if (target.len() as u128) < 512 * blocks {
         return 19;
     }
     let pool = &pool[..4 * nodes as usize];
     let mut words = [state.numbers, state.deques, state.frames, pool].concat();
-    words[0] += 256;
+    words[0] += ADDED;
     let image = written(&words, blocks as usize);
     (0..image.len()).for_each(|place| target[place] = image[place]);
     0
 }
 
-/// 17 and 18: the form and the data of an image that has neither.
-fn accepted(image: &[u8]) -> Result<(Form, Vec<u8>), u32> {
+/// 17 and 18: the data of an image that has neither. "A first word of no readable form gives 17."
+fn accepted(image: &[u8]) -> Result<Vec<u8>, u32> {
     if image.len() < 512 {
         return Err(17);
     }
-    let form = form_of(word_at(image, 0)).ok_or(17_u32)?;
+    let first = word_at(image, 0);
+    if !(ADDED..ADDED + 256).contains(&first) {
+        return Err(17);
+    }
     let nodes = word_at(image, 2);
-    if image.len() as u128 != 512 * blocks_of(form, nodes) {
+    if image.len() as u128 != 512 * blocks_of(nodes) {
         return Err(17);
     }
     for block in 0..image.len() / 512 {
@@ -149,27 +131,16 @@ fn accepted(image: &[u8]) -> Result<(Form, Vec<u8>), u32> {
         }
     }
     let data = data_of(image);
-    let rest = 4 * words_of(form, nodes) as usize;
+    let rest = 4 * words_of(nodes) as usize;
     if (rest..data.len()).any(|place| data[place] != 0) {
         return Err(18);
     }
-    Ok((form, data))
+    Ok(data)
 }
 
-/// A word of the state by its place among the 973: the same word of the image, but that the first has 256 added now, and that an image
-/// from before "reads as having none waiting": the seventh word of a record is 0, the others are one word further on for each record.
-fn state_word(form: Form, data: &[u8], at: usize) -> u32 {
-    if form == Form::Now {
-        return word_at(data, at) - if at == 0 { 256 } else { 0 };
-    }
-    if at < 525 {
-        return word_at(data, at);
-    }
-    let (record, word) = ((at - 525) / 7, (at - 525) % 7);
-    if word == 6 {
-        return 0;
-    }
-    word_at(data, 525 + 6 * record + word)
+/// A word of the state by its place among the 1,297: the same word of the image, but for what the first has added.
+fn state_word(data: &[u8], at: usize) -> u32 {
+    word_at(data, at) - if at == 0 { ADDED } else { 0 }
 }
 
 /// "reading checks 17, 18, 5, 6".
@@ -184,17 +155,17 @@ pub fn load(state: raw::Parts, pool: &mut [u32], work: &mut [u32], image: &[u8])
         (0..frames).for_each(|at| state.frames[at] = word(numbers + deques + at));
     };
     fill(&|_| 0);
-    let (form, data) = match accepted(image) {
-        Ok(accepted) => accepted,
+    let data = match accepted(image) {
+        Ok(data) => data,
         Err(refusal) => return refusal,
     };
     let nodes = word_at(&data, 2) as usize;
     if work.len() < nodes {
         return 5;
     }
-    fill(&|at| state_word(form, &data, at));
+    fill(&|at| state_word(&data, at));
     let held = pool.len() / 4;
-    let first = words_of(form, 0) as usize;
+    let first = words_of(0) as usize;
     for at in 0..4 * nodes.min(held) {
         pool[at] = word_at(&data, first + at);
     }

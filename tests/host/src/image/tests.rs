@@ -26,18 +26,24 @@ fn by_literal(call: &Call) -> Outcome {
     after
 }
 
-/// One worker, one splitter of value 7, so many nodes: a start's words, by hand, in version 0 or 1.
-fn fresh(version: u32, nodes: u32) -> Vec<u32> {
+/// The records' first word, and that of the nodes.
+const RECORDS: usize = 9 + 8 * 65;
+const NODE_WORDS: usize = RECORDS + 64 * 12;
+
+/// A frame that has folded nothing and has no younger sibling: its last five words.
+const IDENTITIES: [u32; 5] = [0, NONE, 1, 0, NONE];
+
+/// One worker, one splitter of value 7, so many nodes: a start's words, by hand.
+fn fresh(nodes: u32) -> Vec<u32> {
     let next = |number, last| if number < last { number + 1 } else { NONE };
-    let mut words = vec![1 + 256 * version, 1, nodes, next(0, nodes - 1), 1]; // workers, splitters, nodes, first free node and place
+    let mut words = vec![1 + 512, 1, nodes, next(0, nodes - 1), 1]; // workers, splitters, nodes, first free node and place
+    words.extend([0; 4]); // the totals
     words.extend([1, 0]); // worker 0: one frame, in place 0
-    words.resize(5 + 8 * 65, 0);
-    let last_words = &[0, 0, 0, 0, 0][..4 + version as usize];
-    words.extend([1, NONE]); // Main, with root 0
-    words.extend(last_words);
+    words.resize(RECORDS, 0);
+    words.extend([1, NONE, 0, 0, 0, 0, 0]); // Main, with root 0
+    words.extend(IDENTITIES);
     for place in 1..64 {
-        words.extend([0, next(place, 63)]);
-        words.extend(last_words);
+        words.extend([0, next(place, 63), 0, 0, 0, 0, 0, 0, 0, 0, 0, 0]);
     }
     words.extend([1, NONE, NONE, 7]); // the leaf
     for node in 1..nodes {
@@ -47,7 +53,22 @@ fn fresh(version: u32, nodes: u32) -> Vec<u32> {
 }
 
 fn smallest() -> Vec<u32> {
-    fresh(1, 1)
+    fresh(1)
+}
+
+/// The same in the form from before R-3, version 0, or that from before R-5, version 1: no totals, and records of six or seven words.
+fn smallest_before(version: u32) -> Vec<u32> {
+    let words = smallest();
+    let records = words[RECORDS..NODE_WORDS].chunks(12);
+    let kept = records.flat_map(|record| &record[..6 + version as usize]);
+    let others = words[..5].iter().chain(&words[9..RECORDS]);
+    let mut before: Vec<u32> = others
+        .chain(kept)
+        .chain(&words[NODE_WORDS..])
+        .copied()
+        .collect();
+    before[0] = 1 + 256 * version;
+    before
 }
 
 /// Words in blocks, with these checks.
@@ -60,35 +81,31 @@ fn blocks(words: Vec<u32>, checks: &[u32]) -> Vec<u8> {
         .collect()
 }
 
-/// Its image: 977 words in 8 blocks, with checks that were summed by hand.
+/// Its image: 1,301 words in 11 blocks, with checks that were summed by hand.
 fn smallest_image() -> Vec<u8> {
-    blocks(smallest(), &[260, 0, 0, 0, 135, 459, 783, 643])
+    let checks = [516, 0, 0, 0, 43, 165, 255, 396, 517, 575, 68];
+    blocks(smallest(), &checks)
 }
 
-/// The same from before R-3: 913 words in 8 blocks.
-fn smallest_before() -> Vec<u8> {
-    blocks(fresh(0, 1), &[4, 0, 0, 0, 189, 630, 1_071, 130])
-}
-
-/// A start's image, with so many blocks.
-fn fresh_image(version: u32, nodes: u32, count: usize) -> Vec<u8> {
-    let mut image = blocks(fresh(version, nodes), &vec![0; count]);
+/// Words in as few blocks as hold them, with the checks right.
+fn image_of(words: &[u32]) -> Vec<u8> {
+    let mut image = blocks(words.to_vec(), &vec![0; words.len().div_ceil(127)]);
     repair(&mut image);
     image
 }
 
 fn smallest_parts() -> Parts {
     let mut words = smallest();
-    words[0] -= 256;
+    words[0] -= 512;
     Parts {
-        numbers: words[..5].to_vec(),
-        deques: words[5..525].to_vec(),
-        frames: words[525..973].to_vec(),
+        numbers: words[..9].to_vec(),
+        deques: words[9..RECORDS].to_vec(),
+        frames: words[RECORDS..NODE_WORDS].to_vec(),
     }
 }
 
 fn saving(target: usize) -> Call {
-    let mut pool = smallest()[973..].to_vec();
+    let mut pool = smallest()[NODE_WORDS..].to_vec();
     pool.extend([8, 8, 8, 8, 8]);
     Call {
         state: smallest_parts(),
@@ -137,23 +154,15 @@ fn with_word(word: usize, value: u32) -> Vec<u8> {
 
 #[test]
 fn sizes() {
-    // 973 words of state take 8 blocks, with room for 10 nodes: 8 × 127 = 1,016 = 973 + 43
-    let known = [(0, 8), (1, 8), (10, 8), (11, 9), (106, 11), (107, 12)];
+    // 1,297 words of state take 11 blocks, with room for 25 nodes: 11 × 127 = 1,397 = 1,297 + 100
+    let known = [(0, 11), (1, 11), (25, 11), (26, 12), (56, 12), (57, 13)];
     for (nodes, blocks) in known
         .into_iter()
-        .chain([(16_384, 524), (NONE, 135_274_569)])
+        .chain([(16_384, 527), (NONE, 135_274_571)])
     {
         assert_eq!(bytes(nodes), 512 * blocks, "{nodes}");
         assert_eq!(literal::image_bytes(nodes), 512 * blocks, "{nodes}");
         assert_eq!(splitter::image_bytes(nodes), 512 * blocks, "{nodes}");
-    }
-    // before R-3, 909 words: 1,016 = 909 + 107
-    let known = [(0, 8), (1, 8), (26, 8), (27, 9), (122, 11), (123, 12)];
-    for (nodes, blocks) in known
-        .into_iter()
-        .chain([(16_384, 524), (NONE, 135_274_568)])
-    {
-        assert_eq!(bytes_of(0, nodes), 512 * blocks, "{nodes}");
     }
 }
 
@@ -178,16 +187,16 @@ fn checks() {
 
 #[test]
 fn saved() {
-    let after = both(&saving(4_096 + 3));
+    let after = both(&saving(5_632 + 3));
     assert_eq!(after.result[0], 0);
-    assert_eq!(after.bytes[..4_096], smallest_image());
-    assert_eq!(after.bytes[4_096..], [5, 5, 5]);
+    assert_eq!(after.bytes[..5_632], smallest_image());
+    assert_eq!(after.bytes[5_632..], [5, 5, 5]);
     assert_eq!(after.work, [0, 9, 9]);
 }
 
 #[test]
 fn saves_refused() {
-    for target in [0, 1, 512, 4_095] {
+    for target in [0, 1, 512, 5_631] {
         let call = saving(target);
         let after = both(&call);
         assert_eq!((after.result[0], &after.work[..]), (19, &[0, 9, 9][..]));
@@ -203,7 +212,7 @@ fn saves_refused() {
         (&short_work, 5),
         (&bad_state, 99),
     ];
-    let mut call = saving(4_095);
+    let mut call = saving(5_631);
     for (change, number) in changes {
         change(&mut call);
         assert_eq!(both(&call).result[0], number);
@@ -221,34 +230,35 @@ fn loaded() {
 
 #[test]
 fn blocks_not_called_for() {
-    for length in [0, 1, 511, 512, 513, 4_095, 4_097, 4_608] {
+    for length in [0, 1, 511, 512, 513, 4_096, 5_631, 5_633, 6_144] {
         assert_eq!(refused(changed(|image| image.resize(length, 0))), 17);
     }
-    for nodes in [11, 26, 27, 16_384, 1 << 30, (1 << 30) + 1, NONE] {
+    for nodes in [26, 27, 57, 16_384, 1 << 30, (1 << 30) + 1, NONE] {
         assert_eq!(refused(with_word(2, nodes)), 17, "{nodes}");
     }
-    // one block, if the number of words were taken modulo 2^32
+    // one block, if the number of words were taken modulo 2^32; and as it was with shorter records
     let one = |nodes| changed(|image| set_word(image, 2, nodes))[..512].to_vec();
-    assert_eq!(refused(one((1 << 30) - 243)), 17);
-    assert_eq!(refused(one((1 << 30) - 227)), 17);
+    for less in [324, 243, 227] {
+        assert_eq!(refused(one((1 << 30) - less)), 17);
+    }
 }
 
 /// 17 comes before 18, 18 before 5, 5 before 6.
 #[test]
 fn wrong_checks() {
-    assert_eq!(refused(changed(|image| image[0] ^= 1)), 18);
-    assert_eq!(refused(changed(|image| image[4_095] ^= 128)), 18);
+    assert_eq!(refused(changed(|image| image[0] ^= 2)), 18);
+    assert_eq!(refused(changed(|image| image[5_631] ^= 128)), 18);
     assert_eq!(refused(changed(|image| image[508..512].reverse())), 18);
-    assert_eq!(refused(with_word(977, 1)), 18);
-    assert_eq!(refused(with_word(1_015, 1 << 31)), 18);
-    assert_eq!(refused(changed(|image| set_word(image, 2, 10))), 18);
-    assert_eq!(refused(changed(|image| set_word(image, 2, 11))), 17);
-    let mut call = loading(with_word(0, 256));
+    assert_eq!(refused(with_word(1_301, 1)), 18);
+    assert_eq!(refused(with_word(1_396, 1 << 31)), 18);
+    assert_eq!(refused(changed(|image| set_word(image, 2, 25))), 18);
+    assert_eq!(refused(changed(|image| set_word(image, 2, 26))), 17);
+    let mut call = loading(with_word(0, 512));
     call.work.clear();
     assert_eq!(both(&call).result[0], 5);
-    assert_eq!(both(&loading(with_word(0, 256))).result[0], 6);
+    assert_eq!(both(&loading(with_word(0, 512))).result[0], 6);
     call.entry = Entry::Load {
-        image: changed(|image| image[0] ^= 1),
+        image: changed(|image| image[0] ^= 2),
     };
     assert_eq!(both(&call).result[0], 18);
 }
@@ -256,10 +266,18 @@ fn wrong_checks() {
 /// Not sound: every whole node of the lent pool is zero, and no word after them.
 #[test]
 fn unsound() {
-    let unsound = [(0, 265), (1, 0), (525, 2), (973, 2), (974, 0)].map(|(w, v)| with_word(w, v));
-    for image in unsound {
-        let after = both(&loading(image));
-        assert_eq!(after.result[0], 6);
+    let unsound = [
+        (0, 521),
+        (1, 0),
+        (5, 1),
+        (RECORDS, 2),
+        (RECORDS + 11, 0),
+        (NODE_WORDS, 2),
+        (NODE_WORDS + 1, 0),
+    ];
+    for (word, value) in unsound {
+        let after = both(&loading(with_word(word, value)));
+        assert_eq!((word, after.result[0]), (word, 6));
         assert_eq!(after.pool, [0, 0, 0, 0, 0, 0, 0, 0, 8, 8, 8]);
         assert_eq!(after.work, [0, 9, 9]);
         assert_eq!(after.state, Parts::of(&State::zero()));
@@ -267,7 +285,10 @@ fn unsound() {
     // a recorded node more, of zeros, is on no chain
     assert_eq!(both(&loading(with_word(2, 2))).work, [0, 0, 9]);
     assert_eq!(refused(with_word(2, 0)), 18);
-    assert_eq!(refused(vec![0; 4_096]), 6);
+    assert_eq!(refused(vec![0; 5_632]), 17);
+    let mut zeros = vec![0; 1_297];
+    zeros[0] = 512;
+    assert_eq!(refused(image_of(&zeros)), 6);
 }
 
 #[test]
@@ -293,44 +314,60 @@ fn parts_of_another_length() {
     }
 }
 
-/// "below 256, it is an image from before and reads as having none waiting"
+/// "Each later change of the image adds 256 again and reads only its own form": neither form from before is read, nor with other numbers
+/// of workers, though length and checks are right.
 #[test]
-fn from_before() {
-    let after = both(&loading(smallest_before()));
-    assert_eq!(after.result[0], 0);
-    assert_eq!(after.state, smallest_parts());
-    assert_eq!(after.pool, [1, NONE, NONE, 7, 8, 8, 8, 8, 8, 8, 8]);
-    assert_eq!(after.work, [0, 9, 9]);
+fn forms_from_before() {
+    for version in [0, 1] {
+        let words = smallest_before(version);
+        assert_eq!(words.len(), [913, 977][version as usize]);
+        for workers in [0, 1, 2, 8, 9, 255] {
+            let mut words = words.clone();
+            words[0] = workers + 256 * version;
+            assert_eq!(refused(image_of(&words)), 17);
+        }
+        // the present form's first word: 8 blocks are not 11; with so many, 6
+        let mut words = words;
+        words[0] = 513;
+        assert_eq!(refused(image_of(&words)), 17);
+        words.resize(1_301, 0);
+        assert_eq!(refused(image_of(&words)), 6);
+    }
 }
 
 /// What a reading answers with another first word and the checks right.
-fn with_first(mut image: Vec<u8>, first: u32) -> u32 {
-    set_word(&mut image, 0, first);
-    repair(&mut image);
-    both(&loading(image)).result[0]
+fn with_first(first: u32) -> u32 {
+    both(&loading(with_word(0, first))).result[0]
 }
 
-/// Words for versions to come, and some that are none.
-const NO_FORM: [u32; 9] = [512, 513, 520, 767, 768, 65_536, 65_793, 1 << 31, NONE];
+/// Words of forms from before and to come, and some that are none.
+const NO_FORM: [u32; 14] = [
+    0,
+    1,
+    8,
+    255,
+    256,
+    257,
+    511,
+    768,
+    769,
+    1_025,
+    65_536,
+    66_049,
+    1 << 31,
+    NONE,
+];
 
 #[test]
 fn first_words() {
-    let now = |first| with_first(smallest_image(), first);
-    let before = |first| with_first(smallest_before(), first);
-    for first in 257..=264 {
-        assert_eq!((first, now(first)), (first, 0));
-        assert_eq!((first, before(first)), (first, 6)); // seven words to a record are none then
-        assert_eq!((first, before(first - 256)), (first, 0));
-        assert_eq!((first, now(first - 256)), (first, 18)); // 64 words more than the other form has
+    for first in 513..=520 {
+        assert_eq!((first, with_first(first)), (first, 0));
     }
     for workers in [0, 9, 10, 16, 17, 129, 255] {
-        assert_eq!((workers, now(256 + workers)), (workers, 6));
-        assert_eq!((workers, before(workers)), (workers, 6));
-        assert_eq!((workers, now(workers)), (workers, 18));
-        assert_eq!((workers, before(256 + workers)), (workers, 6));
+        assert_eq!((workers, with_first(512 + workers)), (workers, 6));
     }
     for first in NO_FORM {
-        assert_eq!((first, now(first), before(first)), (first, 17, 17));
+        assert_eq!((first, with_first(first)), (first, 17));
     }
 }
 
@@ -338,7 +375,7 @@ fn first_words() {
 #[test]
 fn no_form() {
     for first in NO_FORM {
-        for length in [512, 4_096, 4_608, 16 * 512] {
+        for length in [512, 4_096, 5_632, 16 * 512] {
             let image = changed(|image| {
                 image.resize(length, 0);
                 set_word(image, 0, first);
@@ -350,82 +387,109 @@ fn no_form() {
     }
 }
 
-/// 12 nodes take 8 blocks in version 0 and 9 in version 1: neither may have the other's length.
-#[test]
-fn lengths_of_the_other_form() {
-    let answer = |image: Vec<u8>| {
-        let mut call = loading(image);
-        (call.pool, call.work) = (vec![8; 49], vec![9; 12]);
-        both(&call).result[0]
-    };
-    assert_eq!(answer(fresh_image(0, 12, 8)), 0);
-    assert_eq!(answer(fresh_image(1, 12, 9)), 0);
-    assert_eq!(answer(fresh_image(0, 12, 9)), 17);
-    let cut = fresh_image(1, 12, 9)[..8 * 512].to_vec();
-    assert_eq!(answer(cut), 17);
-    let lied = |version, blocks, first| {
-        let mut image = fresh_image(version, 12, blocks);
-        set_word(&mut image, 0, first);
-        repair(&mut image);
-        answer(image)
-    };
-    assert_eq!(lied(0, 8, 257), 17);
-    assert_eq!(lied(1, 9, 1), 17);
-    assert_eq!(lied(0, 9, 257), 6);
-    assert_eq!(answer(fresh_image(0, 26, 8)), 5); // the work slice has 12 words
-    assert_eq!(answer(fresh_image(1, 26, 8)), 17);
+/// The words of a state in which Main waits as returning for its child, in place 1, which worker 0 has.
+fn main_waits() -> Vec<u32> {
+    let mut words = smallest();
+    words[9 + 1] = 1;
+    words[4] = 2;
+    words[RECORDS..RECORDS + 7].copy_from_slice(&[1, NONE, 0, 1, 1, 0, 1]);
+    words[RECORDS + 12..RECORDS + 19].copy_from_slice(&[1, 0, 1, 0, 0, 0, 0]);
+    words[RECORDS + 19..RECORDS + 24].copy_from_slice(&IDENTITIES);
+    words[NODE_WORDS] = 2;
+    words
 }
 
-/// The seventh word of every record: 1 is sound on a suspended frame only, and nothing but 0 and 1 is.
-#[test]
-fn seventh_words() {
-    // Main waits for its child, which worker 0 has; place 1 is the child's
-    let mut words = smallest();
-    words[5 + 1] = 1;
-    words[4] = 2;
-    words[525..525 + 14].copy_from_slice(&[1, NONE, 0, 1, 1, 0, 1, 1, 0, 1, 0, 0, 0, 0]);
-    words[973] = 2;
-    let image = |words: &[u32]| {
-        let mut image = blocks(words.to_vec(), &[0; 8]);
-        repair(&mut image);
-        image
-    };
-    let after = both(&loading(image(&words)));
+/// What a reading of these words answers.
+fn answer(words: &[u32]) -> u32 {
+    both(&loading(image_of(words))).result[0]
+}
+
+/// Read, and saved as it was.
+fn read_and_saved(words: &[u32]) {
+    let after = both(&loading(image_of(words)));
     assert_eq!(after.result[0], 0);
-    assert_eq!(after.state.frames, words[525..973]);
-    let read = Call {
+    assert_eq!(after.state.numbers[1..], words[1..9]);
+    assert_eq!(after.state.frames, words[RECORDS..NODE_WORDS]);
+    let save = Call {
         entry: Entry::Save {
-            target: vec![5; 4_096],
+            target: vec![5; 5_632],
         },
         state: after.state,
         pool: after.pool,
         work: after.work,
     };
-    assert_eq!(both(&read).bytes, image(&words));
+    assert_eq!(both(&save).bytes, image_of(words));
+}
+
+/// The seventh word of every record: 1 is sound on a suspended frame only, and nothing but 0 and 1 is.
+#[test]
+fn seventh_words() {
+    let words = main_waits();
+    read_and_saved(&words);
     for place in 0..64 {
         for seventh in [0, 1, 2, 3, 256, 1 << 31, NONE] {
             let mut words = words.clone();
-            words[525 + 7 * place + 6] = seventh;
+            words[RECORDS + 12 * place + 6] = seventh;
             let sound = seventh == 0 || (seventh == 1 && place == 0);
             let refusal = if sound { 0 } else { 6 };
-            let result = both(&loading(image(&words))).result[0];
+            let result = answer(&words);
             assert_eq!((place, seventh, result), (place, seventh, refusal));
         }
     }
 }
 
-/// In the form from before, the same frame waits at a sync.
+/// The view words of every record: any on a live frame, and they come back; zero on a free place.
 #[test]
-fn waiting_from_before() {
-    let mut words = fresh(0, 1);
-    words[5 + 1] = 1;
-    words[4] = 2;
-    words[525..525 + 12].copy_from_slice(&[1, NONE, 0, 1, 1, 0, 1, 0, 1, 0, 0, 0]);
-    words[909] = 2;
-    let mut image = blocks(words, &[0; 8]);
-    repair(&mut image);
-    let after = both(&loading(image));
-    assert_eq!(after.result[0], 0);
-    let records = [1, NONE, 0, 1, 1, 0, 0, 1, 0, 1, 0, 0, 0, 0];
-    assert_eq!(after.state.frames[..14], records);
+fn view_words() {
+    for place in 0..64 {
+        for word in 7..11 {
+            for value in [0, 1, 256, 1 << 31, NONE] {
+                let mut words = main_waits();
+                words[RECORDS + 12 * place + word] = value;
+                if place < 2 {
+                    read_and_saved(&words);
+                } else {
+                    let refusal = if value == 0 { 0 } else { 6 };
+                    assert_eq!((place, value, answer(&words)), (place, value, refusal));
+                }
+            }
+        }
+    }
+}
+
+/// The link of every record: none on Main and its only child, zero on a free place.
+#[test]
+fn links() {
+    for place in 0..64 {
+        for link in [0, 1, 2, 3, 63, 64, 256, 1 << 31, NONE - 1, NONE] {
+            let mut words = main_waits();
+            words[RECORDS + 12 * place + 11] = link;
+            let right = if place < 2 { NONE } else { 0 };
+            let refusal = if link == right { 0 } else { 6 };
+            assert_eq!((place, link, answer(&words)), (place, link, refusal));
+        }
+    }
+}
+
+/// The totals: zero while Main lives, any words afterwards, and they come back.
+#[test]
+fn totals() {
+    // no frame lives: place 0 is the first free one, and the leaf is free
+    let mut ended = smallest();
+    ended[3] = 0;
+    ended[4] = 0;
+    ended[9] = 0;
+    ended[RECORDS..RECORDS + 12].copy_from_slice(&[0, 1, 0, 0, 0, 0, 0, 0, 0, 0, 0, 0]);
+    ended[NODE_WORDS..].copy_from_slice(&[0, NONE, 0, 0]);
+    read_and_saved(&ended);
+    for word in 5..9 {
+        for value in [0, 1, 65_536, 1 << 31, NONE] {
+            let mut words = main_waits();
+            words[word] = value;
+            let refusal = if value == 0 { 0 } else { 6 };
+            assert_eq!((word, value, answer(&words)), (word, value, refusal));
+            ended[word] = value;
+            read_and_saved(&ended);
+        }
+    }
 }

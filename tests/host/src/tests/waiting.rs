@@ -19,12 +19,12 @@ fn then(begin: &Entries, more: &[[u32; 4]]) -> Entries {
     [&begin[..], more].concat()
 }
 
-fn typed(after: &Outcome) -> State {
+pub fn typed(after: &Outcome) -> State {
     after.state.state().expect("a whole state")
 }
 
 /// The call that goes on with what another left.
-fn next(after: &Outcome, entry: Entry) -> Call {
+pub fn next(after: &Outcome, entry: Entry) -> Call {
     let nodes = typed(after).nodes as usize;
     Call {
         state: after.state.clone(),
@@ -34,19 +34,19 @@ fn next(after: &Outcome, entry: Entry) -> Call {
     }
 }
 
-fn tape(entries: &[[u32; 4]]) -> Entry {
+pub fn tape(entries: &[[u32; 4]]) -> Entry {
     Entry::Tape {
         bytes: entries.iter().copied().flat_map(steps::record).collect(),
         answers: vec![7; 2 * entries.len()],
     }
 }
 
-fn sound(after: &Outcome) -> bool {
+pub fn sound(after: &Outcome) -> bool {
     sentences::broken(&after.state, &after.pool).is_empty()
 }
 
 /// No frame lives, all deques are empty, every place and every node is free.
-fn assert_all_free(after: &Outcome) {
+pub fn assert_all_free(after: &Outcome) {
     assert!(sound(after));
     let state = typed(after);
     assert!(!state.main_lives());
@@ -62,8 +62,8 @@ fn main_waits_and_ends() {
     let (_, after) = run(2, &FIVE, 20, &begin);
     assert_eq!(after.answers[6..8], [102, 4]);
     assert!(sound(&after));
-    let record = &after.state.frames[..7];
-    assert_eq!(record, [1, NONE, 0, 1, 1, 0, 1]);
+    let record = &after.state.frames[..12];
+    assert_eq!(record, [1, NONE, 0, 1, 1, 0, 1, 0, NONE, 1, 0, NONE]);
     assert_eq!(after.state.deques[65], 0);
     assert_eq!(nodes(&after)[0][0], 2); // the root is held by both
     let more = [
@@ -303,7 +303,7 @@ fn chain_of_63() {
     let waits = given.iter().filter(|answer| **answer == [102, 4]);
     assert_eq!(waits.count(), 63);
     assert!(sound(&before));
-    let waiting = before.state.frames.chunks(7).filter(|frame| frame[6] == 1);
+    let waiting = before.state.frames.chunks(12).filter(|frame| frame[6] == 1);
     assert_eq!(waiting.count(), 63);
     let free = plain::sound(&typed(&before), &before.pool, &mut [0; 400]);
     assert!(free.is_some_and(|free| free < 400 - 11 - 63));
@@ -329,7 +329,7 @@ fn next_answer(after: &Outcome) -> [u32; 2] {
     both(&next(after, Entry::Step([SPAWN, 0, 0, 0]))).result
 }
 
-fn saved_and_read(before: &Outcome) -> Outcome {
+pub fn saved_and_read(before: &Outcome) -> Outcome {
     let target = image::bytes(typed(before).nodes) as usize;
     let saved = both(&next(
         before,
