@@ -3,7 +3,7 @@
 import argparse
 import sys
 
-from tapelib import firmware, log, machine
+from tapelib import explain, firmware, log, machine
 
 
 def bounded(least, most):
@@ -25,6 +25,7 @@ def parser():
     top.add_argument("--workers", type=bounded(1, 8), default=3, help="default 3")
     top.add_argument("--splitters", type=bounded(1, 256), default=8, help="default 8")
     top.add_argument("--nodes", type=bounded(1, 16384), default=500, help="of the pool that the log asks for (default 500)")
+    top.add_argument("--folds", action="store_true", help="fold into the reducers as well; the totals go to standard error")
     top.add_argument("--text", action="store_true", help="a text, not a binary log")
     return top
 
@@ -35,7 +36,12 @@ def main(words):
     if given.nodes < least:
         print(f"make_log.py: {given.splitters} splitters need {least} nodes at least, not {given.nodes}", file=sys.stderr)
         return 2
-    made = firmware.search(given.seed, given.steps, given.rule == "note-b", given.workers, given.splitters, given.nodes)
+    sizes = (given.seed, given.steps, given.rule == "note-b", given.workers, given.splitters, given.nodes)
+    if given.folds:
+        made, totals = firmware.folding_search(*sizes)
+        print(f"make_log.py: the firmware's totals: {explain.total_words(totals)}", file=sys.stderr)
+    else:
+        made = firmware.search(*sizes)
     sys.stdout.buffer.write(log.to_text(made).encode() if given.text else log.to_bytes(made))
     return 0
 

@@ -16,7 +16,7 @@ HERE = Path(__file__).resolve().parent
 ROOT = HERE.parent
 sys.path.insert(0, str(HERE))
 
-from tapelib import audit, firmware, log, machine, script, shorten  # noqa: E402
+from tapelib import audit, explain, firmware, log, machine, script, shorten  # noqa: E402
 
 SPLITRUN = os.path.abspath(os.environ.get("SPLITRUN", ROOT / "target/bin/splitrun"))
 ARCHIVE = Path(os.environ.get("SPLITTER_LIB_DIR", ROOT / "target/staticlib")) / "libsplitter.a"
@@ -60,7 +60,8 @@ def plain_words(given):
 
 class Forms(unittest.TestCase):
     def test_text_and_bytes_are_the_same_log(self):
-        for given in [log.from_text(NOTE_B)] + [firmware.search(seed, 60, True) for seed in range(10)]:
+        folding = [firmware.folding_search(seed, 60, True)[0] for seed in range(10)]
+        for given in [log.from_text(NOTE_B)] + [firmware.search(seed, 60, True) for seed in range(10)] + folding:
             for other in (log.read(log.to_bytes(given)), log.read(log.to_text(given).encode())):
                 self.assertEqual((other.start, plain_words(other)), (given.start, plain_words(given)))
 
@@ -132,6 +133,10 @@ class Refused(unittest.TestCase):
         self.refused(NOTE_B, "make lib first", "--library", SPLITTER_LIB_DIR="/nowhere")
 
     def test_make_log(self):
+        done = run(HERE / "make_log.py", "right", "--seed", "3", "--folds")
+        made, totals = firmware.folding_search(3, 300, False)
+        self.assertEqual((done.returncode, done.stdout), (0, log.to_bytes(made)))
+        self.assertEqual(done.stderr.decode(), f"make_log.py: the firmware's totals: {explain.total_words(totals)}\n")
         for words in (["wrong"], ["right", "--seed", "x"], ["right", "--steps", "0"], ["right", "--splitters", "257"], ["right", "--nodes", "14"]):
             done = run(HERE / "make_log.py", *words)
             self.assertEqual((done.returncode, done.stdout), (2, b""))
@@ -153,6 +158,22 @@ class Searches(unittest.TestCase):
             self.assertEqual(by_machine(right).against_b, other)
             shown += bool(other)
         self.assertGreater(shown, 15)
+
+    def test_folds(self):
+        """The firmware has no views: its totals come from its folds in order. They do not depend on the rule; another order gives others."""
+        orders = 0
+        for seed in range(1, 31):
+            (right, totals), (wrong, same) = (firmware.folding_search(seed, 300, note_b) for note_b in (False, True))
+            self.assertEqual((right.records(), totals), (wrong.records(), same))
+            self.assertEqual((by_machine(right).differing, by_machine(wrong).against_b), ([], []))
+            self.assertEqual(audit.plain_totals(audit.events_of(right)), totals)
+            in_time = [item.record for item in right.entries if item.record[0] == 7]
+            view = machine.IDENTITY
+            for _, _, reducer, value in (struct.unpack("<BBHI", record) for record in in_time):
+                view = machine.join(view, machine.folded(reducer, value))
+            self.assertEqual(view[:2], totals[:2])
+            orders += view != totals
+        self.assertGreater(orders, 20)
 
     def test_short_scripts_show_the_same_difference(self):
         for seed in range(1, 31):
@@ -238,6 +259,20 @@ class Reports(unittest.TestCase):
         self.assertIn("the log has       106 8\n    splitrun gives    106 10\n    note B gives      106 8\n", out)
         self.assertIn("resumed by worker 0 at record 7, after its last child frame 1.1 ended.\nas note B", out)
 
+    def test_folds_and_totals(self):
+        """The totals of the replay are told, to be compared with the firmware's, if the log has folds and Main has returned."""
+        made, totals = firmware.folding_search(3, 300, False)
+        words = f"totals, as splitrun gives them: sum {totals[0]}, minimum {totals[1]}, affine map x to {totals[2]} x + {totals[3]}\n"
+        code, out, _ = audited(log.to_bytes(made))
+        self.assertEqual((code, out.endswith(words)), (0, True), out)
+        steps = "0 fold sum 5 -> 107 0\n0 fold 2 65537 -> 107 0\n0 fold 9 1 -> 20 0\n"
+        self.assertNotIn("totals", audited(HEAD + steps)[1])
+        self.assertIn("sum 5, minimum 4294967295, affine map x to 1 x + 1\n", audited(HEAD + steps + "0 return\n")[1])
+        self.assertNotIn("totals", audited(HEAD + "0 return -> 102 3\n")[1])
+        code, out, _ = audited(HEAD + "0 fold 9 1 -> 107 0\n")
+        self.assertEqual(code, 1)
+        self.assertIn("On worker 0: refused 20: The step is a fold and names no reducer.", out)
+
     def test_a_pool_too_small(self):
         code, out, _ = audited("start 2 3\nvalues 1 2\n0 spawn -> 101 1\n0 write 1 7 -> 106 -\n")
         self.assertEqual(code, 1)
@@ -285,8 +320,9 @@ class Reports(unittest.TestCase):
 
     def test_another_program_than_splitrun(self):
         """Not splitrun's lines; splitrun's lines with a wrong answer."""
-        lines = "2 4 20\n101 1\n103 0\n106 10\n105 0\n104 1\n10 0\n102 2\n105 1\n102 3\nfree 20\n"
+        lines = "2 4 20\n101 1\n103 0\n106 10\n105 0\n104 1\n10 0\n102 2\n105 1\n102 3\nfree 20\nreduced 0 4294967295 1 0\n"
         for printed, code, words in ((lines.replace("105 1", "x"), 2, "'x': not splitrun's"), ("", 2, "0 lines"),
+                                     (lines.replace("reduced 0", "reduced 1"), 1, "totals: splitrun says (1, 4294967295, 1, 0), the plain machine (0,"),
                                      (lines.replace("105 1", "105 7"), 1, "record 8: splitrun says 105 7, the plain machine 105 1")):
             with tempfile.TemporaryDirectory() as folder:
                 program = Path(folder) / "other"
@@ -304,8 +340,8 @@ class Library(unittest.TestCase):
         program = audit.built_replay()
         inputs = [(ROOT / "crates/splitrun/stdin").read_bytes(), b"\2\0\0\0\x14\0\0\0", b"\2\0\1\0\0\0\0\0" + bytes(4)]
         for seed in range(10):
-            given = firmware.search(seed, 200, False)
-            inputs.append(given.start + given.records())
+            for given in (firmware.search(seed, 200, False), firmware.folding_search(seed, 200, False)[0]):
+                inputs.append(given.start + given.records())
         for data in inputs:
             self.assertEqual(audit.splitrun_lines(program, data), audit.splitrun_lines(SPLITRUN, data))
 
@@ -360,6 +396,7 @@ class Page(unittest.TestCase):
         done = run(HERE / "tape.py", "audit", HERE / "examples/sync.log", "--splitrun", SPLITRUN)
         self.assertEqual(done.returncode, 1)
         self.shown(done.stdout.decode())
+        self.shown(audited(log.to_bytes(firmware.folding_search(3, 300, False)[0]))[1].splitlines()[-1])
         quiet = [seed for seed in range(1, 16) if not by_machine(firmware.search(seed, 300, True)).differing]
         self.assertEqual(len(quiet), 5)
 

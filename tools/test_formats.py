@@ -18,7 +18,7 @@ ARCHIVE = ROOT / "target/staticlib/libsplitter.a"
 TEXT = (ROOT / "docs/FORMATS.md").read_text()
 WRITER, READER = re.findall(r"```python\n(.*?)```", TEXT, re.S)
 WRITE_8 = struct.pack("<BBHI", 6, 0, 0, 8)
-SIZES = [1, 10, 11, 20, 72, 1024, 2048, 16384]
+SIZES = [1, 10, 25, 26, 72, 1024, 2048, 16384]
 
 # The example's first five records, then a save into the file argv[1]. It prints the nodes after the start, answers, sizes.
 PROGRAM = """
@@ -39,6 +39,7 @@ int main(int argc, char **argv) {
     show(splitter_lent_step(&lent, 257, 0, 0, 0));
     show(splitter_lent_step(&lent, 1, 256, 0, 0));
     show(splitter_lent_step(&lent, 5, 0, 65536, 0));
+    show(splitter_lent_step(&lent, 7, 0, 65536, 0));
     show(splitter_lent_step(&lent, 3, 1, 65536, 0));
     show(splitter_spawn(&lent, 0));
     show(splitter_steal(&lent, 1, 0));
@@ -143,13 +144,12 @@ class Images(unittest.TestCase):
         self.assertEqual(self.said[:20], wanted)
 
     def test_answers(self):
-        self.assertEqual(self.said[20:29], ["7 0", "8 0", "15 0", "12 0", "101 1", "103 0", "106 5", "105 50", "104 1"])
+        self.assertEqual(self.said[20:30], ["7 0", "8 0", "15 0", "20 0", "12 0", "101 1", "103 0", "106 5", "105 50", "104 1"])
 
     def test_sizes(self):
-        rows = re.findall(r"\| bytes, version (\d) \|(.*)\|", TEXT)
-        sizes = {version: [number(cell.strip()) for cell in cells.split("|")] for version, cells in rows}
-        self.assertEqual([str(size) for size in sizes["1"]], self.said[29:37])
-        self.assertEqual(sizes["0"], [512 * -(-(909 + 4 * nodes) // 127) for nodes in SIZES])
+        rows = [re.search(rf"^\| {name} \|([ 0-9,|]+)\|$", TEXT, re.M)[1].split("|") for name in ("nodes", "bytes")]
+        nodes, sizes = ([number(cell.strip()) for cell in row] for row in rows)
+        self.assertEqual((nodes, [str(size) for size in sizes]), (SIZES, self.said[30:38]))
 
     def test_the_reader_prints_what_is_shown(self):
         shown = TEXT[TEXT.index("saved after its fifth record") :].split("\n\n")[1]
@@ -157,12 +157,21 @@ class Images(unittest.TestCase):
         self.assertEqual(run_python(READER, str(self.image)).stdout.decode(), wanted)
 
     def test_the_first_bytes(self):
-        shown = bytes.fromhex(re.search(r"that image begins `([0-9a-f ]+)`", TEXT)[1])
+        begin, then = (bytes.fromhex(dump) for dump in re.search(r"that image begins `([0-9a-f ]+)`[^`]*`([0-9a-f ]+)`", TEXT).groups())
+        shown = begin + bytes(4 * 4) + then
         self.assertEqual(self.image.read_bytes()[: len(shown)], shown)
 
-    def test_the_reader_reads_the_form_before(self):
-        said = run_python(READER, str(ROOT / "tests/host/data/r1_run.image"))
-        self.assertEqual(said.stdout.decode().split("\n")[0], "version 0: 4 workers, 5 splitters, 40 nodes")
+    def test_the_words_of_records_and_folds(self):
+        shown = re.search(r"into reducer 2: `([0-9a-f ]+)`", TEXT)[1]
+        self.assertEqual(bytes.fromhex(shown), struct.pack("<BBHI", 7, 0, 2, 65536 * 10 + 3))
+
+    def test_the_reader_refuses_other_forms(self):
+        block = self.image.read_bytes()[:512]
+        for first in (2, 256 + 2, 768 + 2):
+            words = [first, *struct.unpack("<126I", block[4:508])]
+            said = self.read(struct.pack("<128I", *words, sum(words) % 2**32))
+            self.assertEqual((said.returncode, said.stdout), (1, b""))
+            self.assertIn("a version that is not read", said.stderr.decode())
 
     def test_the_reader_refuses_damage(self):
         data = self.image.read_bytes()

@@ -11,6 +11,7 @@ import tempfile
 import time
 import unittest
 import xml.dom.minidom
+from itertools import permutations
 from pathlib import Path
 
 HERE = Path(__file__).resolve().parent
@@ -22,7 +23,8 @@ from tapelib import cli, draw, explain, image, machine, script, soundness  # noq
 SPLITRUN = os.path.abspath(os.environ.get("SPLITRUN", ROOT / "target/bin/splitrun"))
 STDIN = Path(os.environ.get("SPLITRUN_STDIN", ROOT / "crates/splitrun/stdin"))
 EXAMPLES = sorted((HERE / "examples").glob("*.tape"))
-DOCUMENT01 = "2 5 20|101 1|103 0|106 5|105 50|104 1|10 0|102 2|105 99|102 3|free 20".split("|")
+NOTHING = "reduced 0 4294967295 1 0"  # the totals where nothing was folded
+DOCUMENT01 = f"2 5 20|101 1|103 0|106 5|105 50|104 1|10 0|102 2|105 99|102 3|free 20|{NOTHING}".split("|")
 needs_splitrun = unittest.skipUnless(os.path.exists(SPLITRUN), f"no splitrun at {SPLITRUN}")
 
 
@@ -37,7 +39,10 @@ def tape(*words, given=b""):
 def random_line(chance, workers, n):
     """A step that is often accepted, or now and then a raw record."""
     who = chance.randrange(workers + (chance.random() < 0.05))
-    kind = chance.choice(("spawn", "spawn", "return", "return", "steal", "steal", "sync", "read", "read", "write", "write", "raw"))
+    kinds = ("spawn", "spawn", "return", "return", "steal", "steal", "sync", "read", "read", "write", "write", "fold", "fold", "raw")
+    kind = chance.choice(kinds)
+    if kind == "fold":  # a map with an odd multiplier loses no earlier one
+        return f"{who} fold {chance.randrange(3 + (chance.random() < 0.05))} {chance.randrange(2**32) | 65536}"
     if kind == "raw":
         return "raw " + " ".join(f"{chance.choice((0, 0, 0, 1, 5, 255)):02x}" for _ in range(8))
     place = chance.randrange(n + (chance.random() < 0.05))
@@ -92,8 +97,22 @@ class Bytes(unittest.TestCase):
         self.assertEqual(example("document01")[28:52].hex(), "0100000000000000" "0301000000000000" "0601040063000000")
 
     def test_raw_lines(self):
-        text = script.decode(example("note_b") + b"\x07" + bytes(7) + b"\x01\x02")
-        self.assertEqual(text.split("\n")[-3:-1], ["raw 07 00 00 00 00 00 00 00", "raw 01 02"])
+        text = script.decode(example("note_b") + b"\x08" + bytes(7) + b"\x01\x02")
+        self.assertEqual(text.split("\n")[-3:-1], ["raw 08 00 00 00 00 00 00 00", "raw 01 02"])
+
+    def test_folds_by_number_and_by_name(self):
+        head = "start 1 9\nvalues 1\n"
+        for line, record, shown in (
+            ("0 fold 0 5", "0700000005000000", "0 fold sum 5"),
+            ("0 fold sum 5", "0700000005000000", "0 fold sum 5"),
+            ("3 fold min 4294967295", "07030100ffffffff", "3 fold min 4294967295"),
+            ("0 fold 2 65537", "0700020001000100", "0 fold affine 1 1"),
+            ("0 fold affine 1 1", "0700020001000100", "0 fold affine 1 1"),
+            ("0 fold affine 65535 65534", "07000200feffffff", "0 fold affine 65535 65534"),
+            ("0 fold 3 7", "0700030007000000", "0 fold 3 7"),
+        ):
+            data = script.encode(head + line + "\n")
+            self.assertEqual((data[12:].hex(), script.decode(data).split("\n")[2]), (record, shown))
 
 
 class Errors(unittest.TestCase):
@@ -127,6 +146,15 @@ class Errors(unittest.TestCase):
             ("0 write 4", "takes splitter value"),
             ("256 spawn", "more than 255"),
             ("0 read 65536", "more than 65535"),
+            ("0 fold", "fold takes reducer value"),
+            ("0 fold sum", "fold sum takes value"),
+            ("0 fold 2 1 1", "fold takes reducer value"),
+            ("0 fold affine 1", "fold affine takes multiplier addend"),
+            ("0 fold affine 65536 1", "the multiplier 65536 is more than 65535"),
+            ("0 fold affine 1 65536", "the addend 65536 is more than 65535"),
+            ("0 fold most 1", "'most' is no reducer; the reducers are sum, min, affine, or a number"),
+            ("0 fold 65536 1", "the reducer 65536 is more than 65535"),
+            ("0 fold sum 4294967296", "more than 4294967295"),
             ("raw 0g", "two hexadecimal"),
             ("raw 1 2", "two hexadecimal"),
             ("raw " + "00 " * 9, "at most 8"),
@@ -223,6 +251,42 @@ RETURNS = {
 }
 
 
+# Document 02's R-5: folds, and splitrun's lines after the first. The affine map of a digit appends it to the addend.
+FIVE_WORKERS = "start 5 20\nvalues 1\n"
+THREE = (  # Main folds 1, 3, 5 and 7 and waits; its three children, on workers 0, 1 and 2, will fold 2, 4 and 6
+    "0 fold affine 10 1\n0 spawn\n1 steal 0\n1 fold affine 10 3\n1 spawn\n2 steal 1\n2 fold affine 10 5\n2 spawn\n3 steal 2\n"
+    "3 fold affine 10 7\n3 return\n"
+)
+THREE_LINES = "107 0|101 1|103 0|107 0|101 1|103 0|107 0|101 1|103 0|107 0|102 4"
+ENDS = {worker: f"{worker} fold affine 10 {digit}\n{worker} return\n" for worker, digit in ((0, 2), (1, 4), (2, 6))}
+FOLDS = {
+    # each reducer, modulo 2^32; nothing is printed while Main lives
+    f"{LONE}0 fold sum 4294967295\n0 fold sum 3\n0 fold min 9\n0 fold min 8\n0 fold affine 3 1\n0 fold affine 65535 7\n0 return\n": (
+        "107 0|107 0|107 0|107 0|107 0|107 0|102 3|free 600|reduced 2 8 196605 65542"
+    ),
+    f"{LONE}0 fold sum 5\n": "107 0|free 599",
+    f"{LONE}0 fold affine 0 0\n0 fold sum 1\n0 fold min 0\n0 return\n": "107 0|107 0|107 0|102 3|free 600|reduced 1 0 0 0",
+    # the order of the refusals: 7, 8, 9, 10, then 20 in the place of 15
+    f"{LONE}0 fold 3 1\n8 fold 3 1\n1 fold 3 1\n1 fold sum 1\n0 fold 65535 0\nraw 08 00 00 00 00 00 00 00\n0 return\n0 fold 3 1\n": (
+        f"20 0|8 0|10 0|10 0|20 0|7 0|102 3|9 0|free 600|{NOTHING}"
+    ),
+    # a child inherits, the continuation begins anew; one worker
+    f"{LONE}0 fold affine 10 1\n0 spawn\n0 fold affine 10 2\n0 return\n0 fold affine 10 3\n0 return\n": (
+        "107 0|101 1|107 0|102 0|107 0|102 3|free 600|reduced 0 4294967295 1000 123"
+    ),
+    # a view goes to the first in the order below the next younger sibling: 2.1, not 2
+    f"{FIVE_WORKERS}0 spawn\n1 steal 0\n1 spawn\n2 steal 1\n1 spawn\n3 steal 1\n3 fold affine 10 3\n3 return\n0 fold affine 10 1\n0 return\n"
+    "1 fold affine 10 2\n2 fold affine 10 4\n1 return\n2 return\n": (
+        "101 1|103 0|101 1|103 0|101 2|103 1|107 0|102 4|107 0|102 1|107 0|107 0|102 1|102 3|free 20|reduced 0 4294967295 10000 1234"
+    ),
+}
+# whoever of three siblings ends first
+FOLDS.update({
+    f"{FIVE_WORKERS}{THREE}{ENDS[a]}{ENDS[b]}{ENDS[c]}": f"{THREE_LINES}|107 0|102 1|107 0|102 1|107 0|102 3|free 20|reduced 0 4294967295 10000000 1234567"
+    for a, b, c in permutations((0, 1, 2))
+})
+
+
 class Node:
     """A node of a split tree: its links, and how many links and frames hold it."""
 
@@ -312,7 +376,8 @@ class Writes(unittest.TestCase):
 class Returns(unittest.TestCase):
     def test_returns_that_wait(self):
         for text, lines in RETURNS.items():
-            self.assertEqual(machine.run(script.encode(text)).lines[1:], lines.split("|"), text)
+            wanted = lines.split("|")
+            self.assertEqual(machine.run(script.encode(text)).lines[1:], wanted + [NOTHING] * ("102 3" in wanted), text)
 
     def test_random_scripts_have_every_outcome(self):
         """And in each: who lives, who waits, and that a chain ends child first."""
@@ -336,6 +401,108 @@ class Returns(unittest.TestCase):
         self.assertEqual(ends, {(0, False), (1, False), (1, True), (2, False), (2, True), (3, False), (3, True), (4, False)})
 
 
+def child_first(events):
+    """The folds of each frame in order, those of a child where it was spawned, without views: document 02's totals directly."""
+    steps = {(): []}
+    for event in events:
+        if not event.refusal and event.kind == "spawn":
+            steps[event.other] = []
+            steps[event.frame].append(steps[event.other])
+        elif not event.refusal and event.kind == "fold":
+            steps[event.frame].append((event.low, event.value))
+    return flat(steps[()])
+
+
+def flat(steps):
+    return [fold for step in steps for fold in (flat(step) if isinstance(step, list) else [step])]
+
+
+def by_definition(folds):
+    """The identity joined with the values folded into each reducer, in order."""
+    x, multiplier = 0, 1
+    for value in (value for reducer, value in folds if reducer == 2):
+        x, multiplier = (x * (value >> 16) + (value & 0xFFFF)) % 2**32, multiplier * (value >> 16) % 2**32
+    values = [[value for reducer, value in folds if reducer == which] for which in (0, 1)]
+    return sum(values[0]) % 2**32, min([2**32 - 1, *values[1]]), multiplier, x
+
+
+def most_siblings(events):
+    """The most live children that a frame had at some time."""
+    children, most = {(): 0}, 0
+    for event in events:
+        if not event.refusal and event.kind == "spawn":
+            children[event.other] = 0
+            children[event.frame] += 1
+            most = max(most, children[event.frame])
+        for name in event.ended:
+            if name:
+                children[name[:-1]] -= 1
+    return most
+
+
+def folding_line(chance, plain, worker):
+    """A step of a busy worker, or a steal; maps with odd multipliers lose no earlier one."""
+    if not plain.deques[worker]:
+        return f"{worker} steal {chance.randrange(len(plain.deques))}"
+    kind = chance.choice(("fold", "fold", "fold", "spawn", "spawn", "return", "sync"))
+    return f"{worker} fold {chance.randrange(3)} {chance.randrange(2**32) | 65536}" if kind == "fold" else f"{worker} {kind}"
+
+
+def folding_script(seed):
+    """Many folds, steals and waiting returns; then every frame returns, in any order."""
+    chance = random.Random(seed)
+    workers = chance.randint(2, 8)
+    plain, lines = machine.Machine(workers, [7], 600), [f"start {workers} 600", "values 7"]
+    while plain.frames:
+        busy = [worker for worker in range(workers) if plain.deques[worker]]
+        line = folding_line(chance, plain, chance.randrange(workers)) if len(lines) < 90 else f"{chance.choice(busy)} return"
+        record = script.records_bytes([(1, line.split())])
+        ends = plain.look(record).frame == () and line.endswith("return") and len(lines) < 80
+        if not ends and not plain.look(record).refusal:
+            plain.step(record)
+            lines.append(line)
+    return "\n".join(lines) + "\n"
+
+
+class Folds(unittest.TestCase):
+    def test_folds(self):
+        for text, lines in FOLDS.items():
+            self.assertEqual(machine.run(script.encode(text)).lines[1:], lines.split("|"), text)
+
+    def test_the_operations(self):
+        """Each has its identity on either side, and grouping never matters."""
+        chance = random.Random(5)
+        for _ in range(300):
+            a, b, c = ([chance.choice((0, 1, 2, 2**31, 2**32 - 1, chance.randrange(2**32))) for _ in range(4)] for _ in range(3))
+            self.assertEqual(machine.join(machine.join(a, b), c), machine.join(a, machine.join(b, c)))
+            self.assertEqual((machine.join(machine.IDENTITY, a), machine.join(a, machine.IDENTITY)), (tuple(a), tuple(a)))
+
+    def test_totals_are_those_of_the_child_first_list(self):
+        siblings, orders = 0, 0
+        for seed in range(60):
+            run = machine.run(script.encode(folding_script(seed)))
+            folds = child_first(run.events)
+            self.assertEqual(run.totals, by_definition(folds))
+            in_time = [(event.low, event.value) for event in run.events if event.kind == "fold" and not event.refusal]
+            orders += by_definition(in_time) != run.totals
+            siblings += most_siblings(run.events) >= 3
+        self.assertTrue(siblings >= 20 and orders >= 40, (siblings, orders))
+
+    def test_the_score_under_three_schedules(self):
+        """The same frames' steps by one, two and four workers."""
+        lists = set()
+        for name in ("score_one", "score_two", "score_four"):
+            run = machine.run(example(name))
+            self.assertEqual(run.lines[-1], "reduced 190 16 1410065408 2516364964")
+            steps = {}
+            for event in run.events:
+                self.assertEqual(event.refusal, 0)
+                if event.kind != "steal":
+                    steps.setdefault(event.frame, []).append((event.kind, event.low, event.value))
+            lists.add(str(sorted(steps.items())))
+        self.assertEqual(len(lists), 1)
+
+
 class Words(unittest.TestCase):
     def test_document01(self):
         words = explain.run_words(machine.run(example("document01")))
@@ -350,8 +517,27 @@ class Words(unittest.TestCase):
             (7, "frame 1 ends, the last child; Main resumes on worker 0"),
             (8, "Main reads splitter 4: 99"),
             (9, "the run is over. Free nodes: 20"),
+            (11, "the totals: sum 0, minimum 4294967295, affine map x to 1 x + 0"),
         ):
             self.assertIn(part, words[place])
+
+    def test_folds(self):
+        words = explain.run_words(machine.run(example("score_two")))
+        for place, part in (
+            (5, "frame 1 folds 25 into the sum; its view: 25. Free nodes: 30"),
+            (6, "frame 1 folds 25 into the minimum; its view: 25. Free nodes: 30"),
+            (7, "frame 1 folds x to 100 x + 25 into the affine map; its view: x to 100 x + 25. Free nodes: 30"),
+            (8, "frame 1 ends; worker 0 is idle. What was folded joins frame 2's view. Free nodes: 33"),
+            (10, "Main spawns frame 3, depth 1, a copy of Main's values. Free nodes: 33"),
+            (16, "frame 2 spawns frame 2.1, depth 2, a copy of frame 2's values; what was folded goes with it. Free nodes: 27"),
+            (17, "frame 3 ends; its parent Main is the bottom of worker 0 again. What was folded joins Main's view. Free nodes: 30"),
+            (20, "Main folds x to 100 x + 64 into the affine map; its view: x to 10000 x + 4964. Free nodes: 30"),
+            (30, "frame 2 ends, and with it Main, which waited; the run is over. Free nodes: 40"),
+            (32, "the totals: sum 190, minimum 16, affine map x to 1410065408 x + 2516364964"),
+        ):
+            self.assertEqual(part, words[place])
+        words = explain.run_words(machine.run(script.encode(f"{LONE}0 fold 3 1\n")))
+        self.assertIn("refused 20: The step is a fold and names no reducer. (bottom frame: Main) Nothing changes.", words[1])
 
     def test_writes(self):
         words = explain.run_words(machine.run(example("shared")))
@@ -417,7 +603,7 @@ class Words(unittest.TestCase):
         words = explain.run_words(machine.run(script.encode("start 1 1\nvalues 1\n" + "0 spawn\n" * 63)))
         self.assertEqual(words[63], "frame 1^62 spawns frame 1^63, depth 63, a copy of frame 1^62's values. Free nodes: 0")
         words = explain.run_words(machine.run(script.encode(f"{LONE}{CHAIN}0 return\n")))
-        self.assertIn("frame 1^63 ends, and with it 63 frames from frame 1^62 up to Main, which waited; the run is over", words[-2])
+        self.assertIn("frame 1^63 ends, and with it 63 frames from frame 1^62 up to Main, which waited; the run is over", words[-3])
 
 
 STEP = "start 1 9\nvalues 5 6\n"
@@ -442,8 +628,24 @@ class Expects(unittest.TestCase):
         self.assertEqual(self.misses("start 9 9\nvalues 1\n0 read 0 expect 105 1\n"), [(3, "105 1", "refused 2")])
         self.assertEqual(self.misses(STEP + "0 spawn\n0 read 0 expect 105 5\n", ["1 2 9"]), [(4, "105 5", "(no line)")])
 
+    def test_totals(self):
+        ended, live = STEP + "0 fold sum 5 expect 107 0\n0 return\n", STEP + "0 fold sum 5\n"
+        for last in ("expect free 9\nexpect reduced 5 4294967295 1 0\n", "expect reduced 5 4294967295 1 0\nexpect free 9\n"):
+            self.assertEqual(self.misses(ended + last), [])
+            self.assertEqual(len(script.parse(ended + last).expects), 3)
+        wrong = [(6, "reduced 6 4294967295 1 0", "reduced 5 4294967295 1 0")]
+        self.assertEqual(self.misses(ended + "expect free 9\nexpect reduced 6 4294967295 1 0\n"), wrong)
+        self.assertEqual(self.misses(live + "expect reduced 5 4294967295 1 0\n"), [(4, "reduced 5 4294967295 1 0", "free 6")])
+        parsed = script.parse(ended + "expect reduced 6 4294967295 1 0\n")
+        run = machine.run(parsed.data)
+        misses = explain.missed(parsed.expects, run.lines)
+        text = explain.explained(parsed.data, run, run.lines, misses)[0]
+        self.assertIn("reduced 5 4294967295 1 0  !!! EXPECTED reduced 6 4294967295 1 0 (line 5). the totals: sum 5", text)
+        said = "line 5: at the end: expected reduced 6 4294967295 1 0, splitrun says reduced 5 4294967295 1 0"
+        self.assertEqual(misses[0].words(), said)
+
     def test_raw_records(self):
-        self.assertEqual(self.misses(STEP + "raw 07 00 00 00 00 00 00 00 expect 7 0\nraw 01\nexpect refused 4\n"), [(3, "7 0", "refused 4")])
+        self.assertEqual(self.misses(STEP + "raw 08 00 00 00 00 00 00 00 expect 7 0\nraw 01\nexpect refused 4\n"), [(3, "7 0", "refused 4")])
 
     def test_errors(self):
         for text, line, words in (
@@ -455,8 +657,11 @@ class Expects(unittest.TestCase):
             ("0 read 1 expect free x\n", 3, "decimal"),
             ("0 read 1 expect 105 4294967296\n", 3, "more than 4294967295"),
             ("0 read 1 expect 105 6\nexpect 105 6\n", 4, "expected in line 3 already"),
-            ("0 read 1\nexpect free 9\n0 read 1\n", 4, "nothing may come after it"),
-            ("expect free 9\nexpect free 9\n", 3, "nothing may come after it"),
+            ("0 read 1\nexpect free 9\n0 read 1\n", 4, "no step may come after it"),
+            ("expect free 9\nexpect free 9\n", 4, "expected in line 3 already"),
+            ("expect free 9\nexpect reduced 0 1 1 0\nexpect free 9\n", 5, "expected in line 3 already"),
+            ("0 read 1 expect reduced 0 1 1\n", 3, "reduced SUM MIN MULTIPLIER ADDEND"),
+            ("0 read 1 expect free\n", 3, "free N"),
         ):
             with self.assertRaises(script.ScriptError) as caught:
                 script.parse(STEP + text)
@@ -619,11 +824,14 @@ class Documents(unittest.TestCase):
             data, text = example(name), (HERE / f"examples/{name}.tape").read_text()
             own = machine.run(data)
             self.on_the_page(text, explain.explained(data, own, own.lines)[0])
+        self.on_the_page(*((HERE / f"examples/{name}.tape").read_text() for name in ("score_one", "score_four")))
+        own = machine.run(example("score_two"))
+        self.on_the_page(explain.explained(example("score_two"), own, own.lines)[0])
 
     def test_the_page_s_script_gives_what_it_expects(self):
         page = (ROOT / "docs/TAPES.md").read_text().split("## The script\n")[1].split("\nNumbers are decimal.")[0]
         parsed = script.parse(page)
-        self.assertEqual(len(parsed.expects), 3)
+        self.assertEqual(len(parsed.expects), 4)
         self.assertEqual(explain.missed(parsed.expects, machine.run(parsed.data).lines), [])
 
     def test_the_expected_answers_are_what_the_tool_prints(self):
@@ -633,15 +841,15 @@ class Documents(unittest.TestCase):
         misses = explain.missed(wrong.expects, DOCUMENT01)
         rows = explain.explained(wrong.data, machine.run(wrong.data), DOCUMENT01, misses)[0].splitlines()
         self.on_the_page(*[row + "\n" for row in rows if "EXPECTED" in row], f"!!! {misses[0].words()}\n")
-        self.assertEqual((len(wrong.expects), len(misses)), (10, 1))
+        self.assertEqual((len(wrong.expects), len(misses)), (11, 1))
 
     def test_note_b_is_what_the_tool_prints(self):
         data = example("note_b")
         self.on_the_page(explain.side_by_side(data, machine.run(data), machine.run(data, note_b=True))[0])
 
     def test_the_pictures_are_what_the_tool_draws(self):
-        for name in ("note_b", "waits"):
-            picture = draw.picture(machine.run(example(name)))
+        for name, tape_name in (("note_b", "note_b"), ("waits", "waits"), ("score", "score_two")):
+            picture = draw.picture(machine.run(example(tape_name)))
             self.assertEqual((ROOT / f"docs/{name}.svg").read_text(encoding="utf-8"), picture)
 
 
@@ -685,13 +893,22 @@ class Pictures(unittest.TestCase):
         for part in ("write 255", ":= 4294967294", "read 255", "= 4294967294"):
             self.assertIn(part, words)
 
+    def test_folds(self):
+        text = f"{LONE}0 fold sum 4294967295\n0 fold min 4294967294\n0 fold affine 65535 65535\n0 fold 9 7\n0 spawn\n1 steal 0\n0 return\n1 return\n"
+        words = self.words(text)
+        for part in ("fold sum", "4294967295", "fold min", "4294967294", "fold affine", "x65535 +65535", "fold 9", "refused 20", "view to Main"):
+            self.assertIn(part, words)
+        self.assertIn("totals: sum 4294967295, minimum 4294967294, affine map x to 65535 x + 65535", words)
+        self.assertFalse([w for w in self.words(text, 1, 6) if w.startswith("totals")])
+        self.assertFalse([w for w in self.words(f"{LONE}0 return\n") if w.startswith("totals")])
+
     def words(self, text, *window):
         return [box[4] for box in text_boxes(draw.picture(machine.run(script.encode(text)), True, *window))]
 
     def test_refused_records_have_their_fields(self):
-        text = "start 2 9\nvalues 5 6\n0 read 9\n0 write 700 4294967294\n1 steal 44\n0 steal 3\n9 spawn\n1 sync\nraw 07 00 01 00 ff 00 00 00\n"
+        text = "start 2 9\nvalues 5 6\n0 read 9\n0 write 700 4294967294\n1 steal 44\n0 steal 3\n9 spawn\n1 sync\nraw 08 00 01 00 ff 00 00 00\n"
         words = self.words(text)
-        for part in ("read 9", "write 700", ":= 4294967294", "steal 44", "steal 3", "spawn", "sync", "raw 07000100", "ff000000"):
+        for part in ("read 9", "write 700", ":= 4294967294", "steal 44", "steal 3", "spawn", "sync", "raw 08000100", "ff000000"):
             self.assertIn(part, words)
         for number in (15, 12, 11, 8, 10, 7):
             self.assertIn(f"refused {number}", words)
@@ -717,7 +934,7 @@ class Pictures(unittest.TestCase):
         words = self.words("start 1 9\nvalues 5\n0 read 0\n")
         self.assertEqual([w for w in words if w in {entry[2] for entry in draw.LEGEND}], ["the frame that a worker executes", "read"])
         all_words = [entry[2] for entry in draw.LEGEND]
-        words = self.words((HERE / "examples/waits.tape").read_text())
+        words = self.words((HERE / "examples/waits.tape").read_text().replace("1 read 4", "1 fold sum 1\n1 read 4"))
         self.assertEqual([w for w in words if w in all_words][-len(all_words) :], all_words)
 
     def test_a_frame_has_one_colour_in_every_part(self):
@@ -756,8 +973,9 @@ def start_words(workers, values, nodes):
     tree += [(1, NONE, NONE, value) for value in values]
     used = len(tree)
     tree += [(0, at + 1 if at + 1 < nodes else NONE, 0, 0) for at in range(used, nodes)]
-    frames = [(1, NONE, 0, 0, 0, 0, 0)] + [(0, at + 1 if at < 63 else NONE, 0, 0, 0, 0, 0) for at in range(1, 64)]
-    numbers = [workers + 256, len(values), nodes, used if used < nodes else NONE, 1]
+    main, free = (1, NONE, 0, 0, 0, 0, 0, *machine.IDENTITY, NONE), (0,) * 10
+    frames = [main] + [(0, at + 1 if at < 63 else NONE, *free) for at in range(1, 64)]
+    numbers = [workers + 512, len(values), nodes, used if used < nodes else NONE, 1, 0, 0, 0, 0]
     return numbers + [1] + [0] * (8 * 65 - 1) + [word for record in frames + tree for word in record]
 
 
@@ -769,7 +987,7 @@ def image_bytes(words):
 
 
 FIVE = start_words(2, [10, 20, 30, 40, 50], 20)
-DEQUES, RECORDS, POOL = 5, 525, 973  # the first words of the deques, the frame records, the pool
+DEQUES, RECORDS, POOL = 9, 529, 1297  # the first words of the deques, the frame records, the pool
 
 
 def changed(changes, words=FIVE):
@@ -777,19 +995,31 @@ def changed(changes, words=FIVE):
     return [changes.get(at, word) for at, word in enumerate(words)]
 
 
-def older(words):
-    """The image from before R-3: the workers alone in the first word, six words to a record."""
-    records = [word for at, word in enumerate(words[RECORDS:POOL]) if at % 7 != 6]
-    return [words[0] - 256] + words[1:RECORDS] + records + words[POOL:]
+def older(words, version):
+    """The image of version 0 or 1: 256 times that added to the first word, five numbers, six or seven words to a record."""
+    records = [word for at, word in enumerate(words[RECORDS:POOL]) if at % 12 < 6 + version]
+    return [words[0] - 512 + 256 * version] + words[1:5] + words[DEQUES:RECORDS] + records + words[POOL:]
 
 
 def stolen(returning=0):
-    """Main, stolen by worker 1, waits in its sync or as returning; its child, in place 1, is on worker 0, and both hold the tree."""
-    main, child = {3: 1, 4: 1, 6: returning}, {0: 1, 1: 0, 2: 1}
+    """Main, stolen by worker 1, waits in its sync or as returning; its child, in place 1, is on worker 0, and both hold the tree. The
+    child has folded."""
+    main, child = {3: 1, 4: 1, 6: returning}, {0: 1, 1: 0, 2: 1, 7: 30, 8: 5, 9: 100, 10: 12, 11: NONE}
     changes = {4: 2, DEQUES + 1: 1, POOL: 2}
     changes.update({RECORDS + at: word for at, word in main.items()})
-    changes.update({RECORDS + 7 + at: word for at, word in child.items()})
+    changes.update({RECORDS + 12 + at: word for at, word in child.items()})
     return changed(changes)
+
+
+def siblings():
+    """Main on worker 3, its children in places 1, 2 and 3 on workers 0 to 2, eldest first."""
+    words = start_words(4, [10, 20, 30, 40, 50], 20)
+    changes = {4: 4, RECORDS + 3: 3, POOL: 4, DEQUES + 3 * 65: 1, DEQUES + 3 * 65 + 1: 0}
+    for worker in range(3):
+        changes.update({DEQUES + 65 * worker: 1, DEQUES + 65 * worker + 1: worker + 1})
+        record = (1, 0, 1, 0, 0, 0, 0, *machine.IDENTITY, worker + 2 if worker < 2 else NONE)
+        changes.update({RECORDS + 12 * (worker + 1) + at: word for at, word in enumerate(record)})
+    return changed(changes, words)
 
 
 class Images(unittest.TestCase):
@@ -807,21 +1037,20 @@ class Images(unittest.TestCase):
             data[offset] = 3
             self.assertEqual(image.check(data), 3 << 8 * (offset % 4))
         self.assertEqual(image.check(bytes([255]) * 508), 2**32 - 127)
-        self.assertEqual([image.called_for(n) for n in (0, 10, 11, 106, 107, 16384)], [8, 8, 9, 11, 12, 524])
-        self.assertEqual([image.called_for(n, 0) for n in (0, 26, 27, 122, 123, 16384)], [8, 8, 9, 11, 12, 524])
+        self.assertEqual([image.called_for(n) for n in (0, 25, 26, 56, 57, 16384)], [11, 11, 12, 12, 13, 527])
 
     def test_a_good_image(self):
         text = self.told(
             image_bytes(FIVE),
             True,
-            "x: 4608 bytes, 9 blocks\n",
-            "form     version 1: 7 words to a frame record\n",
+            "x: 5632 bytes, 11 blocks\n",
+            "form     version 2: 12 words to a frame record\n",
             "2 workers, 5 splitters, 20 nodes, first free node 11, first free frame place 1\n",
             "worker 0: 0\n         worker 1: idle\n",
             "place 0: Main, depth 0, 0 outstanding, on worker 0, root 0\n",
             "free: 1 to 63\n",
             "11 nodes in use, 9 free\n",
-            "all 9 are right\n",
+            "all 11 are right\n",
             "a reading takes it, with 20 nodes of pool and 20 words of work, or more\n",
         )
         self.assertNotIn("refuse", text)
@@ -832,47 +1061,66 @@ class Images(unittest.TestCase):
             for more in (0, 1, 100):
                 words = start_words(8, list(range(n)), nodes + more)
                 self.told(image_bytes(words), True, f"{nodes} nodes in use, {more} free\n")
-                self.told(image_bytes(older(words)), True, "version 0: 6 words", f"{nodes} nodes in use, {more} free\n")
 
-    def test_both_forms(self):
-        """Read alike, but for the version; each first word below 512 has a form, and none above."""
-        for words in (FIVE, stolen()):
-            new, old = (image.described("x", image_bytes(w))[0].split("\n") for w in (words, older(words)))
-            before = "form     version 0: 6 words to a frame record, from before R-3: no frame waits as returning"
-            self.assertEqual((new[0], old[0], old[1]), ("x: 4608 bytes, 9 blocks", "x: 4096 bytes, 8 blocks", before))
-            self.assertEqual(new[2:-3], old[2:-3])
-            self.assertEqual((new[-3], old[-3]), ("checks   all 9 are right", "checks   all 8 are right"))
+    def test_forms(self):
+        """Each first word from 512 to 767 has a form, and no other; images from before are refused by 17."""
         for workers in (*range(12), 127, 254, 255):
-            taken = 1 <= workers <= 8
-            for words, version in ((FIVE, 256), (older(FIVE), 0)):
-                self.told(image_bytes(changed({0: version + workers}, words)), taken, f"{workers} workers, ", f"version {version // 256}")
-        for first in (512, 514, 768 + 2, 65536 + 258, NONE):
-            for words in (FIVE, older(FIVE)):
-                self.told(image_bytes(changed({0: first}, words)), False, "by 17", f"the first word is {first}, and only those below 512")
-        self.told(image_bytes(changed({0: 2})), False, "by 17", "20 nodes call for 8 blocks, 4096 bytes; the file has 4608")
-        self.told(image_bytes(changed({0: 258}, older(FIVE))), False, "by 17", "20 nodes call for 9 blocks, 4608 bytes; the file has 4096")
+            self.told(image_bytes(changed({0: 512 + workers})), 1 <= workers <= 8, f"{workers} workers, ", "version 2")
+        for first in (0, 2, 255, 256, 258, 511, 768 + 2, 65536 + 514, NONE):
+            reason = f"the first word is {first}, and only 512 to 767 have a form that is read"
+            text = self.told(image_bytes(changed({0: first})), False, "by 17", reason)
+            self.assertNotIn("numbers", text)
+        for version, said in ((0, "x: 4096 bytes, 8 blocks"), (1, "x: 4608 bytes, 9 blocks")):
+            for words in (FIVE, stolen()):
+                before = f"form     version {version}: from before R-5, no longer read\n"
+                self.told(image_bytes(older(words, version)), False, said, before, "by 17", f"the first word is {2 + 256 * version}, and")
+        self.told(image_bytes(changed({0: 514}, older(FIVE, 1))), False, "by 17", "20 nodes call for 11 blocks, 5632 bytes; the file has 4608")
+
+    def test_folds_and_totals(self):
+        self.told(image_bytes(stolen()), True, "root 0; folded: sum 30, minimum 5, affine map x to 100 x + 12\n")
+        self.told(image_bytes(siblings()), True, "place 1: child of 0, depth 1, 0 outstanding, on worker 0, root 0, next younger sibling 2\n",
+                  "place 3: child of 0, depth 1, 0 outstanding, on worker 2, root 0\n")  # fmt: skip
+        for place in range(5, 9):
+            self.told(image_bytes(changed({place: 1})), False, "by 6", "not: The totals are zero while Main lives.")
+
+    def test_links_between_siblings(self):
+        sentence = "not: Links to the next younger live sibling chain the live children of each frame, each once, Main's being none."
+        links = {place: RECORDS + 12 * place + 11 for place in range(64)}
+        wrong = [{links[1]: other} for other in (0, 1, 3, 4, 63, 64, NONE)] + [{links[2]: other} for other in (0, 1, 2, 4, NONE)]
+        wrong += [{links[3]: other} for other in (0, 1, 2, 3, 4)] + [{links[0]: other} for other in (0, 1, 64)]
+        wrong += [{links[1]: NONE, links[3]: 2}, {links[1]: 2, links[2]: 1}, {links[1]: 3, links[2]: 3}]
+        for changes in wrong:
+            self.told(image_bytes(changed(changes, siblings())), False, "by 6", sentence)
+        for order in permutations((1, 2, 3)):
+            chained = {links[a]: b for a, b in zip(order, (*order[1:], NONE))}
+            self.told(image_bytes(changed(chained, siblings())), True)
+        for word in range(7, 12):
+            free = changed({RECORDS + 12 * 5 + word: 1}, siblings())
+            self.told(image_bytes(free), False, "(free frame place 5 has a word that is not zero)")
 
     def test_a_frame_that_waits_as_returning(self):
         self.told(image_bytes(stolen(1)), True, "place 0: Main, depth 0, 1 outstanding, suspended, returning, root 0\n")
-        sentence = "not: The last word of a record is 1 on a frame waiting as returning, which is suspended, else 0."
-        self.told(image_bytes(stolen(2)), False, "suspended, returning 2, root 0\n", f"{sentence} (frame place 0: the last word is 2")
-        running = changed({RECORDS + 13: 1}, stolen(1))
-        self.told(image_bytes(running), False, "on worker 0, returning, root 0\n", f"{sentence} (frame place 1: the last word is 1")
-        free = changed({RECORDS + 20: 1}, stolen(1))
+        sentence = "not: The seventh word of a record is 1 on a frame waiting as returning, which is suspended, else 0."
+        self.told(image_bytes(stolen(2)), False, "suspended, returning 2, root 0\n", f"{sentence} (frame place 0: the seventh word is 2")
+        running = changed({RECORDS + 18: 1}, stolen(1))
+        self.told(image_bytes(running), False, "on worker 0, returning, root 0;", f"{sentence} (frame place 1: the seventh word is 1")
+        free = changed({RECORDS + 30: 1}, stolen(1))
         self.told(image_bytes(free), False, sentence, "(free frame place 2 has a word that is not zero)")
 
     def test_a_run_under_way(self):
         words = stolen()
         self.told(image_bytes(words), True, "place 0: Main, depth 0, 1 outstanding, suspended, root 0\n",
-                  "place 1: child of 0, depth 1, 0 outstanding, on worker 0, root 0\n", "free: 2 to 63\n")  # fmt: skip
-        over = changed({DEQUES: 0, 4: 0, RECORDS: 0, RECORDS + 1: 1})
+                  "place 1: child of 0, depth 1, 0 outstanding, on worker 0, root 0; folded", "free: 2 to 63\n")  # fmt: skip
+        over = changed({DEQUES: 0, 4: 0, 5: 190, 6: 16, 7: 3, 8: 2})
+        over[RECORDS : RECORDS + 12] = [0, 1] + [0] * 10
         over[3], over[POOL:] = 0, [w for at in range(20) for w in (0, at + 1 if at < 19 else NONE, 0, 0)]
-        self.told(image_bytes(over), True, "worker 0: idle\n", "free: 0 to 63\n", "0 nodes in use, 20 free\n")
+        self.told(image_bytes(over), True, "worker 0: idle\n", "free: 0 to 63\n", "0 nodes in use, 20 free\n",
+                  "         totals: sum 190, minimum 16, affine map x to 3 x + 2\n")  # fmt: skip
 
     def test_a_damaged_block(self):
         data = bytearray(image_bytes(FIVE))
         right = struct.unpack_from("<I", data, 4 * 512 + 508)[0]
-        data[4 * 512 + 80] ^= 8
+        data[4 * 512 + 96] ^= 8
         found = image.Image(bytes(data)).wrong_checks()
         self.assertEqual([(number, stored) for number, stored, _ in found], [(4, right)])
         words = f"block 4 (bytes 2048 to 2559) is damaged: stored {right}, right {found[0][2]}\n"
@@ -882,40 +1130,36 @@ class Images(unittest.TestCase):
         self.told(bytes(data), False, "block 0 (bytes 0 to 511) is damaged", "by 18")
 
     def test_a_rest_that_is_not_zero(self):
-        words = FIVE + [0] * (1143 - len(FIVE))
-        words[1100] = 5
-        self.told(image_bytes(words), False, "word 1100 of the data is 5\n", "refuses it by 18")
+        words = FIVE + [0] * (1397 - len(FIVE))
+        words[1390] = 5
+        self.told(image_bytes(words), False, "word 1390 of the data is 5\n", "refuses it by 18")
 
     def test_cut_images(self):
         data = image_bytes(FIVE)
         for length in (1, 511):
             self.told(data[:length], False, "0 blocks", f"{length} bytes are no whole block", "by 17")
-        for length in (512, 513, 4096, 4607, 4609, 5120):
+        for length in (512, 513, 5120, 5631, 5633, 6144):
             whole = (data + bytes(600))[:length]
-            self.told(whole, False, "by 17", f"20 nodes call for 9 blocks, 4608 bytes; the file has {length}\n")
+            self.told(whole, False, "by 17", f"20 nodes call for 11 blocks, 5632 bytes; the file has {length}\n")
         large = image_bytes(start_words(1, [1], 200))
-        self.told(large[:-512], False, "169 of 200 nodes are in the file", "by 17")
+        self.told(large[:-512], False, "183 of 200 nodes are in the file", "by 17")
 
     def test_a_node_count_that_is_not_true(self):
-        for nodes in (0, 10, 43, 16384, 2**30 + 20, NONE):
+        for nodes in (26, 43, 16384, 2**30 + 20, NONE):
             self.told(image_bytes(changed({2: nodes})), False, f"{nodes} nodes call for", "by 17")
-        for nodes in (27, 16384, 2**30 + 20, NONE):
-            self.told(image_bytes(changed({2: nodes}, older(FIVE))), False, f"{nodes} nodes call for", "by 17")
-        for nodes in (11, 12, 19):
+        for nodes in (0, 1, 10, 11, 12, 19):
             self.told(image_bytes(changed({2: nodes})), False, "by 18", "with right checks 6: not: ")
-        for nodes in (0, 1, 10, 19):
-            self.told(image_bytes(changed({2: nodes}, older(FIVE))), False, "by 18", "with right checks 6: not: ")
         others = "not: All other nodes are free and lie once on the free chain. (node 20 is not reached"
         self.told(image_bytes(changed({2: 21})), False, "by 6", others, "1 neither in use nor on the free chain")
 
     def test_each_sentence(self):
         node = lambda number, word: POOL + 4 * number + word  # noqa: E731
         one = {
-            "Workers are 1 to 8.": {0: 256 + 9},
+            "Workers are 1 to 8.": {0: 512 + 9},
             "n is 1 to 256.": {1: 257},
             "The recorded node count is T(n) to 16,384.": {1: 11},
             "Live and suspended are 0 or 1, and": {RECORDS: 2},
-            "The last word of a record is 1 on a frame": {RECORDS + 6: 1},
+            "The seventh word of a record is 1 on a frame": {RECORDS + 6: 1},
             "For each of 8 workers there are 64 places": {DEQUES: 65},
             "Either no frame lives and all deques": {RECORDS + 1: 5},
             "Every other live frame has a live parent one shallower.": {RECORDS + 2: 3},
@@ -928,13 +1172,16 @@ class Images(unittest.TestCase):
             "Walking from each live frame gives a tree": {node(0, 3): 7},
             "Nodes reached have right holders.": {node(6, 0): 2},
             "All other nodes are free and lie once": {node(19, 1): 11},
-            "Free frame places lie once on their chain": {RECORDS + 9: 1},
+            "The totals are zero while Main lives.": {8: 1},
+            "Links to the next younger live sibling chain": {RECORDS + 11: 1},
+            "Free frame places lie once on their chain": {RECORDS + 14: 1},
         }
         for sentence, changes in one.items():
             self.told(image_bytes(changed(changes)), False, "refuses it by 6: State and pool are not sound\n", f"not: {sentence}")
         # Main, its child in place 1 and that one's in place 2 on one deque; place 3 is another child of 1, suspended
         chained = changed({DEQUES: 3, DEQUES + 2: 1, DEQUES + 3: 2, 4: 4, POOL: 4, RECORDS + 3: 1})
-        chained[RECORDS + 7 : RECORDS + 28] = [1, 0, 1, 2, 0, 0, 0] + [1, 1, 2, 0, 0, 0, 0] * 2
+        last = [0, 0, 0, *machine.IDENTITY]
+        chained[RECORDS + 12 : RECORDS + 48] = [1, 0, 1, 2, *last, NONE, 1, 1, 2, 0, *last, 3, 1, 1, 2, 0, *last, NONE]
         top = "not: A frame that is not a top has only the child below it, if any. (worker 0: frame place 1 is not a top and has the child 3)"
         self.told(image_bytes(chained), False, top)
         asked = {*one, "A frame that is not a top has only the child below it, if any."}
@@ -943,7 +1190,7 @@ class Images(unittest.TestCase):
     def test_no_image_is_too_bad_to_be_told(self):
         chance = random.Random(7)
         for turn in range(300):
-            words = list(chance.choice((FIVE, stolen(), stolen(1), older(stolen()))))
+            words = list(chance.choice((FIVE, stolen(), stolen(1), siblings(), older(stolen(), 1))))
             for _ in range(chance.choice((1, 2, 50, 2000))):
                 words[chance.randrange(len(words))] = chance.choice((0, 1, 2, 5, 63, 64, NONE, chance.randrange(2**32)))
             data = bytearray(image_bytes(words))
@@ -971,7 +1218,7 @@ class Images(unittest.TestCase):
         page = (ROOT / "docs/TAPES.md").read_text()
         data = bytearray(image_bytes(stolen(1)))
         texts = [image.described("evening.image", bytes(data))[0]]
-        data[4 * 512 + 80] ^= 1
+        data[4 * 512 + 96] ^= 1
         texts.append(image.described("evening.image", bytes(data))[0])
         for line in "".join(texts).splitlines():
             self.assertIn(f"    {line}\n", page)
@@ -980,7 +1227,8 @@ class Images(unittest.TestCase):
 @needs_splitrun
 class WithSplitrun(unittest.TestCase):
     def test_examples_and_random_scripts_agree(self):
-        texts = [path.read_text() for path in EXAMPLES] + [*WRITES, *RETURNS] + [random_script(seed) for seed in range(40)]
+        texts = [path.read_text() for path in EXAMPLES] + [*WRITES, *RETURNS, *FOLDS] + [random_script(seed) for seed in range(40)]
+        texts += [folding_script(seed) for seed in range(40)]
         for text in texts + ["start 1 10\nvalues 1 2 3 4 5\n", "raw 00\n", "start 1 9\nvalues 1\nraw 00\n"]:
             data = script.encode(text)
             self.assertEqual(cli.splitrun_lines(SPLITRUN, data), machine.run(data).lines)

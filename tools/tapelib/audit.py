@@ -9,7 +9,7 @@ from pathlib import Path
 from . import log as logs
 from . import machine, part, script, shorten
 from .cli import DEFAULT, Trouble, put, say, shout, splitrun_lines
-from .explain import REFUSED, event_words, who
+from .explain import REFUSED, event_words, total_words, who
 from .explain import count_words as number_words
 
 ROOT = Path(__file__).resolve().parents[2]
@@ -62,16 +62,23 @@ def built_replay():
     return program
 
 
+def totals_of(line):
+    """The totals in splitrun's line `reduced`; None for another line."""
+    return tuple(map(int, line.split()[1:])) if re.fullmatch("reduced( [0-9]+){4}", line) else None
+
+
 def replayed(log, arguments):
-    """(who replayed the log, the two answer words of each step)."""
+    """(who replayed the log, the two answer words of each step, the totals or None)."""
     small = log.nodes <= MOST_NODES and len(log.entries) <= MOST_RECORDS
     name, program = ("splitrun", arguments.splitrun) if small and not arguments.library else ("the library", built_replay())
     lines = splitrun_lines(program, log.start + log.records())
-    wrong = [line for line in lines[1:-1] if not re.fullmatch("[0-9]+ [0-9]+", line)]
-    if wrong or len(lines) != len(log.entries) + 2:
+    totals = totals_of(lines[-1]) if lines else None
+    answers = lines[1 : -2 if totals else -1]
+    wrong = [line for line in answers if not re.fullmatch("[0-9]+ [0-9]+", line)]
+    if wrong or len(answers) != len(log.entries):
         shown = (wrong or lines or ["none"])[-1]
         raise Trouble(f"{name} ({program}) gave {len(lines)} lines for {len(log.entries)} steps, such as '{shown[:60]}': not splitrun's")
-    return name, [tuple(int(word) for word in line.split()) for line in lines[1:-1]]
+    return name, [tuple(int(word) for word in line.split()) for line in answers], totals
 
 
 def answer(event):
@@ -89,15 +96,21 @@ def events_of(log, note_b=False):
     return [stepping.step(entry.record) for entry in log.entries]
 
 
+def plain_totals(events):
+    """Main's view at its end; None where Main has not ended."""
+    return next((event.view for event in events if event.kind == "return" and not event.refusal and event.number == 3), None)
+
+
 @dataclass
 class Audit:
-    """A log, who replayed it with which answers, and the events by document 01's rule and by note B's."""
+    """A log, who replayed it with which answers, the events by document 01's rule and by note B's, and the replay's totals."""
 
     log: logs.Log
     by: str
     answers: list
     own: list
     other: list
+    totals: tuple = None
 
     def __post_init__(self):
         entries = self.log.entries
@@ -239,6 +252,13 @@ def difference_words(audit, found):
     return lines + [count_words(audit)]
 
 
+def totals_words(audit):
+    """The totals of the replay, if the log has folds: a log has no place for the firmware's, which are to be compared by hand."""
+    if audit.totals is None or not any(event.kind == "fold" and not event.refusal for event in audit.own):
+        return []
+    return [f"totals, as {audit.by} gives them: {total_words(audit.totals)}"]
+
+
 def clean_words(audit):
     """All recorded answers are right: whether the log could have shown the bug of note B."""
     lines = [f"clean: every recorded answer is as {audit.by} gives it"]
@@ -299,20 +319,24 @@ def surprise(audit):
     if wrong:
         got, want = (" ".join(map(str, words)) for words in (audit.answers[wrong[0]], answer(audit.own[wrong[0]])))
         say(f"record {wrong[0] + 1}: {audit.by} says {got}, the plain machine {want}")
-    return bool(wrong)
+    totals = plain_totals(audit.own)
+    if totals != audit.totals:
+        say(f"totals: {audit.by} says {audit.totals}, the plain machine {totals}")
+    return bool(wrong) or totals != audit.totals
 
 
 def do_audit(arguments):
     log = read_log(arguments.log)
     if arguments.no_free:
         leave_free_out(log)
-    by, answers = replayed(log, arguments)
-    audit = Audit(log, by, answers, events_of(log), events_of(log, note_b=True))
+    by, answers, totals = replayed(log, arguments)
+    audit = Audit(log, by, answers, events_of(log), events_of(log, note_b=True), totals)
     if surprise(audit):
         return shout(False)
     name = os.path.basename(arguments.log)
     found = Finding(audit) if audit.differing else None
-    put("\n".join([head_words(name, audit), *(difference_words(audit, found) if found else clean_words(audit)), ""]))
+    lines = difference_words(audit, found) if found else clean_words(audit)
+    put("\n".join([head_words(name, audit), *lines, *totals_words(audit), ""]))
     if not found:
         return 0
     if arguments.draw:

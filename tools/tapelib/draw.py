@@ -1,15 +1,16 @@
 """A run as an SVG picture: a lane for each worker, a column for each record, rows of at most ten records."""
 from html import escape
 
-from .explain import REFUSED, event_words, size_words
-from .machine import name_text
+from .explain import REFUSED, event_words, size_words, total_words
+from .machine import IDENTITY, name_text
+from .script import AFFINE, fold_words
 
 LEFT, COLUMN, TOP = 100, 96, 66  # the first column's x, a column's width, the first lane's y
 LINE, BAR, WAIT, GAP = 12, 26, 22, 22  # heights: a label's line, a bar, a waiting row, between lanes
 NUMBERS, BETWEEN = 30, 14  # heights: the records' numbers over a row, between two rows
 MOST = 10  # the most records of a row
 LETTER = 6.7  # the width of a letter at 11 px
-BLUE, GREEN, GREY, RED, BLACK = "#1f4e9c", "#1a7a3c", "#777", "#c00", "#222"
+BLUE, GREEN, GREY, RED, BLACK, PURPLE = "#1f4e9c", "#1a7a3c", "#777", "#c00", "#222", "#7a2a8c"
 PALETTE = ("#9ecae9", "#ffd092", "#b5dfa8", "#f4b6c8", "#d3c3ea", "#e8dd8a", "#a5ded8", "#dcc0a6")
 
 
@@ -45,6 +46,10 @@ def arrow(x, start, end, colour):
 
 def dot(x, y, fill):
     return f'<circle cx="{x:g}" cy="{y:g}" r="5" fill="{fill}" stroke="#222" stroke-width="1.5"/>'
+
+
+def diamond(x, y):
+    return f'<path d="M{x:g} {y - 7:g}l7 7l-7 7l-7 -7z" fill="{PURPLE}"/>'
 
 
 def cross(x, y):
@@ -119,6 +124,7 @@ LEGEND = (
     ("ends", lambda x, y: arrow(x + 13, y - 9, y + 9, GREY), "ends with its last child"),
     ("read", lambda x, y: dot(x + 13, y, "#fff"), "read"),
     ("write", lambda x, y: dot(x + 13, y, BLACK), "write"),
+    ("fold", lambda x, y: diamond(x + 13, y), "fold"),
 )
 
 
@@ -215,15 +221,17 @@ class Row:
         return "".join(text(x + 7, y + LINE * k, fit(line, 13), f' fill="{colour}"') for k, line in enumerate(lines))
 
     def sign(self, record, event):
-        """A dot, a cross or an arrow."""
+        """A dot, a diamond, a cross or an arrow."""
         x, y = self.x(record), self.lanes[self.lane(event.worker)] + BAR / 2
         if event.refusal:
             return cross(x, y)
         if event.kind == "return":
             return self.wait_over(record, event)
-        if event.kind not in ("read", "write", "steal"):
+        if event.kind not in ("read", "write", "steal", "fold"):
             return ""
         self.picture.met.add(event.kind)
+        if event.kind == "fold":
+            return diamond(x, y)
         return self.steal(x, event) if event.kind == "steal" else dot(x, y, "#fff" if event.kind == "read" else BLACK)
 
     def marks(self):
@@ -264,8 +272,16 @@ class Picture:
             self.entry(x, sign(x, self.bottom), words, "#444")
             x = end + 22
         self.bottom += 24
+        self.totals()
         for number in sorted({event.refusal for event in self.run.events[self.first - 1 : self.last]} - {0}):
             self.entry(LEFT - 84, cross(LEFT - 71, self.bottom), f"refused {number}: {REFUSED[number]}", RED)
+            self.bottom += 18
+
+    def totals(self):
+        """A line with the totals, if a run that folds is drawn to its end."""
+        over = self.run.totals and self.last == len(self.run.events)
+        if over and any(event.kind == "fold" and not event.refusal for event in self.run.events):
+            self.entry(LEFT - 84, diamond(LEFT - 71, self.bottom), f"totals: {total_words(self.run.totals)}", PURPLE)
             self.bottom += 18
 
     def entry(self, x, sign, words, colour):
@@ -273,7 +289,7 @@ class Picture:
         self.right = max(self.right, x + 34 + LETTER * len(words))
 
     def title(self):
-        size = f"{size_words(self.run)}; {self.run.lines[-1]} at the end"
+        size = f"{size_words(self.run)}; {self.run.lines[len(self.run.events) + 1]} at the end"
         whole = (self.first, self.last) == (1, len(self.run.events))
         return size if whole else f"{size}; records {self.first} to {self.last} of {len(self.run.events)}"
 
@@ -289,7 +305,20 @@ def refused_words(event):
         return raw_words(event.record)
     if event.kind == "write":
         return [f"write {event.low}", f":= {event.value}"]
+    if event.kind == "fold":
+        return fold_label(event)
     return [f"{event.kind} {event.low}" if event.kind in ("steal", "read") else event.kind]
+
+
+def fold_label(event):
+    """A fold in two lines: its reducer, and its value or its map."""
+    reducer, *value = fold_words(event.low, event.value)
+    return [f"fold {reducer}", "x{} +{}".format(*value) if event.low == AFFINE else str(*value)]
+
+
+def joined_words(event):
+    """Where the view of a frame that ends goes, if anything was folded."""
+    return [f"view to {name_text(event.joined)}"] if event.joined is not None and event.view != IDENTITY else []
 
 
 def label_words(event):
@@ -301,6 +330,8 @@ def label_words(event):
         return [f"read {event.low}", f"= {event.number}"], BLACK
     if event.kind == "write":
         return [f"write {event.low}", f":= {event.value}"], BLACK
+    if event.kind == "fold":
+        return fold_label(event), PURPLE
     if event.kind == "spawn":
         return ["spawn", name_text(event.other)], BLACK
     if event.kind == "steal":
@@ -308,7 +339,8 @@ def label_words(event):
     if event.kind == "sync":
         return ["sync", "waits" if event.number else "passes"], BLACK
     ends = {0: "goes on", 1: "idle", 2: "resumes", 3: "run over", 4: "waits"}
-    return [ended_words(len(event.ended)), ends[event.number]], GREEN if event.number == 2 else BLACK
+    lines = [ended_words(len(event.ended)), ends[event.number]] + joined_words(event)
+    return lines, GREEN if event.number == 2 else BLACK
 
 
 def ended_words(count):

@@ -1,10 +1,11 @@
 """Each answer of a run in words, and two machines side by side."""
 from dataclasses import dataclass
+from itertools import zip_longest
 
-from .machine import name_text, tree_nodes
-from .script import Expect, record_line, split_input, split_records
+from .machine import IDENTITY, name_text, tree_nodes
+from .script import AFFINE, Expect, about, record_line, split_input, split_records
 
-# Document 01's sentences, "Refused, in checking order"; 16 as document 02, R-2, has it; 14 is gone with R-3.
+# Document 01's sentences, "Refused, in checking order"; 16 as document 02, R-2, has it; 14 is gone with R-3; 7 and 20 as R-5 has them.
 REFUSED = {
     1: "At a start, there are 0 or more than 256 initial values.",
     2: "At a start, there are 0 or more than 8 workers.",
@@ -12,7 +13,7 @@ REFUSED = {
     4: "The tape is not a multiple of 8 bytes, or the answer slice has fewer than two words per record.",
     5: "The work slice has fewer words than the recorded node count.",
     6: "State and pool are not sound.",
-    7: "The kind is not 1 to 6, or an unused field is not zero.",
+    7: "The kind is not 1 to 7, or an unused field is not zero.",
     8: "The worker does not exist.",
     9: "Main has returned.",
     10: "The step is not a steal and the worker is idle.",
@@ -21,6 +22,7 @@ REFUSED = {
     13: "The step is a spawn and 64 frames live.",
     15: "The step is a read or a write and the splitter is not below n.",
     16: "The step is a write and fewer nodes are free than the shared rest of its path has.",
+    20: "The step is a fold and names no reducer.",
 }
 UNFIT = (
     "unfit: header or values cut short, n over 256, nodes over 1,024 or more than 16,384 bytes of records."
@@ -40,6 +42,28 @@ def waited_words(event):
     return f", and with it {', '.join(names)}, which waited" if names else ""
 
 
+def map_words(multiplier, addend):
+    """An affine map: x to 10 x + 3"""
+    return f"x to {multiplier} x + {addend}"
+
+
+def fold_words(event):
+    """What was folded into which reducer, and what the frame's view of that reducer is now."""
+    me = who(event.frame)
+    if event.low == AFFINE:
+        return f"{me} folds {map_words(*divmod(event.value, 65536))} into the affine map; its view: {map_words(*event.view[2:])}"
+    return f"{me} folds {event.value} into the {('sum', 'minimum')[event.low]}; its view: {event.view[event.low]}"
+
+
+def view_words(event):
+    """Where a view goes that something was folded into: with the child of a spawn, or from the frames that end to the next in order."""
+    if event.view == IDENTITY or event.kind not in ("spawn", "return"):
+        return ""
+    if event.kind == "spawn":
+        return "; what was folded goes with it"
+    return f". What was folded joins {who(event.joined)}'s view" if event.joined is not None else ""
+
+
 def return_words(event):
     me, worker, waited = who(event.frame), event.worker, waited_words(event)
     above = who(event.other) if event.other is not None else ""
@@ -56,9 +80,9 @@ def return_words(event):
 def accepted_words(event):
     me, kind = who(event.frame), event.kind
     if kind == "spawn":
-        return f"{me} spawns {who(event.other)}, depth {event.number}, a copy of {me}'s values"
+        return f"{me} spawns {who(event.other)}, depth {event.number}, a copy of {me}'s values{view_words(event)}"
     if kind == "return":
-        return return_words(event)
+        return return_words(event) + view_words(event)
     if kind == "steal":
         return f"worker {event.worker} takes {me}, depth {event.number}, from worker {event.low}"
     if kind == "sync":
@@ -66,6 +90,8 @@ def accepted_words(event):
         return waits if event.number else f"{me} has no live child and passes"
     if kind == "read":
         return f"{me} reads splitter {event.low}: {event.number}"
+    if kind == "fold":
+        return fold_words(event)
     return f"{me} writes {event.value} to splitter {event.low}{new_words(event.new)}"
 
 
@@ -115,24 +141,27 @@ def run_words(run):
     words = [start_words(run)]
     if run.events is None:
         return words + [f"the call is refused whole, number {run.refused}: {REFUSED[run.refused]}"]
-    over = "Main has returned" if main_returned(run) else "Main has not returned"
-    return words + [event_words(event) for event in run.events] + [f"the free nodes at the end; {over}"]
+    over = "Main has returned" if run.totals else "Main has not returned"
+    words += [event_words(event) for event in run.events] + [f"the free nodes at the end; {over}"]
+    return words + ([f"the totals: {total_words(run.totals)}"] if run.totals else [])
 
 
-def main_returned(run):
-    return any(e.kind == "return" and not e.refusal and e.number == 3 for e in run.events)
+def total_words(totals):
+    """The totals in words."""
+    return f"sum {totals[0]}, minimum {totals[1]}, affine map {map_words(*totals[2:])}"
 
 
 def step_texts(data, run):
-    """The script's lines for run.lines: none for the first and last line."""
+    """The script's lines for run.lines: none for those after the records'."""
     if run.events is None:
         return [""] * len(run.lines)
-    return ["start"] + [record_line(r) for r in split_records(split_input(data)[3])] + [""]
+    steps = ["start"] + [record_line(r) for r in split_records(split_input(data)[3])]
+    return steps + [""] * (len(run.lines) - len(steps))
 
 
 def table(rows):
-    """Rows of texts in columns, the last column free."""
-    widths = [max(len(row[at]) for row in rows) for at in range(len(rows[0]) - 1)]
+    """Rows of texts in columns, the last column free. The line `reduced` is long and widens no column."""
+    widths = [max(len(row[at]) for row in rows if not row[at].startswith("reduced")) for at in range(len(rows[0]) - 1)]
     return ["  ".join([*(c.ljust(w) for c, w in zip(row, widths)), row[-1]]).rstrip() for row in rows]
 
 
@@ -144,15 +173,23 @@ class Missed:
     got: str
 
     def words(self):
-        what = f"record {self.expect.record}" if self.expect.record else "the last line"
+        what = f"record {self.expect.record}" if self.expect.record else "at the end"
         return f"line {self.expect.line}: {what}: expected {self.expect.text}, splitrun says {self.got}"
+
+
+def place_of(expect, printed):
+    """The place of the line that an Expect is about; the last, where a line of that name did not come."""
+    if expect.record:
+        return expect.record
+    named = [at for at, line in enumerate(printed) if line.split()[:1] == [about(expect)]]
+    return (named or [len(printed) - 1])[-1]
 
 
 def missed(expects, printed):
     """The expected answers that did not come."""
     out = []
     for expect in expects:
-        at = expect.record or len(printed) - 1
+        at = place_of(expect, printed)
         got = printed[at] if 0 <= at < len(printed) else "(no line)"
         if got != expect.text:
             out.append(Missed(expect, got))
@@ -163,7 +200,7 @@ def explained(data, run, printed, misses=()):
     """(text, whether all answers are alike) for splitrun's lines next to the plain machine's."""
     rows, alike = [("record", "step", "answer", "in words")], printed == run.lines
     words, steps = run_words(run), step_texts(data, run)
-    wrong = {miss.expect.record or len(printed) - 1: miss.expect for miss in misses}
+    wrong = {place_of(miss.expect, printed): miss.expect for miss in misses}
     for at in range(max(len(printed), len(run.lines))):
         got = printed[at] if at < len(printed) else "(no line)"
         want = run.lines[at] if at < len(run.lines) else "(no line)"
@@ -189,6 +226,8 @@ def side_by_side(data, own, other):
         rows.append((str(at), record_line(a.record), frame, a.answer(), b.answer(), "<-- differs" if differs else ""))
         if differs and a.kind == "read":
             reads.append(f"record {at}: {who(a.frame)} reads splitter {a.low}: {a.number} by document 01, {b.number} under note B")
-    rows.append(("", "end", "", own.lines[-1], other.lines[-1], "<-- differs" if own.lines[-1] != other.lines[-1] else ""))
+    after = len(own.events) + 1
+    for a, b in zip_longest(own.lines[after:], other.lines[after:], fillvalue=""):
+        rows.append(("", "end", "", a, b, "<-- differs" if a != b else ""))
     last = ["", f"reads that differ: {len(reads)}"] + ["  " + line for line in reads]
     return "\n".join(table(rows) + last) + "\n", len(reads)

@@ -1,7 +1,9 @@
 """A simulation of a firmware that logs its steps: it copies values instead of sharing a tree, and its search takes random steps.
 
 With note B's rule a frame that resumes takes its last child's values; else it keeps its own. The steps of a search depend on
-the seed alone, so both rules take the same ones. Written without the plain machine, so that an audit compares two programs."""
+the seed alone, so both rules take the same ones. Written without the plain machine, so that an audit compares two programs.
+
+It has no views: a branch keeps its folds and its children in the order of its steps, and the totals are computed at the end."""
 import random
 import struct
 
@@ -16,6 +18,15 @@ class Branch:
         self.parent, self.values = parent, list(values)
         self.depth = parent.depth + 1 if parent else 0
         self.children, self.waits = 0, False
+        self.folds = []  # (reducer, value) of a fold, or a child
+
+    def child_first(self):
+        """Its folds in order, those of each child where it was spawned."""
+        for item in self.folds:
+            if isinstance(item, Branch):
+                yield from item.child_first()
+            else:
+                yield item
 
 
 class Firmware:
@@ -39,7 +50,8 @@ class Firmware:
     def spawn(self, worker):
         parent = self.stacks[worker][-1]
         parent.children += 1
-        self.stacks[worker].append(Branch(parent, parent.values))
+        parent.folds.append(Branch(parent, parent.values))
+        self.stacks[worker].append(parent.folds[-1])
         return self.put("spawn", worker, parent.depth + 1)
 
     def steal(self, worker, victim):
@@ -60,6 +72,19 @@ class Firmware:
         """A copy has no nodes: the free ones are not recorded."""
         self.stacks[worker][-1].values[splitter] = value
         return self.put("write", worker, NONE, splitter, value)
+
+    def fold(self, worker, reducer, value):
+        self.stacks[worker][-1].folds.append((reducer, value))
+        return self.put("fold", worker, 0, reducer, value)
+
+    def totals(self):
+        """Sum, minimum, multiplier and addend of all folds, as one worker would have come to them."""
+        folds = list(self.main.child_first())
+        multiplier, addend = 1, 0
+        for _, value in (fold for fold in folds if fold[0] == 2):
+            multiplier, addend = multiplier * (value // 65536) % 2**32, (addend * (value // 65536) + value % 65536) % 2**32
+        least = min([2**32 - 1, *(value for reducer, value in folds if reducer == 1)])
+        return sum(value for reducer, value in folds if reducer == 0) % 2**32, least, multiplier, addend
 
     def give_back(self, worker):
         """A return. Here a branch syncs before it, so it has no child."""
@@ -84,10 +109,10 @@ class Firmware:
 
 
 class Search:
-    """Random steps until so many are logged, then every branch syncs and returns."""
+    """Random steps until so many are logged, then every branch syncs and returns. Folds are some of the steps if they are wanted."""
 
-    def __init__(self, firmware, seed, steps):
-        self.firmware, self.chance, self.steps = firmware, random.Random(seed), steps
+    def __init__(self, firmware, seed, steps, folds=False):
+        self.firmware, self.chance, self.steps, self.folds = firmware, random.Random(seed), steps, folds
 
     def turn(self, worker):
         """What a worker does next."""
@@ -108,6 +133,9 @@ class Search:
         return None
 
     def work(self, worker, branch):
+        if self.folds and self.chance.random() < 0.3:
+            reducer, value = self.chance.randrange(3), self.chance.randrange(2**32)
+            return self.firmware.fold(worker, reducer, value | 65536 if reducer == 2 else value)  # odd multipliers lose no earlier map
         n, draw = len(branch.values), self.chance.random()
         if draw < 0.14 and branch.depth < 5:
             return self.firmware.spawn(worker)
@@ -132,3 +160,9 @@ class Search:
 def search(seed, steps, note_b, workers=3, splitters=8, nodes=500):
     """The log of a random search by a firmware with the right rule, or with note B's."""
     return Search(Firmware(workers, nodes, [0] * splitters, note_b), seed, steps).run()
+
+
+def folding_search(seed, steps, note_b, workers=3, splitters=8, nodes=500):
+    """The same with folds; (the log, the firmware's totals)."""
+    firmware = Firmware(workers, nodes, [0] * splitters, note_b)
+    return Search(firmware, seed, steps, folds=True).run(), firmware.totals()

@@ -1,13 +1,14 @@
-"""A saved image (document 02, R-1 and R-3) in words: what it holds, which blocks are damaged, and why a reading would refuse it."""
+"""A saved image (document 02, R-1, R-3 and R-5) in words: what it holds, which blocks are damaged, and why a reading would refuse it."""
 import struct
 
 from . import soundness
-from .soundness import FRAMES, NONE, RECORDS, link, pieces
+from .explain import total_words
+from .machine import IDENTITY
+from .soundness import FRAME_WORDS, NONE, STATE_WORDS, link
 
 BLOCK, DATA = 512, 508
 NODES = 2  # the word of the recorded nodes
-VERSION = 1  # of an image that is saved now; the first word is the workers and 256 times it
-FRAME_WORDS = {0: 6, 1: 7}  # the words of a frame record, for each version that is read
+VERSION = 2  # the only one that is read; the first word is the workers and 256 times it
 LARGEST = 1 << 24  # no file of more bytes is looked at
 REFUSED = {
     17: "the image is not just as many whole blocks as its first block calls for, has no whole block or no readable form",
@@ -27,21 +28,9 @@ def blocks(data):
     return [(data[at - BLOCK : at - BLOCK + DATA], struct.unpack_from("<I", data, at - 4)[0]) for at in ends]
 
 
-def state_words(version):
-    """The words before the nodes."""
-    return RECORDS + FRAMES * FRAME_WORDS[version]
-
-
-def called_for(nodes, version=VERSION):
+def called_for(nodes):
     """The blocks of an image of so many nodes."""
-    return -(-4 * (state_words(version) + 4 * nodes) // DATA)
-
-
-def as_now(words, version):
-    """An image's words as a state and its nodes: the workers alone in the first word, seven words to a record."""
-    records = pieces(words[RECORDS : state_words(version)], FRAME_WORDS[version])
-    whole = [word for record in records for word in (record + [0])[: FRAME_WORDS[VERSION]]]
-    return [words[0] % 256] + words[1:RECORDS] + whole + words[state_words(version) :]
+    return -(-4 * (STATE_WORDS + 4 * nodes) // DATA)
 
 
 class Image:
@@ -53,18 +42,18 @@ class Image:
         self.words = list(struct.unpack(f"<{len(payload) // 4}I", payload))
         self.nodes = self.words[NODES] if self.words else None
         self.version = self.words[0] // 256 if self.words else None
-        self.readable = self.version in FRAME_WORDS
+        self.readable = self.version == VERSION
         self.state = None
-        if self.readable and len(self.words) >= state_words(self.version):
-            self.state = soundness.State(as_now(self.words, self.version))
+        if self.readable and len(self.words) >= STATE_WORDS:
+            self.state = soundness.State([self.words[0] % 256] + self.words[1:])
 
     def wrong_length(self):
         """Why it is refused by 17, or None."""
         if not self.blocks:
             return f"{len(self.data)} bytes are no whole block"
         if not self.readable:
-            return f"the first word is {self.words[0]}, and only those below 512 have a form that is read"
-        called = called_for(self.nodes, self.version)
+            return f"the first word is {self.words[0]}, and only 512 to 767 have a form that is read"
+        called = called_for(self.nodes)
         if len(self.data) == called * BLOCK:
             return None
         return f"{self.nodes} nodes call for {called} blocks, {called * BLOCK} bytes; the file has {len(self.data)}"
@@ -76,7 +65,7 @@ class Image:
 
     def rest(self):
         """The places of words after the recorded nodes that are not zero."""
-        last = state_words(self.version) + 4 * self.nodes
+        last = STATE_WORDS + 4 * self.nodes
         return [at for at in range(last, len(self.words)) if self.words[at]]
 
 
@@ -97,16 +86,18 @@ def labelled(label, lines):
 
 
 def form_lines(image):
+    if image.version < VERSION:
+        return [f"version {image.version}: from before R-5, no longer read"]
     if not image.readable:
         return [f"first word {image.words[0]}: of no form that is read"]
-    words = f"version {image.version}: {FRAME_WORDS[image.version]} words to a frame record"
-    return [words if image.version == VERSION else f"{words}, from before R-3: no frame waits as returning"]
+    return [f"version {image.version}: {FRAME_WORDS} words to a frame record"]
 
 
 def number_lines(words):
     workers, n, nodes, free_node, free_place = words[:5]
     first = f"first free node {link(free_node)}, first free frame place {link(free_place)}"
-    return [f"{workers % 256} workers, {n} splitters, {nodes} nodes, {first}"]
+    lines = [f"{workers % 256} workers, {n} splitters, {nodes} nodes, {first}"]
+    return lines + ([f"totals: {total_words(words[5:9])}"] if any(words[5:9]) else [])
 
 
 def deque_lines(state):
@@ -127,6 +118,8 @@ def frame_line(state, place, frame):
     where += ["suspended"] if frame.suspended else []
     where += ["returning" if frame.returning == 1 else f"returning {frame.returning}"] if frame.returning else []
     live = "" if frame.live == 1 else f", live {frame.live}"
+    live += "" if frame.younger == NONE else f", next younger sibling {frame.younger}"
+    live += "" if frame.view == IDENTITY else f"; folded: {total_words(frame.view)}"
     stands = ", ".join(where) or "in no deque"
     return f"place {place}: {who}, depth {frame.depth}, {frame.outstanding} outstanding, {stands}, root {link(frame.root)}{live}"
 

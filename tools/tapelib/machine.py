@@ -1,4 +1,4 @@
-"""The plain machine of documents 01 and 02 (R-2, R-3), and the lines that splitrun must print.
+"""The plain machine of documents 01 and 02 (R-2, R-3, R-5), and the lines that splitrun must print.
 
 With note_b=True the machine has the bug of integration note B: a frame that resumes after its last
 child takes that child's values."""
@@ -7,11 +7,13 @@ from collections import Counter
 from dataclasses import dataclass
 from itertools import groupby
 
-from .script import NAMES, is_step, split_input, split_records
+from .script import AFFINE, NAMES, REDUCERS, is_step, split_input, split_records
 
 MOST_FRAMES = 64
 # Splitrun's limits (document 01): past one of them it prints `unfit`.
 MOST_SPLITTERS, MOST_NODES, MOST_BYTES = 256, 1024, 16384
+# A view, and the totals: the sum, the minimum, the multiplier and the addend.
+IDENTITY = (0, 2**32 - 1, 1, 0)
 
 
 def height(n):
@@ -22,6 +24,24 @@ def height(n):
 def tree_nodes(n):
     """T(n): the nodes of all levels."""
     return sum((n + 2**level - 1) >> level for level in range(height(n) + 1))
+
+
+def join(left, right):
+    """The sum, the minimum, and the affine map with the earlier one applied first, modulo 4,294,967,296."""
+    added, times = left[0] + right[0], left[2] * right[2]
+    return added % 2**32, min(left[1], right[1]), times % 2**32, (right[2] * left[3] + right[3]) % 2**32
+
+
+def folded(reducer, value):
+    """The view of one value folded into a reducer."""
+    if reducer == AFFINE:
+        return (*IDENTITY[:2], *divmod(value, 65536))
+    return IDENTITY[:reducer] + (value,) + IDENTITY[reducer + 1 :]
+
+
+def in_order(name):
+    """Sorts live frames as R-5 has it: siblings eldest first and each, after all below it, before its parent."""
+    return (*name, float("inf"))
 
 
 def name_text(name):
@@ -38,7 +58,9 @@ class Event:
     """What one record did. frame is the frame that acted (for a steal the stolen one), other the
     child made, or the frame above those that ended; refusal is 0 where the step was accepted. ended has the
     frames that a return ended, child first: its own, and those that waited as returning. new is the number of
-    new nodes of a write, also of one refused by 16: the shared rest of its path."""
+    new nodes of a write, also of one refused by 16: the shared rest of its path. view is the frame's view after a
+    fold, the one that a child inherits, or that of the frames that a return ends, which joins the view of the frame
+    joined, or is the totals."""
 
     record: bytes
     worker: int
@@ -51,6 +73,8 @@ class Event:
     other: tuple = None
     ended: tuple = ()
     new: int = 0
+    view: tuple = IDENTITY
+    joined: tuple = None
     free: int = 0
     bottoms: tuple = ()
 
@@ -65,7 +89,7 @@ class Frame:
 
     def __init__(self, name, values, levels):
         self.name, self.values, self.levels = name, list(values), [list(row) for row in levels]
-        self.children, self.spawned = 0, 0
+        self.children, self.spawned, self.view = 0, 0, IDENTITY
         self.suspended = self.returning = False
 
     def path(self, splitter):
@@ -86,7 +110,7 @@ class Machine:
 
     def __init__(self, workers, values, nodes, note_b=False):
         self.n, self.nodes, self.note_b = len(values), nodes, note_b
-        self.writes = 0
+        self.writes, self.totals = 0, None
         self.held = Counter()  # of each distinct triple, how many live frames have it
         main = Frame((), values, [[0] * ((self.n + 2**level - 1) >> level) for level in range(height(self.n) + 1)])
         self.frames = {(): main}
@@ -116,7 +140,7 @@ class Machine:
         return tuple(deque[-1].name if deque else None for deque in self.deques)
 
     def refusal(self, event):
-        """Document 01's list in its order, 7 to 16 without 14; 0 where nothing refuses."""
+        """Document 01's list in its order, 7 to 16 without 14, with 20 in the place of 15; 0 where nothing refuses."""
         kind = event.kind
         if not is_step(event.record):
             return 7
@@ -133,6 +157,8 @@ class Machine:
             return 13
         if kind in ("read", "write") and event.low >= self.n:
             return 15
+        if kind == "fold" and event.low >= len(REDUCERS):
+            return 20
         if kind == "write":
             event.new = self.new_nodes(deque[-1], event.low)
         return 16 if event.new > self.free else 0
@@ -166,10 +192,11 @@ class Machine:
         parent.children += 1
         parent.spawned += 1
         child = Frame(parent.name + (parent.spawned,), parent.values, parent.levels)
+        child.view, parent.view = parent.view, IDENTITY
         self.frames[child.name] = child
         self.hold(child.triples())
         deque.append(child)
-        event.other, event.number = child.name, len(child.name)
+        event.other, event.number, event.view = child.name, len(child.name), child.view
 
     def do_return(self, event, deque):
         frame = deque.pop()
@@ -184,6 +211,7 @@ class Machine:
         del self.frames[frame.name]
         self.drop(frame.triples())
         event.ended += (frame.name,)
+        self.join_next(event, frame)
         if frame.name == ():
             event.number = 3
             return
@@ -193,6 +221,16 @@ class Machine:
             self.end(event, deque, parent)
         else:
             self.leave_parent(event, deque, frame, parent)
+
+    def join_next(self, event, frame):
+        """The view of a frame that ends joins on the left of the next one's in the order; Main's is the totals."""
+        event.view = frame.view
+        after = [name for name in self.frames if in_order(name) > in_order(frame.name)]
+        if not after:
+            event.joined, self.totals = None, frame.view
+            return
+        following = self.frames[min(after, key=in_order)]
+        event.joined, following.view = following.name, join(frame.view, following.view)
 
     def leave_parent(self, event, deque, frame, parent):
         """What the parent of the last frame that ended does: outcome 0, 1 or 2."""
@@ -226,6 +264,10 @@ class Machine:
     def do_read(self, event, deque):
         event.number = deque[-1].values[event.low]
 
+    def do_fold(self, event, deque):
+        frame = deque[-1]
+        frame.view = event.view = join(frame.view, folded(event.low, event.value))
+
     def do_write(self, event, deque):
         frame = deque[-1]
         self.writes += 1
@@ -238,7 +280,7 @@ class Machine:
 
 @dataclass
 class Run:
-    """A whole input: splitrun's lines; the events, if the records were run."""
+    """A whole input: splitrun's lines; the events, if the records were run; the totals, if Main has returned."""
 
     lines: list
     events: list = None
@@ -246,6 +288,7 @@ class Run:
     workers: int = 0
     values: tuple = ()
     nodes: int = 0
+    totals: tuple = None
 
 
 def whole_refusal(workers, values, nodes, tail):
@@ -296,4 +339,7 @@ def run(data, note_b=False):
     machine = Machine(workers, values, nodes, note_b)
     result.events = [machine.step(record) for record in split_records(tail)]
     result.lines += [event.answer() for event in result.events] + [f"free {machine.free}"]
+    result.totals = machine.totals
+    if result.totals:
+        result.lines.append(" ".join(map(str, ("reduced", *result.totals))))
     return result

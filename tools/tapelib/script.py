@@ -4,12 +4,23 @@ import re
 import struct
 from dataclasses import dataclass
 
-KINDS = {"spawn": 1, "return": 2, "steal": 3, "sync": 4, "read": 5, "write": 6}
+KINDS = {"spawn": 1, "return": 2, "steal": 3, "sync": 4, "read": 5, "write": 6, "fold": 7}
 NAMES = {number: name for name, number in KINDS.items()}
 # What each kind is followed by: (what it is called, the largest that fits).
 SPLITTER, VICTIM, VALUE = ("splitter", 0xFFFF), ("victim", 0xFFFF), ("value", 0xFFFFFFFF)
-FIELDS = {"spawn": (), "return": (), "sync": (), "steal": (VICTIM,), "read": (SPLITTER,), "write": (SPLITTER, VALUE)}
-
+REDUCER, MULTIPLIER, ADDEND = ("reducer", 0xFFFF), ("multiplier", 0xFFFF), ("addend", 0xFFFF)
+FIELDS = {
+    "spawn": (),
+    "return": (),
+    "sync": (),
+    "steal": (VICTIM,),
+    "read": (SPLITTER,),
+    "write": (SPLITTER, VALUE),
+    "fold": (REDUCER, VALUE),
+}
+# Document 02's R-5: the reducers by number. The affine map's value is its multiplier times 65,536 and its addend.
+REDUCERS = ("sum", "min", "affine")
+AFFINE = 2
 
 # A byte-order mark, and the encoding that it says. UTF-32's begins with UTF-16's.
 MARKS = (
@@ -20,7 +31,8 @@ MARKS = (
     (codecs.BOM_UTF16_BE, "utf-16-be"),
 )
 DECIMAL = re.compile(r"[0-9]{1,20}")
-LAST_LINES = ("free", "refused")
+# Splitrun's lines after the records', with the numbers that each has.
+LAST_LINES = {"free": 1, "refused": 1, "reduced": 4}
 
 
 class ScriptError(Exception):
@@ -55,6 +67,27 @@ def raw_bytes(line, words):
     return bytes(int(word, 16) for word in words)
 
 
+def given_numbers(line, kind, words, fields):
+    """The numbers after a kind, as many as it has fields."""
+    if len(words) != len(fields):
+        wanted = " ".join(what for what, _ in fields) or "nothing"
+        raise ScriptError(line, f"{kind} takes {wanted} after it, and here are {len(words)} words")
+    return [number(line, word, "the " + what, most) for word, (what, most) in zip(words, fields)]
+
+
+def fold_numbers(line, words):
+    """Reducer and value of a fold: `2 655363`, or by name, `sum 5`, `min 7`, `affine 10 3`."""
+    name = words[0] if words else ""
+    if name == REDUCERS[AFFINE]:
+        multiplier, addend = given_numbers(line, "fold affine", words[1:], (MULTIPLIER, ADDEND))
+        return [AFFINE, 65536 * multiplier + addend]
+    if name in REDUCERS:
+        return [REDUCERS.index(name), *given_numbers(line, f"fold {name}", words[1:], (VALUE,))]
+    if name and not name.isdigit():
+        raise ScriptError(line, f"{shown(name)} is no reducer; the reducers are {', '.join(REDUCERS)}, or a number")
+    return given_numbers(line, "fold", words, FIELDS["fold"])
+
+
 def step_bytes(line, words):
     """The record of a step line, such as `1 write 4 99`."""
     worker = number(line, words[0], "the worker", 0xFF)
@@ -63,11 +96,7 @@ def step_bytes(line, words):
     kind, rest = words[1], words[2:]
     if kind not in KINDS:
         raise ScriptError(line, f"{shown(kind)} is no step; the steps are {', '.join(KINDS)}")
-    fields = FIELDS[kind]
-    if len(rest) != len(fields):
-        wanted = " ".join(what for what, _ in fields) or "nothing"
-        raise ScriptError(line, f"{kind} takes {wanted} after it, and here are {len(rest)} words")
-    given = [number(line, word, "the " + what, most) for word, (what, most) in zip(rest, fields)]
+    given = fold_numbers(line, rest) if kind == "fold" else given_numbers(line, kind, rest, FIELDS[kind])
     low, value = (given + [0, 0])[:2]
     return struct.pack("<BBHI", KINDS[kind], worker, low, value)
 
@@ -101,7 +130,7 @@ def records_bytes(lines):
 
 @dataclass
 class Expect:
-    """An answer that the script expects: its text, its line, and the record from 1 on; 0 is splitrun's last line."""
+    """An answer that the script expects: its text, its line, and the record from 1 on; 0 is a line after the records'."""
 
     line: int
     record: int
@@ -143,20 +172,21 @@ def lines_before(text):
 
 def expected_text(line, words):
     """The answer after `expect`, as splitrun prints it."""
-    if len(words) != 2:
-        raise ScriptError(line, "expect takes an answer's two words, such as 105 50, or free N, or refused N")
-    if words[0] in LAST_LINES:
-        return f"{words[0]} {number(line, words[1], 'the expected number', 0xFFFFFFFF)}"
-    return " ".join(str(number(line, word, "an expected word", 0xFFFFFFFF)) for word in words)
+    name = words[0] if words and words[0] in LAST_LINES else ""
+    if len(words) != (1 + LAST_LINES[name] if name else 2):
+        last = "free N, refused N or reduced SUM MIN MULTIPLIER ADDEND"
+        raise ScriptError(line, f"expect takes an answer's two words, such as 105 50, or {last}")
+    numbers = [str(number(line, word, "an expected number", 0xFFFFFFFF)) for word in words[bool(name) :]]
+    return " ".join([name, *numbers] if name else numbers)
 
 
 def split_expects(lines):
     """(the lines without what is expected, each Expect): `expect` follows a step on its line or on one of its own."""
     steps, expects = [], []
     for line, words in lines:
-        if expects and not expects[-1].record:
-            raise ScriptError(expects[-1].line, f"expect {expects[-1].text} is about the last line of splitrun; nothing may come after it")
         at = words.index("expect") if "expect" in words else len(words)
+        if at and expects and not expects[-1].record:
+            raise ScriptError(expects[-1].line, f"expect {expects[-1].text} is about splitrun's last lines; no step may come after it")
         if at:
             steps.append((line, words[:at]))
         if at < len(words):
@@ -170,13 +200,19 @@ def expect_of(line, words, record):
     return Expect(line, 0 if words[0] in LAST_LINES else record, text)
 
 
+def about(expect):
+    """What an Expect is about: a record's number, or the name of a last line."""
+    return expect.record or expect.text.split()[0]
+
+
 def check_place(expects, steps):
-    """The newest Expect has a step before it (or start and values, if it is about the last line), and the step no other."""
-    new, last = expects[-1], expects[-1].text.startswith(LAST_LINES)
-    if steps < (2 if last else 3):
+    """The newest Expect has a step before it (or start and values, if it is about a last line), and that has no other."""
+    new = expects[-1]
+    if steps < (3 if new.text[0].isdigit() else 2):
         raise ScriptError(new.line, "expect stands after a step, and before the first step come start and values")
-    if len(expects) > 1 and expects[-2].record == new.record:
-        raise ScriptError(new.line, f"the answer to this step is expected in line {expects[-2].line} already")
+    same = [old for old in expects[-1 - len(LAST_LINES) : -1] if about(old) == about(new)]
+    if same:
+        raise ScriptError(new.line, f"this is expected in line {same[0].line} already")
 
 
 def parse(text):
@@ -218,7 +254,15 @@ def record_line(record):
         return raw_line(record)
     kind, worker, low, value = struct.unpack("<BBHI", record)
     name = NAMES[kind]
-    return " ".join([str(worker), name] + [str(x) for x in (low, value)[: len(FIELDS[name])]])
+    fields = fold_words(low, value) if name == "fold" else (low, value)[: len(FIELDS[name])]
+    return " ".join([str(worker), name] + [str(x) for x in fields])
+
+
+def fold_words(reducer, value):
+    """A fold's fields, its reducer by name."""
+    if reducer >= len(REDUCERS):
+        return reducer, value
+    return (REDUCERS[reducer], *(divmod(value, 65536) if reducer == AFFINE else (value,)))
 
 
 def split_records(data):

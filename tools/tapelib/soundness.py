@@ -1,12 +1,12 @@
-"""Document 01's "Soundness", sentence by sentence, and document 02's, R-1 and R-3, over the words of a state and its pool."""
+"""Document 01's "Soundness", sentence by sentence, and document 02's, R-1, R-3 and R-5, over the words of a state and its pool."""
 from collections import Counter
 
 from .machine import height, tree_nodes
 
 NONE = 0xFFFFFFFF
 WORKERS, FRAMES, MOST_NODES = 8, 64, 16384
-DEQUE_WORDS, FRAME_WORDS, NODE_WORDS = 1 + FRAMES, 7, 4
-RECORDS = 5 + WORKERS * DEQUE_WORDS  # the first word of the frame records
+NUMBERS, DEQUE_WORDS, FRAME_WORDS, NODE_WORDS = 9, 1 + FRAMES, 12, 4
+RECORDS = NUMBERS + WORKERS * DEQUE_WORDS  # the first word of the frame records
 STATE_WORDS = RECORDS + FRAMES * FRAME_WORDS
 
 
@@ -22,7 +22,8 @@ class Frame:
     """A frame place's record."""
 
     def __init__(self, words):
-        self.live, self.parent, self.depth, self.outstanding, self.suspended, self.root, self.returning = words
+        self.live, self.parent, self.depth, self.outstanding, self.suspended, self.root, self.returning = words[:7]
+        self.view, self.younger = tuple(words[7:11]), words[11]
 
 
 class State:
@@ -30,7 +31,8 @@ class State:
 
     def __init__(self, words):
         self.workers, self.n, self.nodes, self.free_node, self.free_place = words[:5]
-        deques = pieces(words[5:RECORDS], DEQUE_WORDS)
+        self.totals = tuple(words[5:NUMBERS])
+        deques = pieces(words[NUMBERS:RECORDS], DEQUE_WORDS)
         self.lengths = [deque[0] for deque in deques]
         self.deques = [deque[1 : 1 + min(deque[0], FRAMES)] for deque in deques]
         self.past = [deque[1 + min(deque[0], FRAMES) :] for deque in deques]
@@ -113,7 +115,7 @@ def flags(s):
 
 def returning(s):
     wrong = ((p, f) for p, f in enumerate(s.frames) if f.returning > 1 or (f.returning and not f.suspended))
-    return first(f"frame place {p}: the last word is {f.returning}, suspended is {f.suspended}" for p, f in wrong)
+    return first(f"frame place {p}: the seventh word is {f.returning}, suspended is {f.suspended}" for p, f in wrong)
 
 
 def deque_lengths(s):
@@ -210,23 +212,46 @@ def others_free(s):
     return first(f"free node {number} holds {s.pool[number]}" for number in dirty)
 
 
+def totals(s):
+    return f"they are {', '.join(map(str, s.totals))}" if s.live and any(s.totals) else None
+
+
+def younger(s):
+    """For each frame its live children, from the one that no sibling links to, on their links to the end."""
+    for parent, frame in s.live.items():
+        if frame.parent == NONE and frame.younger != NONE:
+            return f"frame place {parent}, Main, has the sibling {frame.younger}"
+        children = s.children[parent]
+        linked = [s.frames[child].younger for child in children]
+        eldest = [child for child in children if child not in linked]
+        if children and len(eldest) != 1:
+            return f"frame place {parent}: {len(eldest)} of its {len(children)} live children are linked to by no sibling"
+        at, met = eldest[0] if eldest else NONE, []
+        while at in children and at not in met:
+            met.append(at)
+            at = s.frames[at].younger
+        if at != NONE or len(met) < len(children):
+            return f"frame place {parent}: its live children {children}, chained {met}, then {link(at)}"
+    return None
+
+
 def places_free(s):
     met, fault = free_places(s)
     if fault:
         return f"the chain of free places: {fault}"
     for place in sorted(set(range(FRAMES)) - set(s.live) ^ set(met)):
         return f"frame place {place} is " + ("live and on the chain" if place in s.live else "not live and not on the chain")
-    dirty = (p for p in met for f in [s.frames[p]] if f.depth or f.outstanding or f.suspended or f.root or f.returning)
+    dirty = (p for p in met for f in [s.frames[p]] if any((f.depth, f.outstanding, f.suspended, f.root, f.returning, *f.view, f.younger)))
     return first(f"free frame place {place} has a word that is not zero" for place in dirty)
 
 
-# Document 01's words; document 02's, R-1, for the flags and the places of a deque, R-3 for the last word of a record.
+# Document 01's words; document 02's, R-1, for the flags and the places of a deque, R-3 for the returning word, R-5 for totals and links.
 SENTENCES = (
     ("Workers are 1 to 8.", workers),
     ("n is 1 to 256.", splitters),
     ("The recorded node count is T(n) to 16,384.", node_count),
     ("Live and suspended are 0 or 1, and another word there is unsound.", flags),
-    ("The last word of a record is 1 on a frame waiting as returning, which is suspended, else 0.", returning),
+    ("The seventh word of a record is 1 on a frame waiting as returning, which is suspended, else 0.", returning),
     ("For each of 8 workers there are 64 places for its frames.", deque_lengths),
     ("Either no frame lives and all deques are empty, or just one live frame has depth 0, with parent none.", one_main),
     ("Every other live frame has a live parent one shallower.", parents),
@@ -240,6 +265,8 @@ SENTENCES = (
     ("Walking from each live frame gives a tree of the shape above, in which a node may stand in several places.", shape),
     ("Nodes reached have right holders.", holders),
     ("All other nodes are free and lie once on the free chain.", others_free),
+    ("The totals are zero while Main lives.", totals),
+    ("Links to the next younger live sibling chain the live children of each frame, each once, Main's being none.", younger),
     ("Free frame places lie once on their chain, all but the link to the next being zero.", places_free),
 )
 
