@@ -28,27 +28,31 @@ pub enum Workload {
     WritesShared,
     Control,
     Mix,
+    /// Another mix, with folds; those before R-5 have none.
+    MixFolds,
     /// One return that ends a chain of waiting frames, Main too.
     Chain,
 }
 
-pub const WORKLOADS: [Workload; 7] = [
+pub const WORKLOADS: [Workload; 8] = [
     Workload::Reads,
     Workload::Writes,
     Workload::WritesAlone,
     Workload::WritesShared,
     Workload::Control,
     Workload::Mix,
+    Workload::MixFolds,
     Workload::Chain,
 ];
 
 /// Those whose tapes have 8,192 records.
-pub const LONG_WORKLOADS: [Workload; 5] = [
+pub const LONG_WORKLOADS: [Workload; 6] = [
     Workload::Reads,
     Workload::Writes,
     Workload::WritesAlone,
     Workload::Control,
     Workload::Mix,
+    Workload::MixFolds,
 ];
 
 impl Workload {
@@ -60,6 +64,7 @@ impl Workload {
             Workload::WritesShared => "writes shared",
             Workload::Control => "control",
             Workload::Mix => "mix",
+            Workload::MixFolds => "mix with folds",
             Workload::Chain => "chain",
         }
     }
@@ -80,13 +85,16 @@ impl Workload {
     }
 }
 
-/// A state for the soundness check: so many frames live, on one deque, each with so many writes since its spawn.
+/// A state for the soundness check: so many frames live, each with so many writes since its spawn. In one line they are Main and its
+/// descendants, on one deque; in more lines Main has so many children, each with as many of the other frames below it, each line on a deque
+/// of its own.
 #[derive(Clone, Copy, PartialEq, Eq, Debug)]
 pub struct Standing {
     pub n: usize,
     pub nodes: usize,
     pub frames: usize,
     pub writes: usize,
+    pub lines: usize,
 }
 
 pub struct Case {
@@ -235,16 +243,27 @@ impl Case {
 
     /// An empty tape on a state with many frames.
     pub fn standing(standing: Standing) -> Self {
-        let mut generator = Generator::new(2, 1, standing.n, standing.frames);
-        for frame in 0..standing.frames {
-            if frame > 0 {
-                generator.spawn(0);
+        let Standing {
+            n, frames, lines, ..
+        } = standing;
+        let workers = if lines == 1 { 1 } else { lines + 1 };
+        let mut generator = Generator::new(2, workers, n, frames);
+        let write = |generator: &mut Generator, worker| {
+            (0..standing.writes).for_each(|_| generator.write(worker));
+        };
+        write(&mut generator, 0);
+        for worker in 0..lines {
+            for frame in 0..(frames - 1) / lines {
+                generator.spawn(worker);
+                if frame == 0 && lines > 1 {
+                    generator.steal(worker + 1, worker);
+                }
+                write(&mut generator, worker);
             }
-            (0..standing.writes).for_each(|_| generator.write(0));
         }
         Case {
-            workers: 1,
-            values: values(standing.n),
+            workers,
+            values: values(n),
             nodes: standing.nodes,
             prelude: generator.take(),
             tape: Vec::new(),
@@ -259,7 +278,7 @@ fn spawns(tape: &[u8]) -> Vec<u8> {
     spawns.flatten().copied().collect()
 }
 
-/// Mix: 70 in 100 reads, 22 writes, 8 control.
+/// Mix: 70 in 100 reads, 22 writes, 8 control. Mix with folds: 60 reads, 20 writes, 12 folds, 8 control.
 fn one_record(generator: &mut Generator, workload: Workload) {
     match workload {
         Workload::Reads => read(generator),
@@ -268,6 +287,12 @@ fn one_record(generator: &mut Generator, workload: Workload) {
         Workload::Mix => match generator.choice(100) {
             0..70 => read(generator),
             70..92 => write(generator),
+            _ => generator.control(),
+        },
+        Workload::MixFolds => match generator.choice(100) {
+            0..60 => read(generator),
+            60..80 => write(generator),
+            80..92 => fold(generator),
             _ => generator.control(),
         },
     }
@@ -281,4 +306,9 @@ fn read(generator: &mut Generator) {
 fn write(generator: &mut Generator) {
     let worker = generator.busy();
     generator.write(worker);
+}
+
+fn fold(generator: &mut Generator) {
+    let worker = generator.busy();
+    generator.fold(worker);
 }

@@ -51,6 +51,7 @@ pub fn over_nodes(n: usize) -> Vec<Standing> {
             nodes,
             frames: 1,
             writes: 0,
+            lines: 1,
         })
         .collect()
 }
@@ -78,6 +79,17 @@ fn over_frames(n: usize, writes: usize) -> Vec<Standing> {
             nodes,
             frames,
             writes,
+            lines: 1,
         })
         .to_vec()
+}
+
+/// 8 and 64 frames in seven lines: Main has seven children, whose links are followed.
+pub fn siblings(n: usize) -> Vec<Standing> {
+    let lines = 7;
+    let all = written(n).into_iter().chain(sharing(n));
+    let wide = |standing: &Standing| standing.frames % lines == 1 && standing.frames > lines;
+    all.filter(wide)
+        .map(|standing| Standing { lines, ..standing })
+        .collect()
 }

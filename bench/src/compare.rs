@@ -4,8 +4,10 @@ use crate::case::{path_nodes, Case, Workload, SHARED_WRITES, WAITING};
 use crate::filling::{Filled, FullStep, FILLINGS, FULL_STEPS, POOL_FULL, WRITTEN};
 use crate::images;
 use crate::job::FULL_CALLS;
+use crate::kind::{Kind, CONTROLS, FOLDS};
 use crate::measure::{answers, step_answers};
 use crate::peer::{Peer, PEERS};
+use crate::runs;
 use crate::steps;
 
 /// Peers with nodes: all words. Others: a write's second word, the free nodes, is left out.
@@ -126,8 +128,27 @@ fn assert_full_steps() {
     assert_eq!(last, [102, 3], "full pool: the return that ends all");
 }
 
-/// Every workload at every size, the single steps, the filled pools, and the images.
+/// Records of one kind are answered as their names say.
+fn assert_kind(kind: Kind) {
+    let (case, what) = (kind.case(), kind.name());
+    assert_same_answers(&case, what);
+    assert_same_answers(&kind.rest(), what);
+    let answers = answers(Peer::Library, &case);
+    let mut counted = answers[2..].chunks(2);
+    let right = |pair: &[u32]| {
+        let mut words = pair.iter().zip(kind.answer());
+        words.all(|(&word, expected)| expected.is_none_or(|expected| expected == word))
+    };
+    assert!(counted.all(right), "{what}: other answers");
+}
+
+/// Random runs with folds.
+const RUNS: u64 = 300;
+
+/// Every workload at every size, the kinds of records, the single steps, the filled pools, the images, and the totals of random runs.
 pub fn all(workloads: &[Workload], sizes: &[usize]) {
+    runs::compare(&PEERS, RUNS);
+    FOLDS.into_iter().chain(CONTROLS).for_each(assert_kind);
     images::compare();
     assert_filled();
     assert_full_steps();

@@ -5,10 +5,11 @@ use crate::measure::answers;
 use crate::peer::Peer;
 use crate::table::Table;
 
-const HEADER: [&str; 10] = [
+const HEADER: [&str; 11] = [
     "workload",
     "reads",
     "writes",
+    "folds",
     "spawns",
     "steals",
     "syncs",
@@ -31,6 +32,7 @@ pub fn table(n: usize) -> Table {
         let counts = [
             kind(105),
             kind(106),
+            kind(107),
             kind(101),
             kind(103),
             kind(104),

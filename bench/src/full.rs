@@ -6,6 +6,7 @@ use crate::compare;
 use crate::facts;
 use crate::filled::{self, FilledCost, FullStepCost};
 use crate::images::{self, ImageCost};
+use crate::kinds::{self, KindCost};
 use crate::peer::PEERS;
 use crate::pictures;
 use crate::records::{self, Cost};
@@ -33,6 +34,8 @@ pub struct Figures {
     pub sharing: Vec<CheckCost>,
     /// The same after writes in each frame.
     pub written: Vec<CheckCost>,
+    /// Frames in several lines, so that Main has several children.
+    pub siblings: Vec<CheckCost>,
     /// The check of filled pools.
     pub filled: Vec<FilledCost>,
     /// The check's time, of those that are timed.
@@ -43,12 +46,19 @@ pub struct Figures {
     pub steps: Vec<StepCost>,
     /// Saving and reading.
     pub images: Vec<ImageCost>,
+    /// Folds, spawns and returns.
+    pub kinds: Vec<KindCost>,
 }
 
 impl Figures {
     /// The checks of all states but the filled pools.
     pub fn checks(&self) -> impl Iterator<Item = &CheckCost> {
-        let all = [&self.over_nodes, &self.sharing, &self.written];
+        let all = [
+            &self.over_nodes,
+            &self.sharing,
+            &self.written,
+            &self.siblings,
+        ];
         all.into_iter().flatten()
     }
 }
@@ -85,6 +95,7 @@ fn measure() -> Figures {
     let filled_times = filled::times();
     eprintln!("bench: instructions of records");
     let costs = records::count(&PEERS, &WORKLOADS, &GROWTH);
+    let kinds = kinds::count();
     eprintln!("bench: instructions of the check");
     let all_sizes =
         |standings: fn(usize) -> Vec<Standing>| checks::count(&SIZES.map(standings).concat());
@@ -102,10 +113,12 @@ fn measure() -> Figures {
         full_steps,
         steps,
         images,
+        kinds,
         costs,
         times,
         over_nodes: all_sizes(checks::over_nodes),
         sharing: all_sizes(checks::sharing),
         written: all_sizes(checks::written),
+        siblings: all_sizes(checks::siblings),
     }
 }

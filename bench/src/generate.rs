@@ -1,12 +1,36 @@
-//! Makes tapes whose records are all accepted, by keeping the frames and deques beside them. But for the chains, no return waits.
+//! Makes tapes whose records are all accepted, by keeping the frames and deques beside them. But for the chains and the random runs, no
+//! return waits.
 
 use crate::random::Random;
-use crate::tape::{record, READ, RETURN, SPAWN, STEAL, SYNC, WRITE};
+use crate::tape::{record, AFFINE, FOLD, READ, REDUCERS, RETURN, SPAWN, STEAL, SYNC, WRITE};
+use crate::view::View;
 
 struct Frame {
     parent: Option<usize>,
     outstanding: usize,
     suspended: bool,
+    /// Ends with its last child.
+    returning: bool,
+    /// Its folds and children, in order.
+    items: Vec<Item>,
+}
+
+impl Frame {
+    fn below(parent: Option<usize>) -> Self {
+        Frame {
+            parent,
+            outstanding: 0,
+            suspended: false,
+            returning: false,
+            items: Vec::new(),
+        }
+    }
+}
+
+/// What matters of a frame's step to the totals.
+enum Item {
+    Fold(usize, u32),
+    Child(usize),
 }
 
 pub struct Generator {
@@ -29,11 +53,7 @@ impl Generator {
         Generator {
             random: Random::new(seed),
             splitters,
-            frames: vec![Frame {
-                parent: None,
-                outstanding: 0,
-                suspended: false,
-            }],
+            frames: vec![Frame::below(None)],
             live: 1,
             max_live,
             deques,
@@ -52,14 +72,11 @@ impl Generator {
     }
 
     pub fn spawn(&mut self, worker: usize) {
-        let parent = self.bottom(worker);
+        let (parent, child) = (self.bottom(worker), self.frames.len());
         self.frames[parent].outstanding += 1;
-        self.deques[worker].push(self.frames.len());
-        self.frames.push(Frame {
-            parent: Some(parent),
-            outstanding: 0,
-            suspended: false,
-        });
+        self.frames[parent].items.push(Item::Child(child));
+        self.deques[worker].push(child);
+        self.frames.push(Frame::below(Some(parent)));
         self.live += 1;
         self.push(SPAWN, worker, 0, 0);
     }
@@ -85,7 +102,21 @@ impl Generator {
         self.push(WRITE, worker, splitter, value);
     }
 
-    fn sync(&mut self, worker: usize) {
+    /// Into any reducer.
+    pub fn fold(&mut self, worker: usize) {
+        let reducer = self.random.below(REDUCERS);
+        self.fold_into(worker, reducer);
+    }
+
+    /// A map's multiplier is odd, so that no earlier map is lost and the order of all shows in the total.
+    pub fn fold_into(&mut self, worker: usize, reducer: usize) {
+        let odd = if reducer == AFFINE { 65_536 } else { 0 };
+        let (frame, value) = (self.bottom(worker), self.random.word() | odd);
+        self.frames[frame].items.push(Item::Fold(reducer, value));
+        self.push(FOLD, worker, reducer, value);
+    }
+
+    pub fn sync(&mut self, worker: usize) {
         let frame = self.bottom(worker);
         if self.frames[frame].outstanding > 0 {
             self.frames[frame].suspended = true;
@@ -96,26 +127,70 @@ impl Generator {
 
     /// The bottom frame returns while a child of it lives: it is alone in its deque, and waits.
     pub fn wait(&mut self, worker: usize) {
-        let frame = self.bottom(worker);
-        assert!(self.frames[frame].outstanding > 0, "no live child");
+        let bottom = self.bottom(worker);
+        let frame = &mut self.frames[bottom];
+        assert!(frame.outstanding > 0, "no live child");
+        frame.suspended = true;
+        frame.returning = true;
         self.deques[worker].pop();
         self.push(RETURN, worker, 0, 0);
     }
 
-    /// The bottom frame ends; it is not Main. If a frame waits for it as returning, nothing more can be generated.
+    /// The bottom frame, which has no live child, ends, and upward from it those that wait as returning for it alone.
     pub fn end(&mut self, worker: usize) {
-        let ended = self.bottom(worker);
+        let mut ended = self.bottom(worker);
         self.deques[worker].pop();
         self.live -= 1;
-        if let Some(parent) = self.frames[ended].parent {
+        while let Some(parent) = self.frames[ended].parent {
             let above = &mut self.frames[parent];
             above.outstanding -= 1;
-            if self.deques[worker].is_empty() && above.suspended && above.outstanding == 0 {
+            if !self.deques[worker].is_empty() || !above.suspended || above.outstanding > 0 {
+                break;
+            }
+            if !above.returning {
                 above.suspended = false;
                 self.deques[worker].push(parent);
+                break;
             }
+            self.live -= 1;
+            ended = parent;
         }
         self.push(RETURN, worker, 0, 0);
+    }
+
+    /// The bottom frame ends, or waits.
+    fn leave(&mut self, worker: usize) {
+        if self.frames[self.bottom(worker)].outstanding == 0 {
+            self.end(worker);
+        } else {
+            self.wait(worker);
+        }
+    }
+
+    /// Returns by any busy worker, until Main has returned.
+    pub fn finish(&mut self) {
+        while self.live > 0 {
+            let worker = self.busy();
+            self.leave(worker);
+        }
+    }
+
+    /// The identity joined with the values folded so far, in the order of Main's child-first list: the totals, once Main has returned.
+    pub fn totals(&self) -> [u32; 4] {
+        let mut total = View::IDENTITY;
+        self.fold_all(0, &mut total);
+        total.words()
+    }
+
+    fn fold_all(&self, frame: usize, total: &mut View) {
+        for item in &self.frames[frame].items {
+            match *item {
+                Item::Fold(reducer, value) => {
+                    total.fold(reducer, value).expect("a reducer");
+                }
+                Item::Child(child) => self.fold_all(child, total),
+            }
+        }
     }
 
     fn bottom(&self, worker: usize) -> usize {
@@ -139,6 +214,29 @@ impl Generator {
     /// A number below `bound`, to choose kinds of records.
     pub fn choice(&mut self, bound: usize) -> usize {
         self.random.below(bound)
+    }
+
+    /// One accepted record of any kind, most of them folds, spawns, returns and steals; Main does not return.
+    pub fn any(&mut self) {
+        loop {
+            let worker = self.random.below(self.deques.len());
+            if self.is_idle(worker) {
+                let victim = self.random.below(self.deques.len());
+                if self.deques[victim].len() >= 2 {
+                    return self.steal(worker, victim);
+                }
+                continue;
+            }
+            match self.random.below(20) {
+                0..6 => return self.fold(worker),
+                6 => return self.read(worker),
+                7 => return self.write(worker),
+                8..14 if self.live < self.max_live => return self.spawn(worker),
+                14..19 if self.bottom(worker) != 0 => return self.leave(worker),
+                19 => return self.sync(worker),
+                _ => {}
+            }
+        }
     }
 
     /// One accepted spawn, return, steal or sync: an idle worker steals; a busy one spawns or returns, 2 in 5 each, or syncs.

@@ -2,6 +2,8 @@
 
 use crate::case::Workload;
 use crate::images::ImageCost;
+use crate::kind::{Kind, FOLDS};
+use crate::kinds::{self, KindCost};
 use crate::peer::Peer;
 use crate::records::{self, Cost};
 use crate::stack::Stack;
@@ -15,6 +17,17 @@ const CONTROL_LIMIT: f64 = 1.05;
 /// How much more than the copying machine's a write alone may cost, and at which n.
 const COPYING_LIMIT: f64 = 3.0;
 const COPYING_SIZE: usize = 256;
+/// How much more than plain Rust's a fold may cost.
+const FOLD_LIMIT: f64 = 1.1;
+/// How many more instructions than before R-5 a spawn or a return without live siblings elsewhere may take, by frames that have folded
+/// nothing: before R-5 there were no folds.
+const MORE_LIMIT: f64 = 15.0;
+const WITHOUT_SIBLINGS: [Kind; 4] = [
+    Kind::Spawn,
+    Kind::Return,
+    Kind::ReturnIdle,
+    Kind::ReturnResumes,
+];
 /// How many times more the checks of the blocks must have cost before R-4.
 const BEFORE_LIMIT: f64 = 3.0;
 
@@ -25,7 +38,13 @@ struct Goal {
 }
 
 /// Lines of a list in markdown. Of each check, the library's instructions divided by plain Rust's.
-pub fn list(costs: &[Cost], checks: &[f64], images: &[ImageCost], stack: Option<&Stack>) -> String {
+pub fn list(
+    costs: &[Cost],
+    kinds: &[KindCost],
+    checks: &[f64],
+    images: &[ImageCost],
+    stack: Option<&Stack>,
+) -> String {
     let mut goals = vec![
         records_goal(
             "mix: no more instructions per further record than plain Rust",
@@ -58,6 +77,8 @@ pub fn list(costs: &[Cost], checks: &[f64], images: &[ImageCost], stack: Option<
             |ratio| ratio <= 1.0,
         ),
         copying_goal(costs),
+        folds_goal(kinds),
+        more_goal(kinds),
         check_goal(checks),
         images_goal(images),
         blocks_goal(images),
@@ -112,6 +133,26 @@ fn ratio(costs: &[Cost], peer: Peer, workload: Workload, n: usize) -> f64 {
     of(Peer::Library) / of(peer)
 }
 
+fn folds_goal(costs: &[KindCost]) -> Goal {
+    let ratios = FOLDS.map(|kind| (kind, kinds::find(costs, kind).ratio()));
+    let figures = ratios.map(|(kind, ratio)| format!("{}: {ratio:.3}", kind.name()));
+    Goal {
+        what: "folds: at most 1.1 times the instructions per record of plain Rust",
+        met: ratios.into_iter().all(|(_, ratio)| ratio <= FOLD_LIMIT),
+        figures: format!("library / plain: {}", figures.join("; ")),
+    }
+}
+
+fn more_goal(costs: &[KindCost]) -> Goal {
+    let more = WITHOUT_SIBLINGS.map(|kind| (kind, kinds::find(costs, kind).more()));
+    let figures = more.map(|(kind, more)| format!("{}: {:+.1}", kind.name(), more.unwrap_or(0.0)));
+    Goal {
+        what: "spawns and returns without live siblings elsewhere and without folds: at most 15 instructions more than before R-5",
+        met: more.into_iter().all(|(_, more)| more.is_some_and(|more| more <= MORE_LIMIT)),
+        figures: figures.join("; "),
+    }
+}
+
 fn check_goal(ratios: &[f64]) -> Goal {
     let within = ratios.iter().filter(|&&ratio| ratio <= CHECK_LIMIT).count();
     let least = ratios.iter().copied().fold(f64::MAX, f64::min);
@@ -155,13 +196,16 @@ fn images_goal(images: &[ImageCost]) -> Goal {
 }
 
 fn blocks_goal(images: &[ImageCost]) -> Goal {
-    let times = |image: &ImageCost| image.before.checks as f64 / image.library().checks as f64;
+    let times = |image: &ImageCost| {
+        let before = image.before.per_block(|costs| costs.checks);
+        before / image.per_block(image.library().checks)
+    };
     let figures: Vec<String> = images
         .iter()
         .map(|image| format!("{} nodes: {:.1}", grouped(image.nodes as u64), times(image)))
         .collect();
     Goal {
-        what: "checks of the blocks: at least three times fewer instructions than before R-4",
+        what: "checks of the blocks: at least three times fewer instructions per block than before R-4",
         met: images.iter().map(times).all(|times| times >= BEFORE_LIMIT),
         figures: format!("before / library: {}", figures.join(", ")),
     }

@@ -31,31 +31,50 @@ pub struct CallCosts {
     pub checks: u64,
 }
 
-/// The library's before R-4, at `BEFORE_COMMIT`, counted by this bench.
+/// The library's before R-4, at `BEFORE_COMMIT`, counted by this bench. Images had fewer words before R-5.
 pub const BEFORE_COMMIT: &str = "22904c1";
-const BEFORE: [CallCosts; 2] = [
-    CallCosts {
-        save: 108_043,
-        load: 108_217,
-        bare_save: 83_729,
-        bare_load: 83_903,
-        checks: 77_190,
+const BEFORE: [Before; 2] = [
+    Before {
+        blocks: 40,
+        costs: CallCosts {
+            save: 108_043,
+            load: 108_217,
+            bare_save: 83_729,
+            bare_load: 83_903,
+            checks: 77_190,
+        },
     },
-    CallCosts {
-        save: 1_399_391,
-        load: 1_400_317,
-        bare_save: 1_104_465,
-        bare_load: 1_105_391,
-        checks: 1_006_954,
+    Before {
+        blocks: 524,
+        costs: CallCosts {
+            save: 1_399_391,
+            load: 1_400_317,
+            bare_save: 1_104_465,
+            bare_load: 1_105_391,
+            checks: 1_006_954,
+        },
     },
 ];
+
+#[derive(Clone, Copy)]
+pub struct Before {
+    blocks: u64,
+    costs: CallCosts,
+}
+
+impl Before {
+    /// Instructions per block of the image as it was then.
+    pub fn per_block(&self, instructions: fn(&CallCosts) -> u64) -> f64 {
+        instructions(&self.costs) as f64 / self.blocks as f64
+    }
+}
 
 pub struct ImageCost {
     pub nodes: usize,
     /// Those of `IMAGE_PEERS`.
     pub peers: [CallCosts; 3],
     /// The library's before R-4.
-    pub before: CallCosts,
+    pub before: Before,
     /// The instructions of a plain copy.
     pub copy: u64,
 }
@@ -67,6 +86,10 @@ impl ImageCost {
 
     pub fn blocks(&self) -> u64 {
         self.bytes() / BLOCK_BYTES as u64
+    }
+
+    pub fn per_block(&self, instructions: u64) -> f64 {
+        instructions as f64 / self.blocks() as f64
     }
 
     pub fn library(&self) -> &CallCosts {
@@ -84,6 +107,7 @@ fn standings() -> [Standing; 2] {
         nodes,
         frames: FRAMES,
         writes: WRITES,
+        lines: 1,
     })
 }
 
@@ -93,7 +117,7 @@ pub fn count() -> Vec<ImageCost> {
         .collect()
 }
 
-fn count_at(standing: Standing, before: CallCosts) -> ImageCost {
+fn count_at(standing: Standing, before: Before) -> ImageCost {
     let copy = (Peer::Plain, Job::Image(ImageCall::Copy, standing));
     let of_peers = IMAGE_PEERS.map(|peer| jobs(peer, standing).map(|job| (peer, job)));
     let all = [of_peers.as_flattened(), &[copy]].concat();
@@ -185,8 +209,8 @@ pub fn images(run: &mut dyn Run) -> &mut dyn Images {
     run.images().expect("it has nodes")
 }
 
-/// The images by `tests/host/src/image.rs`, of plain.rs's state: as it is saved, and in the form from before R-3.
-fn by_document(case: &Case) -> [Vec<u8>; 2] {
+/// The image by `tests/host/src/image.rs`, of plain.rs's state.
+fn by_document(case: &Case) -> Vec<u8> {
     let (mut pool, mut work) = (vec![0; 4 * case.nodes], vec![0; case.nodes]);
     let (mut state, started) = plain::start(case.workers as u32, &case.values, &mut pool);
     let mut answers = vec![0; case.prelude.len() / 4];
@@ -197,20 +221,17 @@ fn by_document(case: &Case) -> [Vec<u8>; 2] {
         &case.prelude,
         &mut answers,
     );
-    let state = Parts::of(&state);
     let mut target = vec![FILL; image::bytes(case.nodes as u32) as usize];
-    let saved = image::save(&state, &pool, &mut work, &mut target);
+    let saved = image::save(&Parts::of(&state), &pool, &mut work, &mut target);
     assert_eq!([started, ran, saved], [0; 3], "the document's image");
-    let mut before = vec![FILL; image::bytes_of(0, case.nodes as u32) as usize];
-    image::put(image::image_words(0, &state, &pool), &mut before);
-    [target, before]
+    target
 }
 
-/// Library and plain Rust save the document's bytes, and save them again after reading them, in either form, into another run.
+/// Library and plain Rust save the document's bytes, and save them again after reading them into another run.
 pub fn compare() {
     for standing in standings() {
         let case = Case::standing(standing);
-        let [expected, before] = by_document(&case);
+        let expected = by_document(&case);
         let what = format!("images, {} nodes", standing.nodes);
         let bytes = library::image_bytes(standing.nodes);
         assert_eq!(
@@ -219,15 +240,16 @@ pub fn compare() {
             "{what}: the bytes of an image"
         );
         for peer in IMAGE_PEERS {
-            let same = saved(peer, &case) == expected;
-            assert!(same, "{what}: {} saves other bytes", peer.name());
-            for image in [&expected, &before] {
-                let same = read_and_saved(peer, &case, image) == expected;
-                assert!(same, "{what}: {} reads something else", peer.name());
-                let same =
-                    peer == Peer::Library || bare_read_and_saved(peer, &case, image) == expected;
-                assert!(same, "{what}: {} without its soundness check", peer.name());
-            }
+            compare_peer(peer, &case, &expected, &what);
         }
     }
+}
+
+fn compare_peer(peer: Peer, case: &Case, expected: &[u8], what: &str) {
+    let same = saved(peer, case) == expected;
+    assert!(same, "{what}: {} saves other bytes", peer.name());
+    let same = read_and_saved(peer, case, expected) == expected;
+    assert!(same, "{what}: {} reads something else", peer.name());
+    let same = peer == Peer::Library || bare_read_and_saved(peer, case, expected) == expected;
+    assert!(same, "{what}: {} without its soundness check", peer.name());
 }

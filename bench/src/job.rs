@@ -2,6 +2,7 @@
 
 use crate::case::{Case, Standing, Workload, RECORDS};
 use crate::filling::{Filled, Filling, FullStep};
+use crate::kind::Kind;
 
 #[derive(Clone, Copy, PartialEq, Eq, Debug)]
 pub enum Job {
@@ -21,6 +22,10 @@ pub enum Job {
     FullSteps(FullStep),
     /// Such steps as the records of one tape.
     FullTape(FullStep),
+    /// A read and then records of one kind.
+    Kind(Kind),
+    /// The read alone.
+    KindRest(Kind),
 }
 
 /// Single steps in a full pool.
@@ -75,6 +80,8 @@ impl Job {
             Job::Filled(filling) => Filled::new(filling).case(),
             Job::FullSteps(step) => step.case(FULL_CALLS),
             Job::FullTape(step) => step.case(RECORDS),
+            Job::Kind(kind) => kind.case(),
+            Job::KindRest(kind) => kind.rest(),
         }
     }
 
@@ -97,18 +104,21 @@ impl Job {
             Job::Filled(filling) => vec!["filled".into(), filling.name().into()],
             Job::FullSteps(step) => vec!["full_steps".into(), step.name().into()],
             Job::FullTape(step) => vec!["full_tape".into(), step.name().into()],
+            Job::Kind(kind) => vec!["kind".into(), kind.name().into()],
+            Job::KindRest(kind) => vec!["kind".into(), kind.name().into(), "rest".into()],
         }
     }
 
     pub fn from_words(words: &[&str]) -> Option<Self> {
         let number = |word: &str| word.parse::<usize>().ok();
         match words {
-            [name, n, nodes, frames, writes] => {
+            [name, n, nodes, frames, writes, lines] => {
                 let standing = Standing {
                     n: number(n)?,
                     nodes: number(nodes)?,
                     frames: number(frames)?,
                     writes: number(writes)?,
+                    lines: number(lines)?,
                 };
                 match *name {
                     "check" => Some(Job::Check(standing)),
@@ -123,6 +133,8 @@ impl Job {
             ["filled", filling] => Some(Job::Filled(Filling::named(filling)?)),
             ["full_steps", step] => Some(Job::FullSteps(FullStep::named(step)?)),
             ["full_tape", step] => Some(Job::FullTape(FullStep::named(step)?)),
+            ["kind", kind] => Some(Job::Kind(Kind::named(kind)?)),
+            ["kind", kind, "rest"] => Some(Job::KindRest(Kind::named(kind)?)),
             [workload, n] => Some(Job::Records(Workload::named(workload)?, number(n)?)),
             [workload, n, "rest"] => Some(Job::Rest(Workload::named(workload)?, number(n)?)),
             _ => None,
@@ -131,6 +143,6 @@ impl Job {
 }
 
 fn standing_words(name: &str, s: Standing) -> Vec<String> {
-    let numbers = [s.n, s.nodes, s.frames, s.writes].map(|number| number.to_string());
+    let numbers = [s.n, s.nodes, s.frames, s.writes, s.lines].map(|number| number.to_string());
     [vec![name.into()], numbers.to_vec()].concat()
 }

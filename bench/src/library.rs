@@ -1,6 +1,7 @@
 //! libsplitter.a through its C interface, as the binding declares it. What the binding does not have yet, R-1's functions, is declared
 //! here.
 
+use crate::work::Work;
 use splitter::{raw, State, NODE_WORDS};
 
 mod c {
@@ -39,11 +40,16 @@ mod c {
     }
 }
 
+/// The totals stand behind workers, splitters, nodes, first free node and first free place.
+const FIRST_TOTAL: usize = 5;
+/// The words of a frame record, the first of which tells whether the frame lives.
+const RECORD_WORDS: usize = 12;
+
 /// The memory that the calls are lent.
 pub struct Library {
     state: State,
     pool: Vec<u32>,
-    work: Vec<u32>,
+    work: Work,
 }
 
 impl Library {
@@ -51,7 +57,7 @@ impl Library {
         let mut library = Library {
             state: State::ZERO,
             pool: vec![0; NODE_WORDS * nodes],
-            work: vec![0; nodes],
+            work: Work::of(nodes),
         };
         let state = library.state.parts();
         let refusal = raw::start(state, workers as u32, values, &mut library.pool);
@@ -61,15 +67,24 @@ impl Library {
 
     pub fn tape(&mut self, tape: &[u8], answers: &mut [u32]) -> u32 {
         let state = self.state.parts();
-        raw::tape(state, &mut self.pool, &mut self.work, tape, answers)
+        raw::tape(state, &mut self.pool, self.work.words(), tape, answers)
     }
 
     pub fn step(&mut self, fields: [u32; 4]) -> [u32; 2] {
-        raw::step(self.state.parts(), &mut self.pool, &mut self.work, fields)
+        let state = self.state.parts();
+        raw::step(state, &mut self.pool, self.work.words(), fields)
+    }
+
+    /// Once no frame lives: four of the numbers.
+    pub fn totals(&mut self) -> Option<[u32; 4]> {
+        let state = self.state.parts();
+        let mut records = state.frames.chunks(RECORD_WORDS);
+        let totals = state.numbers.get(FIRST_TOTAL..)?.try_into().ok()?;
+        records.all(|record| record[0] == 0).then_some(totals)
     }
 
     pub fn save(&mut self, target: &mut [u8]) -> u32 {
-        let state = self.state.parts();
+        let (state, work) = (self.state.parts(), self.work.words());
         // SAFETY: each pointer and length is a borrowed slice's.
         unsafe {
             c::splitter_save(
@@ -81,8 +96,8 @@ impl Library {
                 state.frames.len(),
                 self.pool.as_ptr(),
                 self.pool.len(),
-                self.work.as_mut_ptr(),
-                self.work.len(),
+                work.as_mut_ptr(),
+                work.len(),
                 target.as_mut_ptr(),
                 target.len(),
             )
@@ -90,7 +105,7 @@ impl Library {
     }
 
     pub fn load(&mut self, image: &[u8]) -> u32 {
-        let state = self.state.parts();
+        let (state, work) = (self.state.parts(), self.work.words());
         // SAFETY: each pointer and length is a borrowed slice's.
         unsafe {
             c::splitter_load(
@@ -102,8 +117,8 @@ impl Library {
                 state.frames.len(),
                 self.pool.as_mut_ptr(),
                 self.pool.len(),
-                self.work.as_mut_ptr(),
-                self.work.len(),
+                work.as_mut_ptr(),
+                work.len(),
                 image.as_ptr(),
                 image.len(),
             )

@@ -1,11 +1,14 @@
-//! Document 01's plain machine, with R-3 of document 02, in Rust: each live frame has its own values, spawn copies them. Refusals 7 to 15;
-//! there are no nodes, so 16 never comes and a write answers 0.
+//! Document 01's plain machine, with of document 02, in Rust: each live frame has its own values, spawn copies them. Refusals 7
+//! to 15 and 20; there are no nodes, so 16 never comes and a write answers 0. The live frames are linked in R-5's order, each to the one
+//! before it and the one after it: a spawned child comes just before its parent, and no sibling is searched for.
 
-use crate::tape::{READ, RETURN, SPAWN, STEAL, SYNC, WRITE};
+use crate::tape::{FOLD, READ, RETURN, SPAWN, STEAL, SYNC, WRITE};
 use crate::values::Values;
+use crate::view::View;
+use std::mem;
 
 const MAX_FRAMES: usize = 64;
-/// The parent of Main.
+/// The parent of Main, what comes after it and what comes before the first frame.
 const NONE: usize = usize::MAX;
 
 struct Frame<V> {
@@ -16,6 +19,10 @@ struct Frame<V> {
     /// Suspended, and ends with its last child.
     returning: bool,
     values: V,
+    view: View,
+    /// In the order of the live frames.
+    before: usize,
+    after: usize,
 }
 
 pub struct Machine<V> {
@@ -26,6 +33,8 @@ pub struct Machine<V> {
     /// Each from the top frame to the bottom one.
     deques: Vec<Vec<usize>>,
     main_lives: bool,
+    /// Once Main has returned.
+    totals: Option<[u32; 4]>,
 }
 
 impl<V: Values> Machine<V> {
@@ -42,7 +51,12 @@ impl<V: Values> Machine<V> {
             free: (1..MAX_FRAMES).rev().collect(),
             deques,
             main_lives: true,
+            totals: None,
         }
+    }
+
+    pub fn totals(&self) -> Option<[u32; 4]> {
+        self.totals
     }
 
     /// Two answer words for each record.
@@ -66,6 +80,7 @@ impl<V: Values> Machine<V> {
             (SYNC, 0, 0) => [104, self.sync(worker)?],
             (READ, splitter, 0) => [105, self.read(worker, splitter)?],
             (WRITE, splitter, value) => [106, self.write(worker, splitter, value)?],
+            (FOLD, reducer, value) => [107, self.fold(worker, reducer, value)?],
             _ => return Err(7),
         })
     }
@@ -91,7 +106,13 @@ impl<V: Values> Machine<V> {
         child.parent = bottom;
         child.depth = parent.depth + 1;
         child.values.copy_from(&parent.values);
-        let depth = child.depth;
+        child.view = mem::replace(&mut parent.view, View::IDENTITY);
+        child.before = mem::replace(&mut parent.before, place);
+        child.after = bottom;
+        let (depth, before) = (child.depth, child.before);
+        if before != NONE {
+            self.frames[before].after = place;
+        }
         self.deques[worker].push(place);
         Ok(depth)
     }
@@ -113,12 +134,14 @@ impl<V: Values> Machine<V> {
         loop {
             let frame = &mut self.frames[ending];
             frame.values.drop_values();
-            let parent = frame.parent;
+            let (parent, view) = (frame.parent, frame.view);
             self.free.push(ending);
             if parent == NONE {
                 self.main_lives = false;
+                self.totals = Some(view.words());
                 return 3;
             }
+            self.leave_order(ending);
             let above = &mut self.frames[parent];
             above.outstanding -= 1;
             let deque = &mut self.deques[worker];
@@ -136,6 +159,22 @@ impl<V: Values> Machine<V> {
             above.suspended = false;
             above.returning = false;
             ending = parent;
+        }
+    }
+
+    /// The view of a frame that has ended joins on the left of the next one's. It is not Main, so that there is a next one.
+    fn leave_order(&mut self, ended: usize) {
+        let Frame {
+            view,
+            before,
+            after,
+            ..
+        } = self.frames[ended];
+        let next = &mut self.frames[after];
+        next.view = view.join(next.view);
+        next.before = before;
+        if before != NONE {
+            self.frames[before].after = after;
         }
     }
 
@@ -182,6 +221,12 @@ impl<V: Values> Machine<V> {
         self.frames[bottom].values.set(splitter, value);
         Ok(0)
     }
+
+    fn fold(&mut self, worker: usize, reducer: usize, value: u32) -> Result<u32, u32> {
+        let bottom = self.bottom(worker)?;
+        let folded = self.frames[bottom].view.fold(reducer, value);
+        folded.map_or(Err(20), |()| Ok(0))
+    }
 }
 
 fn no_frame<V: Values>() -> Frame<V> {
@@ -192,5 +237,8 @@ fn no_frame<V: Values>() -> Frame<V> {
         suspended: false,
         returning: false,
         values: V::default(),
+        view: View::IDENTITY,
+        before: NONE,
+        after: NONE,
     }
 }

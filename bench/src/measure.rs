@@ -4,8 +4,8 @@ use crate::case::Case;
 use crate::images;
 use crate::job::{ImageCall, Job};
 use crate::peer::{Images, Peer, Run};
+use crate::plain_image::WRONG_CHECK;
 use crate::tape::fields;
-use host_tests::image::WRONG_CHECK;
 
 /// The function that callgrind counts in; by its symbol, so it must stay a function of its own.
 #[no_mangle]
@@ -73,7 +73,7 @@ pub fn once(peer: Peer, job: Job) {
             assert!(again == image, "{}: reads something else", peer.name());
             image_call(peer, &case, call, &image);
         }
-        Job::Records(..) | Job::Rest(..) | Job::Check(_) | Job::Filled(_) | Job::FullTape(_) => {
+        _ => {
             let mut answers = answers(peer, &case);
             let mut run = peer.begin(&case);
             let refusal = bench_measured(run.as_mut(), &case.tape, &mut answers);

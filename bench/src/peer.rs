@@ -6,6 +6,7 @@ use crate::machine::Machine;
 use crate::plain_image::{self, Sum};
 use crate::tape::record;
 use crate::values::Values;
+use crate::work::Work;
 use host_tests::plain;
 
 #[derive(Clone, Copy, PartialEq, Eq, Debug)]
@@ -36,6 +37,9 @@ pub trait Run {
         self.tape(&record, &mut answer);
         answer
     }
+
+    /// R-5's totals, once Main has returned.
+    fn totals(&mut self) -> Option<[u32; 4]>;
 
     /// Its images, if it keeps nodes.
     fn images(&mut self) -> Option<&mut dyn Images> {
@@ -118,6 +122,10 @@ impl Run for Library {
         Library::step(self, fields)
     }
 
+    fn totals(&mut self) -> Option<[u32; 4]> {
+        Library::totals(self)
+    }
+
     fn images(&mut self) -> Option<&mut dyn Images> {
         Some(self)
     }
@@ -138,13 +146,17 @@ impl<V: Values> Run for Machine<V> {
         Machine::tape(self, tape, answers);
         0
     }
+
+    fn totals(&mut self) -> Option<[u32; 4]> {
+        Machine::totals(self)
+    }
 }
 
 /// The same algorithm in plain Rust, with the memory that it works on.
 struct Plain {
     state: plain::State,
     pool: Vec<u32>,
-    work: Vec<u32>,
+    work: Work,
     /// How an image's checks are summed.
     sum: Sum,
 }
@@ -157,7 +169,7 @@ impl Plain {
         Plain {
             state,
             pool,
-            work: vec![0; case.nodes],
+            work: Work::of(case.nodes),
             sum,
         }
     }
@@ -165,11 +177,11 @@ impl Plain {
     /// With the soundness check or without it.
     fn save_image<const CHECKED: bool>(&mut self, target: &mut [u8]) -> u32 {
         let (state, pool) = (&self.state, &self.pool);
-        plain_image::save::<CHECKED>(state, pool, &mut self.work, target, self.sum)
+        plain_image::save::<CHECKED>(state, pool, self.work.words(), target, self.sum)
     }
 
     fn load_image<const CHECKED: bool>(&mut self, image: &[u8]) -> u32 {
-        let (pool, work) = (&mut self.pool, &mut self.work);
+        let (pool, work) = (&mut self.pool, self.work.words());
         plain_image::load::<CHECKED>(&mut self.state, pool, work, image, self.sum)
     }
 }
@@ -179,7 +191,7 @@ impl Run for Plain {
         plain::tape(
             &mut self.state,
             &mut self.pool,
-            &mut self.work,
+            self.work.words(),
             tape,
             answers,
         )
@@ -189,7 +201,11 @@ impl Run for Plain {
         let Plain {
             state, pool, work, ..
         } = self;
-        plain::step(state, pool, work, kind, worker, field, value).into()
+        plain::step(state, pool, work.words(), kind, worker, field, value).into()
+    }
+
+    fn totals(&mut self) -> Option<[u32; 4]> {
+        (!self.state.main_lives()).then(|| self.state.totals.words())
     }
 
     fn images(&mut self) -> Option<&mut dyn Images> {

@@ -42,7 +42,8 @@ fn axis(label: &str, scale: Scale) -> Axis {
 }
 
 pub fn records(costs: &[Cost]) -> Picture {
-    let of_records = |workload: &Workload| *workload != Workload::Chain;
+    let of_records =
+        |workload: &Workload| !matches!(workload, Workload::Chain | Workload::MixFolds);
     let panels = WORKLOADS.into_iter().filter(of_records).map(|workload| {
         let series = PEERS.map(|peer| {
             let of_peer = costs

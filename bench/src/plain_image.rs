@@ -1,13 +1,21 @@
-//! R-1's saving and reading, as change them, in fast plain Rust, over the state of plain.rs: words are moved a run at a time,
+//! R-1's saving and reading, as change them, in fast plain Rust, over the state of plain.rs: words are moved a run at a time,
 //! those of a whole block by arrays of fixed length, and a check is summed in one of two ways. `tests/host/src/image.rs` says the same
 //! without a thought of speed; the bench compares the two.
 
-use host_tests::image::{
-    self, DATA_BYTES, NOT_ITS_BLOCKS, PER_VERSION, SHORT_TARGET, VERSION, WRONG_CHECK,
-};
+use host_tests::image::{self, DATA_BYTES};
 use host_tests::plain::{
-    sound, Deque, Frame, Refusal, State, DEQUES_WORDS, FRAME_WORDS, MAX_FRAMES, STATE_WORDS,
+    of_record, record, sound, Deque, Frame, Refusal, State, View, DEQUES_WORDS, FRAME_WORDS,
+    MAX_FRAMES, NUMBERS_WORDS, STATE_WORDS,
 };
+
+/// Added to the workers in the first word; only this form is read.
+const VERSION: u32 = 2 * 256;
+/// The image is not just as many whole blocks as its first block calls for, has no whole block, or a first word of another form.
+const NOT_ITS_BLOCKS: u32 = 17;
+/// A check is wrong or the rest of the last block is not zero.
+pub const WRONG_CHECK: u32 = 18;
+/// The target is too short.
+const SHORT_TARGET: u32 = 19;
 
 /// How the check of a block is summed.
 #[derive(Clone, Copy)]
@@ -70,12 +78,14 @@ fn clear(state: &mut State) {
         nodes,
         free,
         vacant,
+        totals,
         deques,
         frames,
     } = state;
     for number in [workers, splitters, nodes, free, vacant] {
         *number = 0;
     }
+    *totals = View::default();
     deques.fill(Deque::EMPTY);
     frames.fill(Frame::default());
 }
@@ -87,23 +97,21 @@ fn take<const CHECKED: bool>(
     image: &[u8],
     sum: Sum,
 ) -> Result<(), u32> {
-    let (version, nodes) = recorded(image)
-        .filter(|&(version, nodes)| {
-            version <= VERSION && image::bytes_of(version, nodes) == image.len() as u64
-        })
+    let nodes = recorded(image)
+        .filter(|&nodes| image::bytes(nodes) == image.len() as u64)
         .ok_or(NOT_ITS_BLOCKS)?;
     let right = match sum {
         Sum::ByWords => checks_right(image, by_words),
         Sum::ByBytes => checks_right(image, by_bytes),
     };
-    let rest = rest(image, image::words_of(version, nodes));
+    let rest = rest(image, STATE_WORDS + 4 * nodes as usize);
     if !right || rest.iter().any(|&place| place != [0; 4]) {
         return Err(WRONG_CHECK);
     }
     if work.len() < nodes as usize {
         return Err(Refusal::ShortWork as u32);
     }
-    read(state, pool, version, nodes as usize, image);
+    read(state, pool, nodes as usize, image);
     if CHECKED && sound(state, pool, work).is_none() {
         pool.as_chunks_mut::<4>().0.fill([0; 4]);
         return Err(Refusal::Unsound as u32);
@@ -153,17 +161,17 @@ fn by_bytes(data: &Data) -> u32 {
     image::check(data.as_flattened())
 }
 
-/// The version in the first word and the nodes in the third, if there is a whole block.
-fn recorded(image: &[u8]) -> Option<(u32, u32)> {
+/// The nodes in the third word, if there is a whole block and the first word is of this form.
+fn recorded(image: &[u8]) -> Option<u32> {
     let [first, _, nodes, ..] = blocks(image).first()?;
-    let version = u32::from_le_bytes(*first) / PER_VERSION;
-    Some((version, u32::from_le_bytes(*nodes)))
+    let version = u32::from_le_bytes(*first) & !0xFF;
+    (version == VERSION).then_some(u32::from_le_bytes(*nodes))
 }
 
 /// The data after so many words, which end in the last block.
-fn rest(image: &[u8], words: u64) -> &[Place] {
+fn rest(image: &[u8], words: usize) -> &[Place] {
     let blocks = blocks(image);
-    let rest = blocks.len() * DATA_WORDS - words as usize;
+    let rest = blocks.len() * DATA_WORDS - words;
     match blocks {
         [.., [data @ .., _]] => &data[DATA_WORDS - rest..],
         [] => &[],
@@ -212,28 +220,27 @@ const DEQUE_WORDS: usize = 1 + MAX_FRAMES;
 /// The words of the state, in an image's order.
 fn state_words(state: &State) -> [u32; STATE_WORDS] {
     let mut words = [0; STATE_WORDS];
-    let [workers, splitters, nodes, free, vacant, rest @ ..] = &mut words;
-    *workers = state.workers + VERSION * PER_VERSION;
-    *splitters = state.splitters;
-    *nodes = state.nodes;
-    *free = state.free;
-    *vacant = state.vacant;
+    let (numbers, rest) = words.split_at_mut(NUMBERS_WORDS);
+    let [sum, min, multiplier, addend] = state.totals.words();
+    numbers.copy_from_slice(&[
+        state.workers + VERSION,
+        state.splitters,
+        state.nodes,
+        state.free,
+        state.vacant,
+        sum,
+        min,
+        multiplier,
+        addend,
+    ]);
     let (deques, frames) = rest.split_at_mut(DEQUES_WORDS);
     let (deques, _) = deques.as_chunks_mut::<DEQUE_WORDS>();
     for ([length, places @ ..], deque) in deques.iter_mut().zip(&state.deques) {
         (*length, *places) = (deque.length, deque.places);
     }
     let (frames, _) = frames.as_chunks_mut::<FRAME_WORDS>();
-    for (record, f) in frames.iter_mut().zip(&state.frames) {
-        *record = [
-            f.live,
-            f.parent,
-            f.depth,
-            f.outstanding,
-            f.suspended,
-            f.root,
-            f.returning,
-        ];
+    for (words, frame) in frames.iter_mut().zip(&state.frames) {
+        *words = record(frame);
     }
     words
 }
@@ -293,63 +300,36 @@ impl<S: Fn(&[u32], &mut [Place]) -> u32> Writer<'_, S> {
 }
 
 /// Reads an image of so many nodes. A pool with fewer stays as it is: the count alone makes it unsound.
-fn read(state: &mut State, pool: &mut [u32], version: u32, nodes: usize, image: &[u8]) {
+fn read(state: &mut State, pool: &mut [u32], nodes: usize, image: &[u8]) {
     let mut reader = Reader {
         blocks: blocks(image),
         taken: 0,
     };
     let mut words = [0; STATE_WORDS];
-    reader.take(&mut words[..image::words_of(version, 0) as usize]);
-    set_state(state, version, &words);
+    reader.take(&mut words);
+    set_state(state, &words);
     if let Some(front) = pool.get_mut(..4 * nodes) {
         reader.take(front);
     }
 }
 
-/// The state of these words, which are an image's of this version.
-fn set_state(state: &mut State, version: u32, words: &[u32; STATE_WORDS]) {
-    let [workers, splitters, nodes, free, vacant, rest @ ..] = words;
-    state.workers = workers - version * PER_VERSION;
+/// The state of these words.
+fn set_state(state: &mut State, words: &[u32; STATE_WORDS]) {
+    let [workers, splitters, nodes, free, vacant, sum, min, multiplier, addend, rest @ ..] = words;
+    state.workers = workers - VERSION;
     state.splitters = *splitters;
     state.nodes = *nodes;
     state.free = *free;
     state.vacant = *vacant;
+    state.totals = View::of_words([*sum, *min, *multiplier, *addend]);
     let (deques, frames) = rest.split_at(DEQUES_WORDS);
     let (deques, _) = deques.as_chunks::<DEQUE_WORDS>();
     for (deque, [length, places @ ..]) in state.deques.iter_mut().zip(deques) {
         (deque.length, deque.places) = (*length, *places);
     }
-    let places = &mut state.frames;
-    match version {
-        0 => set_frames(
-            places,
-            frames,
-            |[live, parent, depth, outstanding, suspended, root]| {
-                [live, parent, depth, outstanding, suspended, root, 0]
-            },
-        ),
-        _ => set_frames(places, frames, |record| record),
-    }
-}
-
-/// The frames of these records, of so many words, each made one of seven.
-fn set_frames<const WORDS: usize>(
-    frames: &mut [Frame],
-    words: &[u32],
-    whole: impl Fn([u32; WORDS]) -> [u32; FRAME_WORDS],
-) {
-    let (records, _) = words.as_chunks();
-    for (frame, &record) in frames.iter_mut().zip(records) {
-        let [live, parent, depth, outstanding, suspended, root, returning] = whole(record);
-        *frame = Frame {
-            live,
-            parent,
-            depth,
-            outstanding,
-            suspended,
-            root,
-            returning,
-        };
+    let (records, _) = frames.as_chunks::<FRAME_WORDS>();
+    for (frame, words) in state.frames.iter_mut().zip(records) {
+        *frame = of_record(words);
     }
 }
 

@@ -5,6 +5,7 @@ use crate::checks;
 use crate::compare;
 use crate::filled;
 use crate::images;
+use crate::kinds;
 use crate::peer::Peer;
 use crate::records::{self, Cost};
 use crate::steps;
@@ -20,6 +21,8 @@ pub fn run() {
         "{}",
         tables::instructions(&costs, &WORKLOADS, &PEERS, Cost::marginal).markdown()
     );
+    println!("Instructions of folds, spawns and returns:\n");
+    println!("{}", tables::kinds(&kinds::count()).markdown());
     println!("Instructions of a call with one step:\n");
     println!("{}", tables::steps(&steps::count()).markdown());
     println!("Instructions of saving and reading, per block of 512 bytes:\n");
@@ -39,22 +42,25 @@ pub fn run() {
 }
 
 fn standings() -> Vec<Standing> {
-    let of = |(n, nodes, frames, writes)| Standing {
+    let of = |(n, nodes, frames, writes, lines)| Standing {
         n,
         nodes,
         frames,
         writes,
+        lines,
     };
     let chosen = [
-        (1, 2, 1, 0),
-        (1, MAX_NODES, 1, 0),
-        (16, 62, 1, 0),
-        (16, 2_048, 64, 0),
-        (16, 2_048, 64, 16),
-        (256, 1_022, 1, 0),
-        (256, MAX_NODES, 8, 8),
-        (256, MAX_NODES, 64, 0),
-        (256, MAX_NODES, 64, 8),
+        (1, 2, 1, 0, 1),
+        (1, MAX_NODES, 1, 0, 1),
+        (16, 62, 1, 0, 1),
+        (16, 2_048, 64, 0, 1),
+        (16, 2_048, 64, 0, 7),
+        (16, 2_048, 64, 16, 1),
+        (256, 1_022, 1, 0, 1),
+        (256, MAX_NODES, 8, 8, 1),
+        (256, MAX_NODES, 8, 8, 7),
+        (256, MAX_NODES, 64, 0, 1),
+        (256, MAX_NODES, 64, 8, 1),
     ];
     chosen.map(of).to_vec()
 }

@@ -11,6 +11,8 @@ use crate::full::Figures;
 use crate::goals;
 use crate::images;
 use crate::job::FULL_CALLS;
+use crate::kind::{BELOW, CHILDREN, LINE};
+use crate::kinds;
 use crate::peer::PEERS;
 use crate::records::Cost;
 use crate::sizing;
@@ -33,14 +35,19 @@ All are fed the same tapes and give the same answer words, which the bench compa
 - library: `splitter_tape` of libsplitter.a through its C interface, and `splitter_step` for single steps.
 - plain: the same algorithm in plain Rust on `&mut` state (`tests/host/src/plain.rs`), with the same soundness check in each call. A
   write alters the nodes that one holder has where they are and copies the rest of the path from the first node with more (R-2); a
-  return waits for the frame's children, and the last child's end ends the waiting frames above it in a loop (R-3).
+  return waits for the frame's children, and the last child's end ends the waiting frames above it in a loop (R-3). An only child's
+  view joins its parent's; where siblings live, the table is searched for the one that names the ended frame, and the next frame is
+  found by going down the eldest children (R-5).
 - copying: a machine in Rust that keeps a `Vec<u32>` of values for each live frame; spawn copies it into the buffer of its frame's
-  place, which later frames in this place use again.
+  place, which later frames in this place use again. Its live frames are linked in R-5's order, both ways, so that no sibling is
+  searched for.
 - im-rc: the same machine with `im_rc::Vector<u32>` for each frame; spawn clones it, a write sets a place. It is left out where
   Debian's librust-im-rc-dev is not installed.
 
 Copying and im-rc have neither nodes nor a soundness check: a write's second answer word, the free nodes, is 0 and not compared, and
-refusal 16 does not exist. They make the tests of refusals 7 to 15. The Rust peers are built with opt-level 3, fat LTO and one codegen
+refusal 16 does not exist. They make the tests of refusals 7 to 15 and 20. Before anything is measured, all peers also take random runs
+with folds, steals and waiting returns to Main's return: their totals must be the values folded in the order of Main's child-first list,
+which the bench computes from the records alone. The Rust peers are built with opt-level 3, fat LTO and one codegen
 unit, for x86-64 without further features; libsplitter.a is linked as it is.
 
 ";
@@ -62,6 +69,7 @@ pub fn text(figures: &Figures) -> String {
             "\n## Goals\n\n{}\n",
             goals::list(
                 &figures.costs,
+                &figures.kinds,
                 &check_ratios(figures),
                 &figures.images,
                 figures.stack.as_ref()
@@ -71,6 +79,7 @@ pub fn text(figures: &Figures) -> String {
         how(),
         section("What the tapes hold (n = 16)", "", contents::table(16)),
         records(figures),
+        kinds(figures),
         rates(figures),
         steps(figures),
         check(figures),
@@ -102,7 +111,7 @@ A tape has 8,192 records, all accepted, made from a seed. Before it, not measure
 {POOL_VIEWS} T(n) nodes and a prelude: each worker gets a frame, and each frame makes n / 2 writes (rounded up) to random splitters, so
 that their trees share some nodes. Reads and writes take a random busy worker and a random splitter. Mix is 70 in 100 reads, 22 writes,
 8 control. At most {MAX_LIVE} frames live. The tapes of reads, writes, control and mix are those from before R-2; no return in them waits for a
-child (R-3).
+child (R-3), and they have no folds (R-5). Mix with folds is another tape: 60 in 100 reads, 20 writes, 12 folds, 8 control.
 
 Writes alone: in the prelude each frame writes to every splitter instead, so that no node has two holders. Then a write takes no node:
 it stores one value. The bench also sees this tape accepted in a pool without a free node.
@@ -114,7 +123,7 @@ last write. The prelude is {SHARED_WRITES} spawns and as many returns, after whi
 Chain has one record: a return that ends {ended} frames, Main too (R-3). Before it, not measured, two workers, T(n) + {WAITING} (H + 1) nodes; Main
 and {WAITING} frames below it, each the child of the one before, each with a write to a random splitter; then worker 1 steals and returns {WAITING}
 times, and each of these frames waits for its child. Its figure is per ended frame: the call less a call with an empty tape, divided by
-{ended}; it is left out with the check, among the times and in the picture.
+{ended}; it is left out with the check, among the times and in the picture, as mix with folds is in the picture.
 
 Instructions are callgrind's, of the one call and nothing else, after one such call that is not counted. \"Per further record\" is a
 call with all records less a call with an empty tape, divided by 8,192: the check, once per call, is not in it. Of writes shared it is
@@ -145,6 +154,28 @@ fn records(figures: &Figures) -> String {
     )
 }
 
+fn kinds(figures: &Figures) -> String {
+    let intro = format!(
+        "\
+R-5's records, and those that it changes, by kind: a call with a read and these records, less the same call with the read alone, per
+record. n is 16, the pool has {POOL_VIEWS} T(n) nodes, and no frame writes. Folds: 8,192, by the workers of eight frames, values at random. \"Before\" is
+the library before R-5, commit {before}: constants of the bench (`bench/src/kinds.rs`), counted once by it.
+
+Without live siblings: {LINE} spawns, each in the frame that the one before has made, and their returns (outcome 0), without folds and after a fold
+in each frame, whose \"before\" is a return without; the returns of a line of eight frames, each on a worker of its own (outcome 1);
+{LINE} returns, each of which resumes its parent (outcome 2); and one return that ends {LINE} waiting frames and the one that returns, per frame.
+
+With live siblings: Main on one worker has {CHILDREN} children on others. It spawns one more; that one returns; or the eldest returns, whose next
+one has no frame below it, or a line of {BELOW}. Only these search the table.",
+        before = kinds::BEFORE_COMMIT,
+    );
+    section(
+        "Folds, spawns and returns",
+        &intro,
+        tables::kinds(&figures.kinds),
+    )
+}
+
 fn rates(figures: &Figures) -> String {
     let table = |of| tables::rates(&figures.times, of);
     let ratio = "Millions. Ratios above 1: the library is faster. Times vary from run to run; the instructions above hardly do.";
@@ -170,8 +201,8 @@ prelude is as for the tapes. As many frames live at most as the pool has full vi
 
 fn check(figures: &Figures) -> String {
     let intro = "\
-Instructions of a call with an empty tape. One worker; the frames are a line of descendants of Main. \"Writes each\" are writes to
-random splitters in every frame after its spawn.";
+Instructions of a call with an empty tape. The frames are a line of descendants of Main, on one worker; or seven lines, each from a child
+of Main and on a worker of its own. \"Writes each\" are writes to random splitters in every frame after its spawn.";
     [
         section(
             "The soundness check against nodes",
@@ -187,6 +218,11 @@ random splitters in every frame after its spawn.";
             "The soundness check against frames after writes",
             "",
             tables::checks(&figures.written),
+        ),
+        section(
+            "The soundness check against frames with siblings",
+            "",
+            tables::checks(&figures.siblings),
         ),
     ]
     .concat()
@@ -220,10 +256,10 @@ and they wait as returning: it is one call, and frees all nodes."
 fn saving(figures: &Figures) -> String {
     let intro = format!(
         "\
-R-1's calls, `splitter_save` and `splitter_load`, with images of R-3's form and R-4's sums. n is 16 with 1,024 nodes and 256 with 16,384;
+R-1's calls, `splitter_save` and `splitter_load`, with images of R-5's form and R-4's sums. n is 16 with 1,024 nodes and 256 with 16,384;
 one worker, {frames} live frames as for the soundness check, {writes} writes each. Before anything is counted the bench compares: each peer saves
-the very bytes that `tests/host/src/image.rs` writes and leaves those past them alone; a run that was only started reads the image, or
-the same in the form from before R-3, and saves it again.
+the very bytes that `tests/host/src/image.rs` writes and leaves those past them alone; a run that was only started reads the image and
+saves it again.
 
 - plain: `bench/src/plain_image.rs`, on plain's state and with its soundness check. A save sums the words of a block as it stores them
   and then stores its check; a reading sums 127 words of each block, and then moves the words. Those of a whole block go by arrays of
@@ -231,7 +267,8 @@ the same in the form from before R-3, and saves it again.
 - bytewise: the same, but a check is summed byte by byte, as R-1 says it, and as the library did before R-4; a save does so in a second
   pass, after all words are stored.
 - copy: `copy_from_slice` of the image's bytes, and no check of any kind.
-- before: the library before R-4, commit {before}. These figures are constants of the bench (`bench/src/images.rs`), counted once by it.
+- before: the library before R-4, commit {before}. These figures are constants of the bench (`bench/src/images.rs`), counted once by it, per
+  block of the image as it was then (R-5 makes it longer).
 
 Save and reading are accepted and have the soundness check in them. \"Less the check\" is the image alone, with the checks of its blocks.
 Of the library it is the call less its call with an empty tape on the same state, as its soundness check is one function. That of plain

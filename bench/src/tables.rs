@@ -5,6 +5,7 @@ use crate::checks::CheckCost;
 use crate::filled::{self, FilledCost, FullStepCost};
 use crate::filling::Filling;
 use crate::images::{CallCosts, ImageCost};
+use crate::kinds::{KindCost, KIND_PEERS};
 use crate::peer::{Peer, PEERS};
 use crate::records::{self, Cost};
 use crate::steps::StepCost;
@@ -91,6 +92,7 @@ pub fn checks(checks: &[CheckCost]) -> Table {
         "n",
         "nodes",
         "live frames",
+        "lines",
         "writes each",
         "library",
         "plain",
@@ -99,7 +101,8 @@ pub fn checks(checks: &[CheckCost]) -> Table {
     let mut table = Table::new(header.map(String::from).into());
     for check in checks {
         let s = check.standing;
-        let numbers = [s.n, s.nodes, s.frames, s.writes].map(|number| grouped(number as u64));
+        let numbers =
+            [s.n, s.nodes, s.frames, s.lines, s.writes].map(|number| grouped(number as u64));
         let costs = vec![
             grouped(check.library),
             grouped(check.plain),
@@ -174,6 +177,25 @@ pub fn full_steps(costs: &[FullStepCost]) -> Table {
     table
 }
 
+/// Records of one kind: the peers' figures, then the library's against plain's and against its own before R-5.
+pub fn kinds(costs: &[KindCost]) -> Table {
+    let peers = KIND_PEERS.map(|peer| peer.name());
+    let others = ["library / plain", "library before", "more"];
+    let header = [&["records"], &peers[..], &others].concat();
+    let mut table = Table::new(header.into_iter().map(String::from).collect());
+    let shown = |count: Option<f64>| count.map_or("-".into(), |count| format!("{count:.1}"));
+    for cost in costs {
+        let figures = cost.peers.map(|count| format!("{count:.1}"));
+        let others = [
+            format!("{:.2}", cost.ratio()),
+            shown(cost.before),
+            shown(cost.more()),
+        ];
+        table.row([&[cost.kind.name().to_string()], &figures[..], &others].concat());
+    }
+    table
+}
+
 /// The instructions of a call with an image.
 type ImageCount = fn(&CallCosts) -> u64;
 
@@ -206,11 +228,12 @@ pub fn block_instructions(images: &[ImageCost]) -> Table {
     for (call, instructions) in IMAGE_CALLS {
         for image in images {
             let [library, plain, bytewise] = image.peers.each_ref().map(instructions);
-            let before = instructions(&image.before);
-            let figures = [library, before, plain, bytewise, image.copy]
-                .map(|count| format!("{:.1}", count as f64 / image.blocks() as f64));
-            let ratios = [before, plain, image.copy]
-                .map(|other| format!("{:.2}", library as f64 / other as f64));
+            let [library, plain, bytewise, copy] =
+                [library, plain, bytewise, image.copy].map(|count| image.per_block(count));
+            let before = image.before.per_block(instructions);
+            let figures =
+                [library, before, plain, bytewise, copy].map(|count| format!("{count:.1}"));
+            let ratios = [before, plain, copy].map(|other| format!("{:.2}", library / other));
             let first = [
                 call.to_string(),
                 grouped(image.nodes as u64),

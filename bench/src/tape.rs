@@ -6,8 +6,15 @@ pub const STEAL: u8 = 3;
 pub const SYNC: u8 = 4;
 pub const READ: u8 = 5;
 pub const WRITE: u8 = 6;
+pub const FOLD: u8 = 7;
 
-/// The field is a splitter, or the victim of a steal.
+/// The reducers.
+pub const SUM: usize = 0;
+pub const MIN: usize = 1;
+pub const AFFINE: usize = 2;
+pub const REDUCERS: usize = 3;
+
+/// The field is a splitter, the victim of a steal, or a reducer.
 pub fn record(kind: u8, worker: u8, field: u16, value: u32) -> [u8; 8] {
     let [f0, f1] = field.to_le_bytes();
     let [v0, v1, v2, v3] = value.to_le_bytes();

@@ -1,5 +1,5 @@
 //! Runs one peer on one case, for callgrind: see `USAGE`; `rest` is the tape without the records that are counted; an image is that of the
-//! state that `check` has; a filling and a step in a full pool go by their names in the tables, each as one word.
+//! state that `check` has; a filling, a step in a full pool and a kind of records go by their names in the tables, each as one word.
 //! By hand: `valgrind --tool=callgrind --dump-instr=yes --toggle-collect=bench_measured one library mix 16`.
 
 use bench::job::Job;
@@ -10,11 +10,12 @@ use std::process::ExitCode;
 
 const USAGE: &str = "\
 one PEER WORKLOAD N [rest]
-one PEER check N NODES FRAMES WRITES
+one PEER check N NODES FRAMES WRITES LINES
 one PEER steps WORKLOAD N NODES
 one PEER filled FILLING
 one PEER full_steps|full_tape STEP
-one PEER save|load|bare_save|bare_load|checks|copy N NODES FRAMES WRITES";
+one PEER kind KIND [rest]
+one PEER save|load|bare_save|bare_load|checks|copy N NODES FRAMES WRITES LINES";
 
 fn main() -> ExitCode {
     let words: Vec<String> = env::args().skip(1).collect();
