@@ -1,11 +1,6 @@
 // A return: the bottom frame waits, or it ends, and upward from it the frames that waited in their returns for it alone.
 ghost use mathlib.Core.Path.{_≡_};
 ghost use lib.ListN.{length};
-ghost use Rattle.words.specs.Basics.{none};
-ghost use Rattle.reducers.specs.Reducers.{viewWords};
-ghost use Rattle.frames.specs.Frames.{frameAt};
-ghost use Rattle.frames.specs.Steps.{endFrame};
-ghost use Rattle.frames.specs.Ranges.{EndsIn};
 ghost use Rattle.soundness.specs.Numbers.{totalCount};
 ghost use Rattle.model.specs.declared.Step.the-variants.{Return};
 ghost use Rattle.semantics.specs.Ranges.{Ready};
@@ -13,7 +8,6 @@ ghost use Rattle.engine.specs.Promises.{core, renewed, Leaves, LeavesEnd
 use crate::Out;
 use crate::kinds::unchanged;
 use crate::numbers::end_totals;
-use crate::numbers::put_totals;
 use frames::NONE;
 use frames::Returned;
 use frames::end_below;
@@ -65,14 +59,9 @@ fn end_upward(
     let mut p = first;
     loop {
         let root = root_at(frames, p);
-        free_node = release(
-            pool,
-            h.numbers.nodes,
-            &mut free_count,
-            free_node,
-            root,
-            h.height,
-        );
+        let freed = release(pool, h.numbers.nodes, free_count, free_node, root, h.height);
+        free_node = freed.first;
+        free_count = freed.count;
         let f = frame_at(frames, p);
         end_totals(totals, f.parent, f.view);
         end_frame(frames, free_place, p, f.parent);
@@ -88,18 +77,8 @@ fn end_upward(
     }
 }
 
-// Main, at place p, ends: its view becomes the totals.
-fn end_main(totals: &mut [u32], frames: &mut [u32], free: u32, p: u32)
-    requires { ⌜ (length (now totals) ≡ totalCount) × EndsIn (now frames) p none ⌝ }
-    ensures { λ _. ⌜ (now (totals .exit) ≡ viewWords (frameAt (now (frames .entry)) p .view)) × (now (frames .exit) ≡ endFrame (now (frames .entry)) free p) ⌝ }
-{
-    let f = frame_at(frames, p);
-    put_totals(totals, f.view);
-    end_frame(frames, free, p, NONE);
-}
-
-// The frame at place p, worker w's n-th, which has left its deque, ends; if that was the only one there, its parent may end too. The parent is read after
-// the release, so that nothing of the record is kept over that loop.
+// The frame at place p, worker w's n-th, which has left its deque, ends; if that was the only one there, its parent may end too. If not, its tree is
+// released after its end, so that nothing is kept over the one for the other.
 fn end_bottom(
     h: Head,
     totals: &mut [u32],
@@ -114,28 +93,18 @@ fn end_bottom(
     ensures { λ r. ⌜ Leaves h r (now (totals .exit)) (now (deques .exit)) (now (frames .exit)) (now (pool .exit))
         (endsFrom (core h (now (totals .entry)) (now (deques .entry)) (now (frames .entry)) (now (pool .entry))) w p) ⌝ }
 {
-    let mut free_count = h.free_count;
-    let root = root_at(frames, p);
-    let free_node = release(
-        pool,
-        h.numbers.nodes,
-        &mut free_count,
-        h.numbers.free_node,
-        root,
-        h.height,
-    );
-    let q = frame_at(frames, p).parent;
-    if q == NONE {
-        end_main(totals, frames, h.numbers.free_place, p);
-        return ended(free_node, p, free_count, Returned::Finished);
-    }
-    end_below(frames, h.numbers.free_place, p, q);
     if n != 1 {
-        return ended(free_node, p, free_count, Returned::Continued);
-    }
-    if !ends_too(frames, q) {
-        let outcome = go_on(deques, frames, w, q);
-        return ended(free_node, p, free_count, outcome);
+        let root = root_at(frames, p);
+        end_below(frames, h.numbers.free_place, p, frame_at(frames, p).parent);
+        let freed = release(
+            pool,
+            h.numbers.nodes,
+            h.free_count,
+            h.numbers.free_node,
+            root,
+            h.height,
+        );
+        return ended(freed.first, p, freed.count, Returned::Continued);
     }
     end_upward(
         h,
@@ -144,10 +113,10 @@ fn end_bottom(
         frames,
         pool,
         w,
-        free_node,
+        h.numbers.free_node,
+        h.numbers.free_place,
+        h.free_count,
         p,
-        free_count,
-        q,
     )
 }
 

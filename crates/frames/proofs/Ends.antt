@@ -3,32 +3,30 @@ use mathlib.Core.Path.{_≡_, refl, sym, ap, ap₂, _∙_, subst}
 use mathlib.Core.Bool.{Bool, true, false, cond, _&&_}
 use mathlib.Core.Logic.{_≢_, inl, inr}
 use mathlib.Core.List.{List, _++_}
-use Prim.Native.Nat.{ℕ, zero, suc, _+_, _-_, _*_, _<_}
+use Prim.Native.Nat.{ℕ, zero, suc, _+_, _-_, _*_, _≤_, _<_}
 use native.Mathlib.Omega.{arith}
 use lib.ListN.{length, replicate, getD, set, take, drop}
 use lib.Seq.{getD-drop, drop-set-add, take-set-le}
-use lib.Dec.{eqb}
-use borrow.Author.Tests.{eq-eqb, ne-eqb, eqb-true}
+use lib.Dec.{eqb, ltb}
+use borrow.Author.Tests.{eq-eqb, ne-eqb, le-ltb, ltb-false}
 use Rattle.words.specs.Basics.{none, plus}
-use Rattle.words.specs.Below.{Words}
-use Rattle.words.specs.Tests.{both}
+use Rattle.words.specs.Tests.{decided}
 use Rattle.reducers.specs.declared.View.{View}
-use Rattle.reducers.specs.Reducers.{identityView, joinView}
-use Rattle.reducers.specs.Law.{ViewWord}
-use Rattle.reducers.specs.Theory.Laws.{view-law, view-eq}
+use Rattle.reducers.specs.declared.Sum.{Sum}
+use Rattle.reducers.specs.declared.Affine.{Affine}
+use Rattle.reducers.specs.Reducers.{identityView, joinSum, joinMin, joinAffine, joinView, withSum, withMin, withAffine}
 use Rattle.frames.specs.declared.Frame.{Frame}
 use Rattle.frames.specs.declared.Returned.the-variants.{Idle, Resumed}
 use Rattle.frames.specs.declared.Synced.the-variants.{Passed, Suspended}
 use Rattle.frames.specs.Widths.{places, frameWords, dequeStride}
 use Rattle.frames.specs.Frames.{frameAt, setFrame, withOutstanding, withoutChild, withSuspended, withReturning, withView, withChild, asReturning, afterSpawn, childOf, freePlace, mainFrame, initPlaces, initFrames}
-use Rattle.frames.specs.Siblings.{relink, firstFrom, onlyChild, nextAfter, joinAt, isIdentity, joinsNothing}
+use Rattle.frames.specs.Siblings.{relink, firstFrom, onlyChild, nextAfter, joinAt}
 use Rattle.frames.specs.Deques.{size, setSize, place, setPlace, bottom, push, pop, shiftUp, dropTop}
 use Rattle.frames.specs.Steps.{linkChild, addChild, spawn, removeFrame, unlink, endFrame, waitsNoMore, goOn, wentOn, sync, synced}
 use Rattle.frames.specs.Ranges.{ParentOf, EndsIn}
 use Rattle.frames.specs.Promises.{table, Waits, GoesOn, IsSync}
 use Rattle.frames.specs.Theory.Sizes.{rest-is, rest-ends, sets-past}
-use Rattle.frames.specs.Theory.Records.{frame-set-same, frame-set-other, frame-set-again}
-use Rattle.frames.specs.Theory.RecordWords.{words-frameAt}
+use Rattle.frames.specs.Theory.Records.{frame-set-same, frame-set-other, frame-set-again, frame-set-swap}
 use Rattle.frames.specs.Theory.Alike.{Alike}
 use Rattle.frames.specs.Theory.Links.{link-alike, link-view}
 use Rattle.frames.specs.Theory.Ends.{end-last, end-joins, only-unlink, only-next, sibling-unlink, sibling-next}
@@ -92,19 +90,68 @@ parent-in {fs} {p} {q} r n = go (r .parent)
     go (inl a) = (subst (λ z. z < places) (sym (r .up)) (a .1), (λ z. a .2 (sym (r .up) ∙ z)), subst (λ z. 0 < frameAt fs z .outstanding) (sym (r .up)) (r .counts (a .1)))
     go (inr b) = absurd (n (r .up ∙ b .1))
 
--- the four words of the identity
-identity-is : (w : View) → isIdentity w ≡ true → w ≡ identityView
-identity-is w t =
-    let r = both (eqb (w .sum .value) 0 && eqb (w .min .value) none) (eqb (w .affine .multiplier) 1 && eqb (w .affine .addend) 0) t in
-    let a = both (eqb (w .sum .value) 0) (eqb (w .min .value) none) (r .0) in
-    let b = both (eqb (w .affine .multiplier) 1) (eqb (w .affine .addend) 0) (r .1) in
-    view-words w (eqb-true (w .sum .value) 0 (a .0)) (eqb-true (w .min .value) none (a .1)) (eqb-true (w .affine .multiplier) 1 (b .0)) (eqb-true (w .affine .addend) 0 (b .1))
-  where
-    view-words : (w : View) → w .sum .value ≡ 0 → w .min .value ≡ none → w .affine .multiplier ≡ 1 → w .affine .addend ≡ 0 → w ≡ identityView
-    view-words w a b c d = view-eq (ap (λ (x : ℕ). record { value = x }) a) (ap (λ (x : ℕ). record { value = x }) b) (ap₂ (λ (x y : ℕ). record { multiplier = x; addend = y }) c d)
+-- ---- the view of the frame at place p joins that of the one at place q, part by part: fs₁ and fs₂ are the table with the sum and the affine map stored; f, g
+-- and so on are the two records as they are read before each store
+module _ (fs fs₁ fs₂ : List ℕ) (p q : ℕ) (f g f₁ g₁ f₂ g₂ : Frame) (s : Sum) (a : Affine) (l : length fs ≡ frameWords) (b : q < places) (d : q ≢ p)
+    (ef : f ≡ frameAt fs p) (eg : g ≡ frameAt fs q) (es : s ≡ joinSum (f .view .sum) (g .view .sum)) (e₁ : fs₁ ≡ setFrame fs q (withView (frameAt fs q) (withSum (frameAt fs q .view) s)))
+    (ef₁ : f₁ ≡ frameAt fs₁ p) (eg₁ : g₁ ≡ frameAt fs₁ q) (ea : a ≡ joinAffine (f₁ .view .affine) (g₁ .view .affine))
+    (e₂ : fs₂ ≡ setFrame fs₁ q (withView (frameAt fs₁ q) (withAffine (frameAt fs₁ q .view) a))) (ef₂ : f₂ ≡ frameAt fs₂ p) (eg₂ : g₂ ≡ frameAt fs₂ q) where
+  abbrev v : View
+  v = frameAt fs p .view
 
-pub only-one : (fs : List ℕ) (p q : ℕ) → joinsNothing (frameAt fs p) (frameAt fs q) ≡ true → 1 ≡ frameAt fs q .outstanding
-only-one fs p q t = sym (eqb-true (frameAt fs q .outstanding) 1 (both (eqb (frameAt fs q .outstanding) 1) (isIdentity (frameAt fs p .view)) t .0))
+  abbrev w : View
+  w = frameAt fs q .view
+
+  -- the record at q with another view
+  abbrev viewed : View → Frame
+  viewed x = withView (frameAt fs q) x
+
+  other : p ≢ q
+  other z = d (sym z)
+
+  -- all but the minimum
+  abbrev most : View
+  most = record { sum = joinSum (v .sum) (w .sum); min = w .min; affine = joinAffine (v .affine) (w .affine) }
+
+  sum-stored : fs₁ ≡ setFrame fs q (viewed (withSum w (joinSum (v .sum) (w .sum))))
+  sum-stored = e₁ ∙ rw (es, ef, eg)
+
+  affine-is : a ≡ joinAffine (v .affine) (w .affine)
+  affine-is = ea ∙ rw (ef₁, eg₁, sum-stored, frame-set-other fs q p (viewed (withSum w (joinSum (v .sum) (w .sum)))) other, frame-set-same fs q (viewed (withSum w (joinSum (v .sum) (w .sum)))) l b)
+
+  stored : fs₂ ≡ setFrame fs q (viewed most)
+  stored = e₂ ∙ rw (affine-is, sum-stored, frame-set-same fs q (viewed (withSum w (joinSum (v .sum) (w .sum)))) l b) (frame-set-again fs q _ _)
+
+  own-is : f₂ ≡ frameAt fs p
+  own-is = ef₂ ∙ rw stored (frame-set-other fs q p (viewed most) other)
+
+  parent-is : g₂ ≡ viewed most
+  parent-is = eg₂ ∙ rw stored (frame-set-same fs q (viewed most) l b)
+
+  own-min : f₂ .view .min .value ≡ v .min .value
+  own-min = ap (λ (k : Frame). k .view .min .value) own-is
+
+  parent-min : g₂ .view .min .value ≡ w .min .value
+  parent-min = ap (λ (k : Frame). k .view .min .value) parent-is
+
+  pub joined-less : (fs₃ : List ℕ) → f₂ .view .min .value < g₂ .view .min .value → fs₃ ≡ setFrame fs₂ q (withView (frameAt fs₂ q) (withMin (frameAt fs₂ q .view) (f₂ .view .min))) → fs₃ ≡ joinAt fs q v
+  joined-less fs₃ h e₃ =
+      let less : v .min .value < w .min .value = omega (arith, h, own-min, parent-min) in
+      let m : joinMin (v .min) (w .min) ≡ v .min = rw (le-ltb (w .min .value) (v .min .value) (omega (arith, less))) in
+      let there : frameAt fs₂ q ≡ viewed most = sym eg₂ ∙ parent-is in
+      e₃ ∙ rw (there, own-is, stored, m) (frame-set-again fs q _ _)
+
+  pub joined-as-was : g₂ .view .min .value ≤ f₂ .view .min .value → fs₂ ≡ joinAt fs q v
+  joined-as-was h = stored ∙ rw least
+    where
+      more : w .min .value ≤ v .min .value
+      more = omega (arith, h, own-min, parent-min)
+
+      least : joinMin (v .min) (w .min) ≡ w .min
+      least = elim (decided (ltb (w .min .value) (v .min .value))) [
+        | inl t ↦ rw t
+        | inr t ↦ rw t (ap (λ (x : ℕ). record { value = x }) (omega (arith, more, ltb-false (w .min .value) (v .min .value) t)))
+      ]
 
 -- ---- an end: q is the parent of the frame at place p
 module _ (fs : List ℕ) (free p q : ℕ) (eq : q ≡ frameAt fs p .parent) where
@@ -139,23 +186,37 @@ module _ (fs : List ℕ) (free p q : ℕ) (eq : q ≡ frameAt fs p .parent) wher
         let o : onlyChild fs p ≡ true = eq-eqb _ 1 (sym parent-outstanding ∙ z) in
         e₂ ∙ rw (end-is, only-unlink fs p o fs₁, only-next fs p o, eq)
 
-    -- the frame's view is the identity: the parent's joined with it is the same
-    pub ended-unjoined : Words fs → p < places → q < places → q ≢ p → joinsNothing f (frameAt fs q) ≡ true → fs₁ ≡ endFrame fs free p
-    ended-unjoined h b bq d t =
-        let g = withoutChild (frameAt fs q) in
-        let r = both (eqb (frameAt fs q .outstanding) 1) (isIdentity (f .view)) t in
-        let parent : frameAt fs₁ q ≡ g = ap (λ (k : List ℕ). frameAt k q) e₁ ∙ removed-parent fs free p l b q (sym eq) m bq d in
-        let stored : fs₁ ≡ setFrame (setFrame fs p (freePlace free)) q g = e₁ ∙ removed-is fs free p l b q (sym eq) m bq d in
-        let again : setFrame fs₁ q g ≡ fs₁ = ap (λ (k : List ℕ). setFrame k q g) stored ∙ frame-set-again (setFrame fs p (freePlace free)) q g g ∙ sym stored in
-        let joined : joinView (f .view) (g .view) ≡ g .view = ap (λ (v : View). joinView v (g .view)) (identity-is (f .view) (r .1)) ∙ view-law .left (g .view) (words-frameAt fs q h .view) in
-        let same : joinAt fs₁ q (f .view) ≡ fs₁ = rw parent (ap (λ (v : View). setFrame fs₁ q (withView g v)) joined ∙ again) in
-        ended-only fs₁ (ec ∙ eqb-true (frameAt fs q .outstanding) 1 (r .0)) (sym same)
-
     pub ended-sibling : (fs₂ fs₃ : List ℕ) (n : ℕ) → c ≢ 1 → n ≡ cond (eqb (f .younger) none) q (firstFrom places fs (f .younger)) → fs₂ ≡ relink fs₁ q p (f .younger)
         → fs₃ ≡ joinAt fs₂ n (f .view) → fs₃ ≡ endFrame fs free p
     ended-sibling fs₂ fs₃ n z en e₂ e₃ =
         let o : onlyChild fs p ≡ false = ne-eqb _ 1 (λ k. z (parent-outstanding ∙ k)) in
         e₃ ∙ rw (end-is, sibling-unlink fs p o fs₁, sibling-next fs p o, e₂, en, ef, eq)
+
+  -- an only child: its parent's record is stored, then its own place is free
+  module _ (l : length fs ≡ frameWords) (b : p < places) (bq : q < places) (m : q ≢ none) (d : q ≢ p) (o : frameAt fs q .outstanding ≡ 1) where
+    -- the parent's record without the child, and with the view that it then has
+    abbrev left : Frame
+    left = withoutChild (frameAt fs q)
+
+    abbrev joined : Frame
+    joined = withView left (joinView (frameAt fs p .view) (left .view))
+
+    end-alone-is : setFrame (setFrame fs p (freePlace free)) q joined ≡ endFrame fs free p
+    end-alone-is =
+        let gs : List ℕ = removeFrame fs free p in
+        let is : gs ≡ setFrame (setFrame fs p (freePlace free)) q left = removed-is fs free p l b q (sym eq) m bq d in
+        let parent : frameAt gs q ≡ left = removed-parent fs free p l b q (sym eq) m bq d in
+        let stored : joinAt gs q (frameAt fs p .view) ≡ setFrame (setFrame fs p (freePlace free)) q joined = rw (parent, is) (frame-set-again _ q left joined) in
+        ended-only gs (frameAt fs p) 1 l m (sym o) refl refl _ refl (sym stored)
+
+    pub ended-alone : (fs₁ fs₂ fs₃ : List ℕ) (g : Frame) → fs₁ ≡ setFrame fs q (withOutstanding (frameAt fs q) 0) → fs₂ ≡ joinAt fs₁ q (frameAt fs₁ p .view) → g ≡ freePlace free → fs₃ ≡ setFrame fs₂ p g
+        → fs₃ ≡ endFrame fs free p
+    ended-alone fs₁ fs₂ fs₃ g e₁ e₂ eg e₃ =
+        let first : fs₁ ≡ setFrame fs q left = e₁ ∙ rw o in
+        let own : frameAt fs₁ p ≡ frameAt fs p = rw first (frame-set-other fs q p left (λ z. d (sym z))) in
+        let parent : frameAt fs₁ q ≡ left = rw first (frame-set-same fs q left l bq) in
+        let second : fs₂ ≡ setFrame fs q joined = e₂ ∙ rw (parent, own, first) (frame-set-again fs q left joined) in
+        e₃ ∙ rw (eg, second) (frame-set-swap fs q p joined (freePlace free) d) ∙ end-alone-is
 
 module _ (ds fs : List ℕ) (w : ℕ) where
   -- ---- after the last end: b says whether the frame at place q waits no more, u whether it is returning

@@ -79,11 +79,3 @@ nextAfter fs p =
 -- "joins on the left"
 abbrev pub joinAt : List ℕ → ℕ → View → List ℕ
 joinAt fs n v = setFrame fs n (withView (frameAt fs n) (joinView v (frameAt fs n .view)))
-
--- nothing is folded into it
-abbrev pub isIdentity : View → Bool
-isIdentity w = (eqb (w .sum .value) 0 && eqb (w .min .value) none) && (eqb (w .affine .multiplier) 1 && eqb (w .affine .addend) 0)
-
--- of the records of a frame that ends and of its parent: it is the only live child, and has nothing to join
-abbrev pub joinsNothing : Frame → Frame → Bool
-joinsNothing f g = eqb (g .outstanding) 1 && isIdentity (f .view)

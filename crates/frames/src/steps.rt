@@ -2,7 +2,6 @@
 // the caller's to see to.
 ghost use mathlib.Core.Path.{_≡_};
 ghost use mathlib.Core.Logic.{_≢_};
-ghost use mathlib.Core.Bool.{true};
 ghost use mathlib.Core.List.{List};
 ghost use Prim.Native.Nat.{ℕ, _≤_, _<_};
 ghost use lib.ListN.{length};
@@ -10,7 +9,7 @@ ghost use Rattle.words.specs.Basics.{none};
 ghost use Rattle.reducers.specs.Reducers.{foldView};
 ghost use Rattle.frames.specs.Widths.{maxWorkers, places, frameWords, dequePlaces, dequeWords};
 ghost use Rattle.frames.specs.Frames.{frameAt, setFrame, withView, afterSpawn};
-ghost use Rattle.frames.specs.Siblings.{isIdentity, joinsNothing};
+ghost use Rattle.frames.specs.Siblings.{joinAt};
 ghost use Rattle.frames.specs.Deques.{size};
 ghost use Rattle.frames.specs.Steps.{linkChild, spawn, removeFrame, endFrame, waitsNoMore, endsToo, steal};
 ghost use Rattle.frames.specs.Promises.{table, Waits, GoesOn, IsSync};
@@ -37,7 +36,6 @@ use super::records::set_sum;
 use super::records::set_suspended;
 use super::records::set_view;
 use super::records::suspended_at;
-use super::siblings::join_at;
 use super::siblings::join_if_place;
 use super::siblings::next_after;
 use super::siblings::relink;
@@ -97,11 +95,12 @@ fn remove_frame(frames: &mut [u32], free: u32, p: u32, q: u32, children: u32)
     set_outstanding(frames, q, children - 1);
 }
 
-// The frame at place p, whose parent at place q has so many live children, and so another one, ends.
-fn end_sibling(frames: &mut [u32], free: u32, p: u32, q: u32, children: u32)
-    requires { ⌜ EndsIn (now frames) p q × (q ≢ none) × (children ≡ frameAt (now frames) q .outstanding) × (children ≢ 1) ⌝ }
+// The frame at place p, whose parent at place q has other live children, ends.
+fn end_sibling(frames: &mut [u32], free: u32, p: u32, q: u32)
+    requires { ⌜ EndsIn (now frames) p q × (q ≢ none) × (frameAt (now frames) q .outstanding ≢ 1) ⌝ }
     ensures { λ _. ⌜ now (frames .exit) ≡ endFrame (now (frames .entry)) free p ⌝ }
 {
+    let children = outstanding_at(frames, q);
     let f = frame_at(frames, p);
     let next = next_after(frames, q, f.younger);
     remove_frame(frames, free, p, q, children);
@@ -109,59 +108,46 @@ fn end_sibling(frames: &mut [u32], free: u32, p: u32, q: u32, children: u32)
     join_if_place(frames, next, f.view);
 }
 
-// The same, with siblings or without.
-fn end_joined(frames: &mut [u32], free: u32, p: u32, q: u32)
-    requires { ⌜ EndsIn (now frames) p q × (q ≢ none) ⌝ }
+// The view of the frame at place p joins on the left of that of the frame at place q, which is another one. Each part is read where it is joined, and the
+// minimum is stored only if it changes: nothing is kept from one part to the next.
+fn join_from(frames: &mut [u32], p: u32, q: u32)
+    requires { ⌜ (length (now frames) ≡ frameWords) × (p < places) × (q < places) × (q ≢ p) ⌝ }
+    ensures { λ _. ⌜ now (frames .exit) ≡ joinAt (now (frames .entry)) q (frameAt (now (frames .entry)) p .view) ⌝ }
+{
+    let sum = Sum::join(frame_at(frames, p).view.sum, frame_at(frames, q).view.sum);
+    set_sum(frames, q, sum);
+    let affine = Affine::join(
+        frame_at(frames, p).view.affine,
+        frame_at(frames, q).view.affine,
+    );
+    set_affine(frames, q, affine);
+    let min = frame_at(frames, p).view.min;
+    if min.value < frame_at(frames, q).view.min.value {
+        set_min(frames, q, min);
+    }
+}
+
+// The frame at place p, the only live child of the one at place q, ends. Its own record is stored last: nothing of it is kept until then.
+fn end_alone(frames: &mut [u32], free: u32, p: u32, q: u32)
+    requires { ⌜ EndsIn (now frames) p q × (q ≢ none) × (frameAt (now frames) q .outstanding ≡ 1) ⌝ }
     ensures { λ _. ⌜ now (frames .exit) ≡ endFrame (now (frames .entry)) free p ⌝ }
 {
-    let children = outstanding_at(frames, q);
-    if children != 1 {
-        end_sibling(frames, free, p, q, children);
-        return;
-    }
-    let f = frame_at(frames, p);
-    remove_frame(frames, free, p, q, children);
-    join_at(frames, q, f.view);
-}
-
-// Is nothing folded into the view? All four words are compared, so that the compiler can make one vector compare of it.
-fn is_identity(view: View) -> bool
-    ensures { λ r. ⌜ r ≡ isIdentity view ⌝ }
-{
-    ((view.sum.value == 0) & (view.min.value == NONE))
-        & ((view.affine.multiplier == 1) & (view.affine.addend == 0))
-}
-
-// Is the frame at place p the only live child of the one at place q, with the identity as its view?
-fn joins_nothing(frames: &[u32], p: u32, q: u32) -> bool
-    requires { ⌜ (length (now frames) ≡ frameWords) × (p < places) × (q < places) ⌝ }
-    ensures { λ r. ⌜ r ≡ joinsNothing (frameAt (now (frames .entry)) p) (frameAt (now (frames .entry)) q) ⌝ }
-{
-    if outstanding_at(frames, q) != 1 {
-        return false;
-    }
-    is_identity(frame_at(frames, p).view)
-}
-
-// It ends: nothing joins its parent's view.
-fn end_unjoined(frames: &mut [u32], free: u32, p: u32, q: u32)
-    requires { ⌜ EndsIn (now frames) p q × (q ≢ none) × (joinsNothing (frameAt (now frames) p) (frameAt (now frames) q) ≡ true) ⌝ }
-    ensures { λ _. ⌜ now (frames .exit) ≡ endFrame (now (frames .entry)) free p ⌝ }
-{
-    remove_frame(frames, free, p, q, 1);
+    set_outstanding(frames, q, 0);
+    join_from(frames, p, q);
+    put_frame(frames, p, free_place(free));
 }
 
 // The frame at place p, whose parent is at place q, ends: its place is the first free one, its parent has a live child less, and its view joins the next
-// one's. The two lines stand in end_frame too: end_joined then has two callers and stays a function of its own, out of this one's way.
+// one's. The test stands in end_frame too: end_sibling then has two callers and stays a function of its own, out of this one's way.
 pub fn end_below(frames: &mut [u32], free: u32, p: u32, q: u32)
     requires { ⌜ EndsIn (now frames) p q × (q ≢ none) ⌝ }
     ensures { λ _. ⌜ now (frames .exit) ≡ endFrame (now (frames .entry)) free p ⌝ }
 {
-    if joins_nothing(frames, p, q) {
-        end_unjoined(frames, free, p, q);
+    if outstanding_at(frames, q) != 1 {
+        end_sibling(frames, free, p, q);
         return;
     }
-    end_joined(frames, free, p, q);
+    end_alone(frames, free, p, q);
 }
 
 // The same, where the frame may be Main, and q none.
@@ -173,11 +159,11 @@ pub fn end_frame(frames: &mut [u32], free: u32, p: u32, q: u32)
         put_frame(frames, p, free_place(free));
         return;
     }
-    if joins_nothing(frames, p, q) {
-        end_unjoined(frames, free, p, q);
+    if outstanding_at(frames, q) != 1 {
+        end_sibling(frames, free, p, q);
         return;
     }
-    end_joined(frames, free, p, q);
+    end_alone(frames, free, p, q);
 }
 
 // The value v is folded into reducer r of the view of the frame at place p; a number that names no reducer folds nothing.

@@ -8,6 +8,7 @@ mod tree;
 
 pub use node::NONE;
 pub use node::left_of;
+pub use refs::Freed;
 pub use refs::release;
 pub use refs::retain;
 pub use start::init_pool;

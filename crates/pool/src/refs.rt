@@ -65,16 +65,26 @@ fn free_tree(pool: &mut [u32], nodes: u32, spare: &mut u32, free: u32, i: u32, l
     i
 }
 
-// One holder less of a node of this level; at zero it is freed, then its left link is released, then its right. Counts the
-// free nodes in `spare`, and gives the first.
-pub fn release(pool: &mut [u32], nodes: u32, spare: &mut u32, free: u32, i: u32, level: u32) -> u32
+// What a release leaves: the free list.
+pub struct Freed {
+    pub first: u32,
+    pub count: u32,
+}
+
+// One holder less; a node with no holder left goes to the front of the free list, and its children lose a holder. `count` nodes are free.
+pub fn release(pool: &mut [u32], nodes: u32, count: u32, free: u32, i: u32, level: u32) -> Freed
     requires { ⌜ LinksIn nodes (now pool) × (0 < nodes) × Link nodes free × Link nodes i ⌝ }
-    ensures { λ r. ⌜ (now (pool .exit) ≡ release level (now (pool .entry)) free (now (spare .entry)) i .0)
-        × (r ≡ release level (now (pool .entry)) free (now (spare .entry)) i .1)
-        × (now (spare .exit) ≡ release level (now (pool .entry)) free (now (spare .entry)) i .2) ⌝ }
+    ensures { λ r. ⌜ (now (pool .exit) ≡ release level (now (pool .entry)) free count i .0)
+        × (r .first ≡ release level (now (pool .entry)) free count i .1)
+        × (r .count ≡ release level (now (pool .entry)) free count i .2) ⌝ }
 {
     if let_go(pool, nodes, i) {
-        return free_tree(pool, nodes, spare, free, i, level);
+        let mut spare = count;
+        let first = free_tree(pool, nodes, &mut spare, free, i, level);
+        return Freed {
+            first,
+            count: spare,
+        };
     }
-    free
+    Freed { first: free, count }
 }

@@ -1,12 +1,15 @@
--- A record after a store: at its own place, elsewhere, stored again; some words of a record stored; the places past the table.
+-- A record after a store: at its own place, elsewhere, stored again, two of them in either order; some words of a record stored; the places past the table.
 use mathlib.Core.Path.{_≡_, refl, sym, ap, _∙_}
-use mathlib.Core.Logic.{_≢_}
+use mathlib.Core.Logic.{_≢_, inl, inr}
 use mathlib.Core.List.{List, [], _∷_}
 use Prim.Native.Nat.{ℕ, suc, _+_, _*_, _≤_, _<_}
 use native.Mathlib.Nat.{add-zero, zero-add}
 use native.Mathlib.Omega.{arith}
 use lib.ListN.{length, getD, set, List·getD-eq-default}
 use lib.Seq.{sets, length-sets}
+use lib.Dec.{ltb}
+use borrow.Author.Tests.{ltb-true, ltb-false}
+use Rattle.words.specs.Tests.{decided}
 use Rattle.reducers.specs.declared.Sum.{Sum}
 use Rattle.reducers.specs.declared.Min.{Min}
 use Rattle.reducers.specs.declared.Affine.{Affine}
@@ -15,7 +18,7 @@ use Rattle.reducers.specs.Reducers.{withSum, withMin, withAffine, viewWords}
 use Rattle.frames.specs.declared.Frame.{Frame}
 use Rattle.frames.specs.Widths.{places, recordWords, frameWords}
 use Rattle.frames.specs.Frames.{frameAt, wordsOf, setFrame, withOutstanding, withSuspended, withRoot, withReturning, withView, withYounger, freePlace}
-use Rattle.frames.specs.Theory.Stores.{sets-out, sets-in, sets-again, sets-past, wordsFrom, sets-part}
+use Rattle.frames.specs.Theory.Stores.{sets-out, sets-in, sets-swap, sets-again, sets-past, wordsFrom, sets-part}
 
 pub length-setFrame : (fs : List ℕ) (p : ℕ) (f : Frame) → length (setFrame fs p f) ≡ length fs
 unfolding setFrame
@@ -57,6 +60,14 @@ frame-set-other fs p q f h =
 pub frame-set-again : (fs : List ℕ) (p : ℕ) (f g : Frame) → setFrame (setFrame fs p f) p g ≡ setFrame fs p g
 unfolding setFrame
 frame-set-again fs p f g = sets-again (wordsOf f) (wordsOf g) (recordWords * p) fs refl
+
+-- the records of two places, stored in either order
+pub frame-set-swap : (fs : List ℕ) (p q : ℕ) (f g : Frame) → p ≢ q → setFrame (setFrame fs p f) q g ≡ setFrame (setFrame fs q g) p f
+unfolding setFrame
+frame-set-swap fs p q f g d = elim (decided (ltb p q)) [
+  | inl t ↦ sym (sets-swap (wordsOf g) (wordsOf f) (recordWords * q) (recordWords * p) fs (omega (arith, ltb-true p q t)))
+  | inr t ↦ sets-swap (wordsOf f) (wordsOf g) (recordWords * p) (recordWords * q) fs (omega (arith, ltb-false p q t))
+]
 
 -- past the table there are zeros
 pub frame-past : (fs : List ℕ) (p : ℕ) → length fs ≡ frameWords → places ≤ p → frameAt fs p ≡ freePlace 0

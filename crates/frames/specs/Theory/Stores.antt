@@ -1,4 +1,4 @@
--- Words stored one after the other: what they leave elsewhere, stored again, some of them stored again.
+-- Words stored one after the other: what they leave elsewhere, at two places in either order, stored again, some of them stored again.
 use mathlib.Core.Path.{_≡_, refl, sym, ap, _∙_}
 use mathlib.Core.Logic.{_≢_}
 use mathlib.Core.List.{List, [], _∷_}
@@ -27,6 +27,13 @@ set-sets [] a b ws y h = refl
 set-sets (x ∷ xs) a b ws y h =
     set-sets xs (suc a) b (set ws a x) y (omega arith)
     ∙ ap (λ (l : List ℕ). sets l (suc a) xs) (set-comm ws a b x y (omega arith))
+
+-- at places apart, either may be stored first
+pub sets-swap : (xs ys : List ℕ) (a b : ℕ) (ws : List ℕ) → b + length ys ≤ a → sets (sets ws a xs) b ys ≡ sets (sets ws b ys) a xs
+sets-swap xs [] a b ws h = refl
+sets-swap xs (y ∷ ys) a b ws h =
+    ap (λ (l : List ℕ). sets l (suc b) ys) (set-sets xs a b ws y (omega arith))
+    ∙ sets-swap xs ys a (suc b) (set ws b y) (omega arith)
 
 pub sets-again : (xs ys : List ℕ) (a : ℕ) (ws : List ℕ) → length xs ≡ length ys → sets (sets ws a xs) a ys ≡ sets ws a ys
 sets-again [] [] a ws e = refl

@@ -1,4 +1,4 @@
--- Main ends, or there is nothing to join, or the view is joined.
+-- Main ends, or a frame with siblings, or an only child.
 use mathlib.Core.Path.{sym, _∙_}
 use borrow.Author.Needs.{needs}
 use Rattle.frames.proofs.Ends.{parent-in, ended-main}
@@ -8,20 +8,29 @@ use Rattle.frames.proofs.steps.end_frame.Tie as tie
 returns : tie.Need-returns
 returns c =
     let u = c .before .before in
-    let r = u .before .before .before .before .before .pre in
-    ended-main _ _ _ _ (r .up) _ _ (u .before .free-place .ensures) (u .put-frame .ensures) (u .before .before .before .if1 .taken)
+    let i = u .before .before .before in
+    let r = i .before .before .pre in
+    ended-main _ _ _ _ (r .up) _ _ (u .before .free-place .ensures) (u .put-frame .ensures) (i .if1 .taken)
 
-joins-nothing-requires : tie.Need-joins-nothing-requires
-joins-nothing-requires c κs =
+outstanding-at-requires : tie.Need-outstanding-at-requires
+outstanding-at-requires c κs =
     let e = c .before in
     let r = e .before .before .pre in
-    (r .long-frames, r .within, parent-in r (e .if1 .left) .0)
+    (r .long-frames, parent-in r (e .if1 .left) .0)
 
-end-unjoined-requires : tie.Need-end-unjoined-requires
-end-unjoined-requires c κs =
+end-sibling-requires : tie.Need-end-sibling-requires
+end-sibling-requires c κs =
     let i = c .before in
-    let e = i .before .before .before in
-    (e .before .before .pre, e .if1 .left, sym (i .before .joins-nothing .ensures) ∙ i .if2 .taken)
+    let o = i .before in
+    let e = o .before .before in
+    (e .before .before .pre, e .if1 .left, λ z. i .if2 .taken (o .outstanding-at .ensures ∙ z))
+
+end-alone-requires : tie.Need-end-alone-requires
+end-alone-requires c κs =
+    let i = c .before in
+    let o = i .before in
+    let e = o .before .before in
+    (e .before .before .pre, e .if1 .left, sym (o .outstanding-at .ensures) ∙ i .if2 .left)
 
 pub end-frame-spec : {M : Type 1} → statement M
 end-frame-spec =
@@ -31,10 +40,10 @@ end-frame-spec =
     (λ c κs. search needs)
     (λ c. search needs)
     returns
-    joins-nothing-requires
-    end-unjoined-requires
+    outstanding-at-requires
+    end-sibling-requires
     (λ c. search needs)
     (λ c. search needs)
-    (λ c κs. search needs)
+    end-alone-requires
     (λ c. search needs)
     (λ c. search needs))
