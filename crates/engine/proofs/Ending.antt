@@ -39,6 +39,10 @@ module _ (h : Head) (ts ds fs ws : List ℕ) (w n node place count p : ℕ) wher
   before = core (renewed h node place count) ts ds fs ws
 
   module _ (r : EndsFrom before w n p) where
+    -- it was the only one of its deque
+    pub only-from : n ≡ 1 → EndsFrom before w 1 p
+    only-from z = subst (λ (k : ℕ). EndsFrom before w k p) z r
+
     pub frame-asks : (length fs ≡ frameWords) × (p < places)
     frame-asks = (r .can-end .frame .long-frames, r .can-end .frame .within)
 
@@ -130,14 +134,11 @@ module _ (h : Head) (ts ds fs ws : List ℕ) (w n node place count p : ℕ) wher
           let flat : frameAt fs p .depth ≡ 0 = elim (r .can-end .frame .parent) [ inl y ↦ absurd (omega (arith, m, eq, y .1)) | inr y ↦ y .0 ] in
           rw (ends-is (r .alone (sym eq ∙ m)), flat, u .0, u .1, u .2, u .3)
 
--- the totals after the end of Main, and after another one
-pub main-totals : (ts₁ ts vs : List ℕ) (q : ℕ) → q ≡ none → ts₁ ≡ vs → ts₁ ≡ cond (eqb q none) vs ts
-main-totals ts₁ ts vs q m e = rw (eq-eqb q none m) e
-
+-- the totals after an end that is not Main's
 pub same-totals : (ts vs : List ℕ) (q : ℕ) → q ≢ none → ts ≡ cond (eqb q none) vs ts
 same-totals ts vs q m = rw (ne-eqb q none m)
 
--- they take the view of the record that was read
+-- Main's: they take the view of the record that was read
 pub read-totals : (ts₁ ts : List ℕ) (f g : Frame) → f ≡ g → ts₁ ≡ cond (eqb (f .parent) none) (viewWords (f .view)) ts → ts₁ ≡ cond (eqb (f .parent) none) (viewWords (g .view)) ts
 read-totals ts₁ ts f g e u = u ∙ ap (λ (x : Frame). cond (eqb (f .parent) none) (viewWords (x .view)) ts) e
 

@@ -28,7 +28,7 @@ abbrev loop-of : tie.After-root-at Inv-loop μ-loop → tie.At-loop Inv-loop μ-
 loop-of o = o .before .before
 
 abbrev root-of : tie.After-release Inv-loop μ-loop → tie.After-root-at Inv-loop μ-loop
-root-of r = r .before .before .before
+root-of r = r .before .before
 
 abbrev released-of : tie.After-frame-at Inv-loop μ-loop → tie.After-release Inv-loop μ-loop
 released-of f = f .before .before .before .before
@@ -52,7 +52,7 @@ root-at-requires c κs =
 
 release-requires : tie.Need-release-requires Inv-loop μ-loop
 release-requires c κs =
-    let o = c .before .before in
+    let o = c .before in
     let l = loop-of o in
     release-asks (start-of l .args .h) _ _ _ _ _ _ _ _ _ _ (l .loop .inv .0) _ (o .root-at .ensures)
 
