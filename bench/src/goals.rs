@@ -19,12 +19,13 @@ const COPYING_LIMIT: f64 = 3.0;
 const COPYING_SIZE: usize = 256;
 /// How much more than plain Rust's a fold may cost.
 const FOLD_LIMIT: f64 = 1.1;
-/// How many more instructions than before R-5 a spawn or a return without live siblings elsewhere may take, by frames that have folded
-/// nothing: before R-5 there were no folds.
+/// How many more instructions than before R-5 a spawn or a return without live siblings elsewhere may take. A return after a fold stands
+/// beside a return: before R-5 there were no folds.
 const MORE_LIMIT: f64 = 15.0;
-const WITHOUT_SIBLINGS: [Kind; 4] = [
+const WITHOUT_SIBLINGS: [Kind; 5] = [
     Kind::Spawn,
     Kind::Return,
+    Kind::ReturnFolded,
     Kind::ReturnIdle,
     Kind::ReturnResumes,
 ];
@@ -147,7 +148,7 @@ fn more_goal(costs: &[KindCost]) -> Goal {
     let more = WITHOUT_SIBLINGS.map(|kind| (kind, kinds::find(costs, kind).more()));
     let figures = more.map(|(kind, more)| format!("{}: {:+.1}", kind.name(), more.unwrap_or(0.0)));
     Goal {
-        what: "spawns and returns without live siblings elsewhere and without folds: at most 15 instructions more than before R-5",
+        what: "spawns and returns without live siblings elsewhere, after folds too: at most 15 instructions more than before R-5",
         met: more.into_iter().all(|(_, more)| more.is_some_and(|more| more <= MORE_LIMIT)),
         figures: figures.join("; "),
     }
