@@ -39,13 +39,11 @@ pub record Machine : Type 0 where
   pub splitters : ℕ
   -- "the number of whole nodes in the pool"
   pub nodes : ℕ
+  -- R-6: "Its length .. is the limit in 13"
+  pub places : ℕ
   -- "Each worker has a deque of frames; the bottom one is being executed." The bottom stands first
   pub deques : List (List Frame)
   pub suspended : List Frame
-
--- "At most 64 live frames."
-abbrev pub maxFrames : ℕ
-maxFrames = 64
 
 abbrev pub live : Machine → List Frame
 live M = M .suspended ++ joined (M .deques)
@@ -55,7 +53,7 @@ deque M w = getD (M .deques) w []
 
 -- the machine with these deques and suspended frames
 abbrev pub withFrames : Machine → List (List Frame) → List Frame → Machine
-withFrames M ds fs = record { splitters = M .splitters; nodes = M .nodes; deques = ds; suspended = fs }
+withFrames M ds fs = record { splitters = M .splitters; nodes = M .nodes; places = M .places; deques = ds; suspended = fs }
 
 abbrev pub withDeque : Machine → ℕ → List Frame → Machine
 withDeque M w d = withFrames M (set (M .deques) w d) (M .suspended)
@@ -113,7 +111,7 @@ freeNodes M = M .nodes - inUse (M .splitters) (live M)
 abbrev pub main : List ℕ → Frame
 main vs = record { name = []; values = vs; history = []; spawned = 0; returning = false }
 
--- "at a start the workers, the initial values and the number of whole nodes in the pool"; "At the start Main, depth 0, is
--- alone on worker 0's deque."
-abbrev pub start : ℕ → List ℕ → ℕ → Machine
-start w vs nodes = record { splitters = length vs; nodes = nodes; deques = (main vs ∷ []) ∷ replicate (w - 1) []; suspended = [] }
+-- "at a start the workers, the initial values and the number of whole nodes in the pool"; "at a start the plain machine is fed
+-- its length as well" (R-6), that of the frame table; "At the start Main, depth 0, is alone on worker 0's deque."
+abbrev pub start : ℕ → List ℕ → ℕ → ℕ → Machine
+start w vs nodes places = record { splitters = length vs; nodes = nodes; places = places; deques = (main vs ∷ []) ∷ replicate (w - 1) []; suspended = [] }

@@ -8,7 +8,7 @@ use Rattle.model.specs.declared.Step.{Step}
 use Rattle.model.specs.declared.Step.the-variants.{Spawn, Return, Steal, Sync, Read, Write, Fold}
 use Rattle.model.specs.History.{Event}
 use Rattle.words.specs.Basics.{same}
-use Rattle.model.specs.Machine.{Name, Frame, Machine, depth, maxFrames, live, deque, withFrames, withDeque, isEmpty, top, belowTop, hasChild, hasFrame, those, others, inUse, freeNodes}
+use Rattle.model.specs.Machine.{Name, Frame, Machine, depth, live, deque, withFrames, withDeque, isEmpty, top, belowTop, hasChild, hasFrame, those, others, inUse, freeNodes}
 
 -- what a worker's bottom frame does: a step without its worker, steals left out
 pub data Action : Type 0 where
@@ -72,14 +72,14 @@ abbrev pub reducers : ℕ
 reducers = 3
 
 -- of the deque with bottom q:
--- 13. "The step is a spawn and 64 frames live."
+-- 13. "The step is a spawn and 64 frames live."; not 64 but the frame table's length "is the limit in 13" (R-6)
 -- 14 "no longer occurs" (R-3).
 -- 15. "The step is a read or a write and the splitter is not below n."
 -- 20. "kind 7 names no reducer, in the place of 15" (R-5).
 -- 16. "when the write would bring that count above the pool's nodes" (R-2), the count being that of the nodes in use
 abbrev pub actionTests : Machine → ℕ → List Frame → Action → List (Bool × ℕ)
 actionTests M w [] a = []
-actionTests M w (q ∷ d) spawn = (notBelow (length (live M)) maxFrames, 13) ∷ []
+actionTests M w (q ∷ d) spawn = (notBelow (length (live M)) (M .places), 13) ∷ []
 actionTests M w (q ∷ d) return = []
 actionTests M w (q ∷ d) sync = []
 actionTests M w (q ∷ d) (read x) = (notBelow x (M .splitters), 15) ∷ []

@@ -61,7 +61,7 @@ pub mod Deques
 pub mod PoolBound
 -- a write's mark is new
 pub mod FreshMarks
--- at most 64 frames, a value for each splitter, writes below n
+-- at most as many frames as places, a value for each splitter, writes below n
 pub mod Bounds
 -- all of them together, along a run from a start
 pub mod Invariant

@@ -78,8 +78,8 @@ abbrev pub runViews : Machine → Views → List Step → Views
 runViews M W [] = W
 runViews M W (s ∷ ss) = runViews (step M s) (viewsAfter M W s) ss
 
-abbrev pub totalsOf : ℕ → List ℕ → ℕ → List Step → List Folded
-totalsOf workers values nodes steps = (runViews (start workers values nodes) viewsAtStart steps) .totals
+abbrev pub totalsOf : ℕ → List ℕ → ℕ → ℕ → List Step → List Folded
+totalsOf workers values nodes places steps = (runViews (start workers values nodes places) viewsAtStart steps) .totals
 
 -- ---- what is to be shown
 

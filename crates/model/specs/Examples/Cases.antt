@@ -13,13 +13,13 @@ pub record Case : Type 0 where
   pub expected : List (ℕ × ℕ)
 
 abbrev pub answered : Case → List (ℕ × ℕ)
-answered c = answers (start (c .workers) (c .values) (c .nodes)) (c .steps)
+answered c = answers (start (c .workers) (c .values) (c .nodes) 64) (c .steps)
 
 abbrev pub expected : Case → List (ℕ × ℕ)
 expected c = c .expected
 
 abbrev pub freeAtEnd : Case → ℕ
-freeAtEnd c = freeNodes (run (start (c .workers) (c .values) (c .nodes)) (c .steps))
+freeAtEnd c = freeNodes (run (start (c .workers) (c .values) (c .nodes) 64) (c .steps))
 
 abbrev pub nodes : Case → ℕ
 nodes c = c .nodes

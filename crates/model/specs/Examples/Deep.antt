@@ -9,6 +9,6 @@ use Rattle.model.specs.Machine.{start}
 use Rattle.model.specs.Steps.{refusal, step, answer}
 use Rattle.model.specs.Run.{run, answers}
 
-deep : answers (run (start 1 (7 ∷ []) 1) (replicate 62 (Spawn 0))) (Spawn 0 ∷ Spawn 0 ∷ Return 0 ∷ Spawn 0 ∷ []) ≡ (101, 63) ∷ (13, 0) ∷ (102, 0) ∷ (101, 63) ∷ []
+deep : answers (run (start 1 (7 ∷ []) 1 64) (replicate 62 (Spawn 0))) (Spawn 0 ∷ Spawn 0 ∷ Return 0 ∷ Spawn 0 ∷ []) ≡ (101, 63) ∷ (13, 0) ∷ (102, 0) ∷ (101, 63) ∷ []
 unfolding refusal answer step nodesInUse height width
 deep = refl

@@ -108,10 +108,10 @@ tape4 = record {
 tapes : List FoldCase
 tapes = tape1 ∷ tape2 ∷ tape3 ∷ tape4 ∷ []
 
-tapes-hold : map (λ t. answers (start (t .workers) (t .values) (t .nodes)) (t .steps)) tapes ≡ map (λ t. t .expected) tapes
+tapes-hold : map (λ t. answers (start (t .workers) (t .values) (t .nodes) 64) (t .steps)) tapes ≡ map (λ t. t .expected) tapes
 unfolding tapes tape1 tape2 tape3 tape4 refusal answer step nodesInUse height width
 tapes-hold = refl
 
-totals-hold : map (λ t. totalsOf (t .workers) (t .values) (t .nodes) (t .steps)) tapes ≡ map (λ t. t .totals) tapes
+totals-hold : map (λ t. totalsOf (t .workers) (t .values) (t .nodes) 64 (t .steps)) tapes ≡ map (λ t. t .totals) tapes
 unfolding tapes tape1 tape2 tape3 tape4 refusal answer step nodesInUse height width
 totals-hold = refl

@@ -22,32 +22,32 @@ tape = Spawn 0 ∷ Steal 1 0 ∷ Write 1 4 99 ∷ Read 0 4 ∷ Sync 1 ∷ Read 1
 abbrev pub values : List ℕ
 values = 10 ∷ 20 ∷ 30 ∷ 40 ∷ 50 ∷ []
 
-answered : answers (start 2 values 20) tape ≡ (101, 1) ∷ (103, 0) ∷ (106, 5) ∷ (105, 50) ∷ (104, 1) ∷ (10, 0) ∷ (102, 2) ∷ (105, 99) ∷ (102, 3) ∷ []
+answered : answers (start 2 values 20 64) tape ≡ (101, 1) ∷ (103, 0) ∷ (106, 5) ∷ (105, 50) ∷ (104, 1) ∷ (10, 0) ∷ (102, 2) ∷ (105, 99) ∷ (102, 3) ∷ []
 unfolding refusal answer step nodesInUse height width
 answered = refl
 
 -- "free 20"
-freed : freeNodes (run (start 2 values 20) tape) ≡ 20
+freed : freeNodes (run (start 2 values 20 64) tape) ≡ 20
 unfolding refusal answer step nodesInUse height width
 freed = refl
 
 -- the one-worker run: the child's steps stand right after its spawn
-alone : oneWorkerOf 2 values 20 tape ≡ Spawn 0 ∷ Read 0 4 ∷ Return 0 ∷ Write 0 4 99 ∷ Sync 0 ∷ Read 0 4 ∷ Return 0 ∷ []
+alone : oneWorkerOf 2 values 20 64 tape ≡ Spawn 0 ∷ Read 0 4 ∷ Return 0 ∷ Write 0 4 99 ∷ Sync 0 ∷ Read 0 4 ∷ Return 0 ∷ []
 unfolding refusal answer step nodesInUse height width
 alone = refl
 
-alone-answered : answers (start 1 values 20) (oneWorkerOf 2 values 20 tape) ≡ (101, 1) ∷ (105, 50) ∷ (102, 0) ∷ (106, 9) ∷ (104, 0) ∷ (105, 99) ∷ (102, 3) ∷ []
+alone-answered : answers (start 1 values 20 64) (oneWorkerOf 2 values 20 64 tape) ≡ (101, 1) ∷ (105, 50) ∷ (102, 0) ∷ (106, 9) ∷ (104, 0) ∷ (105, 99) ∷ (102, 3) ∷ []
 unfolding refusal answer step nodesInUse height width
 alone-answered = refl
 
-returned : Returned (start 2 values 20) tape
+returned : Returned (start 2 values 20 64) tape
 unfolding refusal answer step nodesInUse height width
 returned = there (there (there (there (there (there (there (there (here refl))))))))
 
-demanded : Demand3 2 values 20 tape
-demanded = demand3 2 values 20 tape returned
+demanded : Demand3 2 values 20 64 tape
+demanded = demand3 2 values 20 64 tape returned
 
 -- R-5: "document 01's example gains `reduced 0 4294967295 1 0`": nothing is folded
-none-folded : totalsOf 2 values 20 tape ≡ []
+none-folded : totalsOf 2 values 20 64 tape ≡ []
 unfolding refusal answer step nodesInUse height width
 none-folded = refl

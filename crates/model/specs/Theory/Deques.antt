@@ -332,15 +332,15 @@ deques-turn M (acting w a) h s t =
     subst (λ z. DequeInvariant (afterAction M w z a)) (sym (x .at)) (deques-action M w (x .actor) (x .above) (x .worker) (x .at) s t a)
 deques-turn M (stealing w v) h s t = deques-steal M w v (steals M w v h) t
 
-pub deques-start : (w : ℕ) (vs : List ℕ) (nodes : ℕ) → DequeInvariant (start w vs nodes)
-deques-start w vs nodes = record { shape = at; active = runs; waits = λ f m. absurd (not-in-nil m) }
+pub deques-start : (w : ℕ) (vs : List ℕ) (nodes places : ℕ) → DequeInvariant (start w vs nodes places)
+deques-start w vs nodes places = record { shape = at; active = runs; waits = λ f m. absurd (not-in-nil m) }
   where
     none′ : (n v : ℕ) (f : Frame) → In f (getD (replicate n []) v []) → f .returning ≡ false
     none′ zero v f m = absurd (not-in-nil m)
     none′ (suc n) zero f m = absurd (not-in-nil m)
     none′ (suc n) (suc v) f m = none′ n v f m
 
-    runs : (v : ℕ) (f : Frame) → In f (deque (start w vs nodes) v) → f .returning ≡ false
+    runs : (v : ℕ) (f : Frame) → In f (deque (start w vs nodes places) v) → f .returning ≡ false
     runs zero f m = ap (λ z. z .returning) (In-one m)
     runs (suc v) f m = none′ (w - 1) v f m
 
@@ -349,9 +349,9 @@ deques-start w vs nodes = record { shape = at; active = runs; waits = λ f m. ab
     idle L (suc n) zero = (tt, tt)
     idle L (suc n) (suc v) = idle L n v
 
-    at : (v : ℕ) → DequeShape (live (start w vs nodes)) (deque (start w vs nodes) v)
+    at : (v : ℕ) → DequeShape (live (start w vs nodes places)) (deque (start w vs nodes places) v)
     at zero = (tt, tt)
-    at (suc v) = idle (live (start w vs nodes)) (w - 1) v
+    at (suc v) = idle (live (start w vs nodes places)) (w - 1) v
 
 -- after a return from a deque that is not empty the bottom is the parent: outcome 0 says so
 pub parent-is-bottom : (M : Machine) → DequeInvariant M → (w : ℕ) (q g : Frame) (d : List Frame) → deque M w ≡ q ∷ g ∷ d → tail (q .name) ≡ g .name

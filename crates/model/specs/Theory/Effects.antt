@@ -13,7 +13,7 @@ use Rattle.words.specs.Basics.{joined}
 use Rattle.words.specs.Tests.{true≢false, decided, both, neither, lt-of, not-false, ge-of}
 use Rattle.words.specs.Distinct.{same-eq}
 use Rattle.words.specs.Lists.{perm-swap, perm-length, joined-set, joined-empty}
-use Rattle.model.specs.Machine.{Name, Frame, Machine, maxFrames, live, deque, withDeque, isEmpty, top, belowTop, isChild, hasChild, those, others, inUse, main, start}
+use Rattle.model.specs.Machine.{Name, Frame, Machine, live, deque, withDeque, isEmpty, top, belowTop, isChild, hasChild, those, others, inUse, main, start}
 use Rattle.model.specs.Steps.{Action, spawn, return, sync, read, write, fold, reducers, Turn, acting, stealing, firstTrue, noWorker, notBelow, actionTests, turnTests, child, afterSpawn, asReturning, written, afterWrite, suspend, waitsInReturn, waitsAtSync, leave, resume, upward, afterEnd, afterAction, afterSteal}
 use Rattle.model.specs.Theory.Histories.{inUse-perm}
 use Rattle.model.specs.Theory.LiveRun.{successors, Allowed, Settles, settled, drops, settles-perm}
@@ -44,13 +44,13 @@ live-with M w d h = List·Permᴰ·trans (Permᴰ·append-left (M .suspended) (j
 pub live-at : (M : Machine) (w : ℕ) (d : List Frame) → w < length (M .deques) → deque M w ≡ d → List·Permᴰ (live M) (d ++ rest M w)
 live-at M w d h e = subst (λ z. List·Permᴰ (M .suspended ++ joined z) (d ++ rest M w)) (ap (set (M .deques) w) (sym e) ∙ set-getD (M .deques) w []) (live-with M w d h)
 
-pub live-start : (w : ℕ) (vs : List ℕ) (nodes : ℕ) → live (start w vs nodes) ≡ main vs ∷ []
-live-start w vs nodes = ap (λ z. main vs ∷ z) (joined-empty (w - 1))
+pub live-start : (w : ℕ) (vs : List ℕ) (nodes places : ℕ) → live (start w vs nodes places) ≡ main vs ∷ []
+live-start w vs nodes places = ap (λ z. main vs ∷ z) (joined-empty (w - 1))
 
 -- ---- what the tests leave to be known
 
-pub tests-allow : (M : Machine) (w : ℕ) (q : Frame) (d : List Frame) (a : Action) → w < length (M .deques) → List·Permᴰ (live M) (q ∷ (d ++ rest M w)) → NoneTrue (actionTests M w (q ∷ d) a) → Allowed (M .splitters) (M .nodes) q (d ++ rest M w) a
-tests-allow M w q d spawn lt p h = subst (λ z. z < maxFrames) (perm-length p) (lt-of (not-false _ (none-true (notBelow (length (live M)) maxFrames) 12 [] h .0)))
+pub tests-allow : (M : Machine) (w : ℕ) (q : Frame) (d : List Frame) (a : Action) → w < length (M .deques) → List·Permᴰ (live M) (q ∷ (d ++ rest M w)) → NoneTrue (actionTests M w (q ∷ d) a) → Allowed (M .splitters) (M .nodes) (M .places) q (d ++ rest M w) a
+tests-allow M w q d spawn lt p h = subst (λ z. z < M .places) (perm-length p) (lt-of (not-false _ (none-true (notBelow (length (live M)) (M .places)) 12 [] h .0)))
 tests-allow M w q d return lt p h = tt
 tests-allow M w q d sync lt p h = tt
 tests-allow M w q d (read x) lt p h = lt-of (not-false _ (none-true (notBelow x (M .splitters)) 14 [] h .0))
@@ -204,7 +204,7 @@ pub record Acts (M : Machine) (w : ℕ) (a : Action) : Type 0 where
   pub above : List Frame
   pub at : deque M w ≡ actor ∷ above
   pub worker : w < length (M .deques)
-  pub allowed : Allowed (M .splitters) (M .nodes) actor (above ++ rest M w) a
+  pub allowed : Allowed (M .splitters) (M .nodes) (M .places) actor (above ++ rest M w) a
   pub before : List·Permᴰ (live M) (actor ∷ (above ++ rest M w))
   pub after : Settles (successors actor a ++ (above ++ rest M w)) (live (afterAction M w (deque M w) a))
 

@@ -78,10 +78,10 @@ tree-turn M t h i = record {
 pub tree-step : (M : Machine) (s : Step) → FrameTree M → FrameTree (step M s)
 tree-step M = step-kept FrameTree M (tree-turn M)
 
-pub tree-start : (w : ℕ) (vs : List ℕ) (nodes : ℕ) → FrameTree (start w vs nodes)
-tree-start w vs nodes = record {
-  disjoint = subst Disjoint (sym (live-start w vs nodes)) ((λ g m r o o′. not-in-nil m), tt);
-  rooted = subst Rooted (sym (live-start w vs nodes)) (λ f m k p e. absurd (nil≢cons (ap (λ z. z .name) (sym (In-one m)) ∙ e)));
+pub tree-start : (w : ℕ) (vs : List ℕ) (nodes places : ℕ) → FrameTree (start w vs nodes places)
+tree-start w vs nodes places = record {
+  disjoint = subst Disjoint (sym (live-start w vs nodes places)) ((λ g m r o o′. not-in-nil m), tt);
+  rooted = subst Rooted (sym (live-start w vs nodes places)) (λ f m k p e. absurd (nil≢cons (ap (λ z. z .name) (sym (In-one m)) ∙ e)));
 }
 
 -- ---- so names are unique, and Main lives while a frame does

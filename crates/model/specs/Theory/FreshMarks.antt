@@ -92,8 +92,8 @@ marks-turn M t h i k =
     (λ q a R p ok k. (disjoint-acted q a R (k .0), marks-acted q a R (k .0) (k .1)))
     (λ q R e k. (k .0 .1, λ f m v mv g n. k .1 f (there m) v mv g (there n))) t h (i .disjoint, k) .1
 
-pub marks-start : (w : ℕ) (vs : List ℕ) (nodes : ℕ) → MarkInvariant (live (start w vs nodes))
-marks-start w vs nodes = subst MarkInvariant (sym (live-start w vs nodes)) (λ f m v mv g n. absurd (not-in-nil (subst (λ z. In v (z .history)) (In-one m) mv)))
+pub marks-start : (w : ℕ) (vs : List ℕ) (nodes places : ℕ) → MarkInvariant (live (start w vs nodes places))
+marks-start w vs nodes places = subst MarkInvariant (sym (live-start w vs nodes places)) (λ f m v mv g n. absurd (not-in-nil (subst (λ z. In v (z .history)) (In-one m) mv)))
 
 -- ---- so the mark of a write of q is new
 

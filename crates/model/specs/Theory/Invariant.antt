@@ -1,5 +1,4 @@
 -- What holds of the machine at every point of a run from a start.
-use mathlib.Core.Path.{sym, subst}
 use mathlib.Core.List.{List}
 use Prim.Native.Nat.{ℕ, _≤_}
 use lib.ListN.{length}
@@ -22,15 +21,15 @@ pub record Invariant (M : Machine) : Type 0 where
   pub deques : DequeInvariant M
   pub pool : WithinPool M
   pub marks : MarkInvariant (live M)
-  pub bounds : Bounded (M .splitters) (live M)
+  pub bounds : Bounded (M .splitters) (M .places) (live M)
 
-pub invariant-start : (w : ℕ) (vs : List ℕ) (nodes : ℕ) → treeNodes (length vs) ≤ nodes → Invariant (start w vs nodes)
-invariant-start w vs nodes h = record {
-  tree = tree-start w vs nodes;
-  deques = deques-start w vs nodes;
-  pool = pool-start w vs nodes h;
-  marks = marks-start w vs nodes;
-  bounds = bounded-start w vs nodes;
+pub invariant-start : (w : ℕ) (vs : List ℕ) (nodes places : ℕ) → treeNodes (length vs) ≤ nodes → 1 ≤ places → Invariant (start w vs nodes places)
+invariant-start w vs nodes places h p = record {
+  tree = tree-start w vs nodes places;
+  deques = deques-start w vs nodes places;
+  pool = pool-start w vs nodes places h;
+  marks = marks-start w vs nodes places;
+  bounds = bounded-start w vs nodes places p;
 }
 
 pub invariant-turn : (M : Machine) (t : Turn) → Passes M t → Invariant M → Invariant (afterTurn M t)
@@ -39,7 +38,7 @@ invariant-turn M t h i = record {
   deques = deques-turn M t h (i .tree) (i .deques);
   pool = pool-turn M t h (i .pool);
   marks = marks-turn M t h (i .tree) (i .marks);
-  bounds = subst (λ n. Bounded n (live (afterTurn M t))) (sym ((sizes-turn M t) .splitters)) (bounded-turn M t h (i .bounds));
+  bounds = rw ((sizes-turn M t) .splitters, (sizes-turn M t) .places) (bounded-turn M t h (i .bounds));
 }
 
 pub invariant-step : (M : Machine) (s : Step) → Invariant M → Invariant (step M s)

@@ -70,8 +70,8 @@ list-is-mine q (fold x y) es fuel on ih out l =
 list-is-mine q (write x v) es fuel on ih out l =
     ap (λ z. entry q (write x v) ∷ z) (withChildren-skip (suc fuel) (entry q (write x v)) es (q .name) (q .spawned) (entriesOf (q .name) es) (not-below (q .name) (q .spawned)) ∙ ih (written q x v) (here refl) on (suc fuel) (omega arith))
 
-list-is-acted : {n nodes : ℕ} {L L′ : List Frame} {es : List Entry} (q : Frame) (a : Action) (R : List Frame) → List·Permᴰ L (q ∷ R) → q .returning ≡ false → List·Permᴰ (successors q a ++ R) L′
-    → LiveRun n nodes L′ es → Disjoint (q ∷ R) → ListIs es L′ → ListIs (entry q a ∷ es) L
+list-is-acted : {n nodes places : ℕ} {L L′ : List Frame} {es : List Entry} (q : Frame) (a : Action) (R : List Frame) → List·Permᴰ L (q ∷ R) → q .returning ≡ false → List·Permᴰ (successors q a ++ R) L′
+    → LiveRun n nodes places L′ es → Disjoint (q ∷ R) → ListIs es L′ → ListIs (entry q a ∷ es) L
 list-is-acted q a R p on p′ g c ih f m live zero l = absurd (omega arith)
 list-is-acted {es = es} q a R p on p′ g c ih f m live (suc fuel) l = elim (In-cons (In-perm p m)) [ inl e ↦ mine e | inr i ↦ other i ]
   where
@@ -90,7 +90,7 @@ list-is-acted {es = es} q a R p on p′ g c ih f m live (suc fuel) l = elim (In-
         ∙ ih f (In-perm p′ (In-right (successors q a) i)) live (suc fuel) (omega arith)
         ∙ sym (childFirst-skip (entry q a) es (f .name) (suc (f .spawned)) (same-differ (λ d. c .0 f i (q .name) (inl refl) (inl d))))
 
-pub list-is : (n nodes : ℕ) {L : List Frame} {es : List Entry} → LiveRun n nodes L es → Disjoint L → ListIs es L
-list-is n nodes =
-    backward n nodes ListIs (λ f m. absurd (not-in-nil m)) (λ L L′ es p k f m. k f (In-perm p m)) (λ L es q R p e k f m l. k f (still p e m l) l)
+pub list-is : (n nodes places : ℕ) {L : List Frame} {es : List Entry} → LiveRun n nodes places L es → Disjoint L → ListIs es L
+list-is n nodes places =
+    backward n nodes places ListIs (λ f m. absurd (not-in-nil m)) (λ L L′ es p k f m. k f (In-perm p m)) (λ L es q R p e k f m l. k f (still p e m l) l)
     (λ L L′ es q a R p on ok p′ g c ih. list-is-acted q a R p on p′ g c ih)

@@ -8,7 +8,7 @@ use Prim.Native.Nat.{ℕ, _≤_, _<_}
 use lib.ListN.{length}
 use Rattle.words.specs.Tests.{true≢false}
 use Rattle.words.specs.Lists.{In-perm}
-use Rattle.model.specs.Machine.{Name, Frame, depth, maxFrames, hasChild, inUse}
+use Rattle.model.specs.Machine.{Name, Frame, depth, hasChild, inUse}
 use Rattle.model.specs.Steps.{Action, spawn, return, sync, read, write, fold, reducers, child, afterSpawn, asReturning, written}
 use Rattle.model.specs.Run.{Entry, entry}
 use Rattle.model.specs.Theory.Names.{owns, owns-weaker, owns-child, owns-apart}
@@ -39,13 +39,13 @@ successor q (fold x y) = record { frame = q; new = here refl; named = refl; exte
 successor q (write x v) = record { frame = written q x v; new = here refl; named = refl; extends = extends-written q x v }
 
 -- what the tests 13 to 16 and 20 leave to be known of an accepted step of q, a live frame beside R
-abbrev pub Allowed : ℕ → ℕ → Frame → List Frame → Action → Type 0
-Allowed n nodes q R spawn = length (q ∷ R) < maxFrames
-Allowed n nodes q R return = Unit {0}
-Allowed n nodes q R sync = Unit {0}
-Allowed n nodes q R (read x) = x < n
-Allowed n nodes q R (fold r x) = r < reducers
-Allowed n nodes q R (write x v) = (x < n) × (inUse n (written q x v ∷ R) ≤ nodes)
+abbrev pub Allowed : ℕ → ℕ → ℕ → Frame → List Frame → Action → Type 0
+Allowed n nodes places q R spawn = length (q ∷ R) < places
+Allowed n nodes places q R return = Unit {0}
+Allowed n nodes places q R sync = Unit {0}
+Allowed n nodes places q R (read x) = x < n
+Allowed n nodes places q R (fold r x) = r < reducers
+Allowed n nodes places q R (write x v) = (x < n) × (inUse n (written q x v ∷ R) ≤ nodes)
 
 -- q, one of the frames q and R, ends: it has returned, and has no live child
 abbrev pub Ends : Frame → List Frame → Type 0
@@ -53,12 +53,12 @@ Ends q R = (q .returning ≡ true) × (hasChild (q .name) (q ∷ R) ≡ false)
 
 -- from the live frames L the steps es, each allowed, lead to no frame; the frames' order does not matter. A return only marks
 -- its frame, which ends later, without a step
-pub data LiveRun (n nodes : ℕ) : List Frame → List Entry → Type 0 where
-  ended : LiveRun n nodes [] []
-  dropped : {L : List Frame} {es : List Entry} (q : Frame) (R : List Frame) → List·Permᴰ L (q ∷ R) → Ends q R → LiveRun n nodes R es → LiveRun n nodes L es
-  moved : {L L′ : List Frame} {es : List Entry} → List·Permᴰ L L′ → LiveRun n nodes L′ es → LiveRun n nodes L es
+pub data LiveRun (n nodes places : ℕ) : List Frame → List Entry → Type 0 where
+  ended : LiveRun n nodes places [] []
+  dropped : {L : List Frame} {es : List Entry} (q : Frame) (R : List Frame) → List·Permᴰ L (q ∷ R) → Ends q R → LiveRun n nodes places R es → LiveRun n nodes places L es
+  moved : {L L′ : List Frame} {es : List Entry} → List·Permᴰ L L′ → LiveRun n nodes places L′ es → LiveRun n nodes places L es
   acted : {L L′ : List Frame} {es : List Entry} (q : Frame) (a : Action) (R : List Frame)
-      → List·Permᴰ L (q ∷ R) → q .returning ≡ false → Allowed n nodes q R a → List·Permᴰ (successors q a ++ R) L′ → LiveRun n nodes L′ es → LiveRun n nodes L (entry q a ∷ es)
+      → List·Permᴰ L (q ∷ R) → q .returning ≡ false → Allowed n nodes places q R a → List·Permᴰ (successors q a ++ R) L′ → LiveRun n nodes places L′ es → LiveRun n nodes places L (entry q a ∷ es)
 
 -- ---- frames that end, one after the other
 
@@ -70,7 +70,7 @@ pub settles-perm : {L L′ L″ : List Frame} → List·Permᴰ L L′ → Settl
 settles-perm p (settled p′) = settled (List·Permᴰ·trans p p′)
 settles-perm p (drops q R p′ e k) = drops q R (List·Permᴰ·trans p p′) e k
 
-pub settles-run : {n nodes : ℕ} {L L′ : List Frame} {es : List Entry} → Settles L L′ → LiveRun n nodes L′ es → LiveRun n nodes L es
+pub settles-run : {n nodes places : ℕ} {L L′ : List Frame} {es : List Entry} → Settles L L′ → LiveRun n nodes places L′ es → LiveRun n nodes places L es
 settles-run (settled p) g = moved p g
 settles-run (drops q R p e k) g = dropped q R p e (settles-run k g)
 
@@ -124,13 +124,13 @@ disjoint-acted q (write x v) R c = c
 
 -- ---- backward along a LiveRun whose frames own disjoint names
 
-module _ (n nodes : ℕ) (P : List Entry → List Frame → Type 0) where
+module _ (n nodes places : ℕ) (P : List Entry → List Frame → Type 0) where
   -- a property that does not depend on the frames' order, and that holds before a step if it holds after it
   pub backward : P [] [] → ((L L′ : List Frame) (es : List Entry) → List·Permᴰ L L′ → P es L′ → P es L)
       → ((L : List Frame) (es : List Entry) (q : Frame) (R : List Frame) → List·Permᴰ L (q ∷ R) → Ends q R → P es R → P es L)
-      → ((L L′ : List Frame) (es : List Entry) (q : Frame) (a : Action) (R : List Frame) → List·Permᴰ L (q ∷ R) → q .returning ≡ false → Allowed n nodes q R a → List·Permᴰ (successors q a ++ R) L′
-      → LiveRun n nodes L′ es → Disjoint (q ∷ R) → P es L′ → P (entry q a ∷ es) L)
-      → {L : List Frame} {es : List Entry} → LiveRun n nodes L es → Disjoint L → P es L
+      → ((L L′ : List Frame) (es : List Entry) (q : Frame) (a : Action) (R : List Frame) → List·Permᴰ L (q ∷ R) → q .returning ≡ false → Allowed n nodes places q R a → List·Permᴰ (successors q a ++ R) L′
+      → LiveRun n nodes places L′ es → Disjoint (q ∷ R) → P es L′ → P (entry q a ∷ es) L)
+      → {L : List Frame} {es : List Entry} → LiveRun n nodes places L es → Disjoint L → P es L
   backward none move drop act ended c = none
   backward none move drop act (moved {L = L} {L′ = L′} {es = es} p g) c = move L L′ es p (backward none move drop act g (disjoint-perm p c))
   backward none move drop act (dropped {L = L} {es = es} q R p e g) c = drop L es q R p e (backward none move drop act g (disjoint-perm p c .1))

@@ -75,5 +75,5 @@ no-totals-run : (M : Machine) (W : Views) (ss : List Step) → FrameTree M → I
 no-totals-run M W [] tree o z = z
 no-totals-run M W (s ∷ ss) tree o z = no-totals-run (step M s) (viewsAfter M W s) ss (tree-step M s tree) (views-step M s W tree o) (no-totals-step M s W tree o z)
 
-pub no-totals-yet : (w : ℕ) (vs : List ℕ) (nodes : ℕ) (ss : List Step) → hasFrame [] (live (run (start w vs nodes) ss)) ≡ true → (runViews (start w vs nodes) viewsAtStart ss) .totals ≡ []
-no-totals-yet w vs nodes ss = no-totals-run (start w vs nodes) viewsAtStart ss (tree-start w vs nodes) (post-start w vs nodes) (λ h. refl)
+pub no-totals-yet : (w : ℕ) (vs : List ℕ) (nodes places : ℕ) (ss : List Step) → hasFrame [] (live (run (start w vs nodes places) ss)) ≡ true → (runViews (start w vs nodes places) viewsAtStart ss) .totals ≡ []
+no-totals-yet w vs nodes places ss = no-totals-run (start w vs nodes places) viewsAtStart ss (tree-start w vs nodes places) (post-start w vs nodes places) (λ h. refl)

@@ -24,8 +24,8 @@ use Rattle.model.specs.Theory.Effects.{Passes}
 use Rattle.model.specs.Theory.RunSteps.{Accepted, accepted-at}
 
 -- one worker, whose deque is C
-abbrev pub solo : ℕ → ℕ → List Frame → Machine
-solo n nodes C = record { splitters = n; nodes = nodes; deques = C ∷ []; suspended = [] }
+abbrev pub solo : ℕ → ℕ → ℕ → List Frame → Machine
+solo n nodes places C = record { splitters = n; nodes = nodes; places = places; deques = C ∷ []; suspended = [] }
 
 -- from M the steps of es, all for worker 0, are accepted, leave es as the trace, and end at M′
 abbrev pub Performs : List Entry → Machine → Machine → Type 0
@@ -104,13 +104,13 @@ hasChild-short L p f (g ∷ C) a h = rw (isChild-short p (f .name) h) (hasChild-
 
 -- ---- the one worker's steps
 
-upward-solo : (n nodes : ℕ) (r : Name) → upward (solo n nodes []) 0 r ≡ solo n nodes []
-upward-solo n nodes [] = refl
-upward-solo n nodes (k ∷ p) = refl
+upward-solo : (n nodes places : ℕ) (r : Name) → upward (solo n nodes places []) 0 r ≡ solo n nodes places []
+upward-solo n nodes places [] = refl
+upward-solo n nodes places (k ∷ p) = refl
 
-end-solo : (n nodes : ℕ) (f : Frame) (C : List Frame) → afterEnd (solo n nodes (f ∷ C)) 0 f C ≡ solo n nodes C
-end-solo n nodes f [] = upward-solo n nodes (f .name)
-end-solo n nodes f (g ∷ C) = refl
+end-solo : (n nodes places : ℕ) (f : Frame) (C : List Frame) → afterEnd (solo n nodes places (f ∷ C)) 0 f C ≡ solo n nodes places C
+end-solo n nodes places f [] = upward-solo n nodes places (f .name)
+end-solo n nodes places f (g ∷ C) = refl
 
 -- what stands in the deque in the place of q after its step: one worker's return ends it
 abbrev onward : Frame → Action → List Frame
@@ -129,44 +129,44 @@ turn-of-step w (read x) = refl
 turn-of-step w (fold x y) = refl
 turn-of-step w (write x v) = refl
 
-passes-solo : (n nodes : ℕ) (f : Frame) (C : List Frame) (a : Action) → Allowed n nodes f C a → Passes (solo n nodes (f ∷ C)) (acting 0 a)
-passes-solo n nodes f C spawn ok = rw (append-nil C, ltb-of ok)
-passes-solo n nodes f C return ok = refl
-passes-solo n nodes f C sync ok = refl
-passes-solo n nodes f C (read x) ok = rw (ltb-of ok)
-passes-solo n nodes f C (fold x y) ok = rw (ltb-of ok)
-passes-solo n nodes f C (write x v) ok = rw (ltb-of (ok .0), append-nil C, nltb-of {a = nodes} {b = inUse n (written f x v ∷ C)} (ok .1))
+passes-solo : (n nodes places : ℕ) (f : Frame) (C : List Frame) (a : Action) → Allowed n nodes places f C a → Passes (solo n nodes places (f ∷ C)) (acting 0 a)
+passes-solo n nodes places f C spawn ok = rw (append-nil C, ltb-of ok)
+passes-solo n nodes places f C return ok = refl
+passes-solo n nodes places f C sync ok = refl
+passes-solo n nodes places f C (read x) ok = rw (ltb-of ok)
+passes-solo n nodes places f C (fold x y) ok = rw (ltb-of ok)
+passes-solo n nodes places f C (write x v) ok = rw (ltb-of (ok .0), append-nil C, nltb-of {a = nodes} {b = inUse n (written f x v ∷ C)} (ok .1))
 
-after-solo : (n nodes : ℕ) (f : Frame) (C : List Frame) (a : Action) → hasChild (f .name) (f ∷ C) ≡ false → afterTurn (solo n nodes (f ∷ C)) (acting 0 a) ≡ solo n nodes (onward f a ++ C)
-after-solo n nodes f C spawn h = refl
-after-solo n nodes f C return h = rw (append-nil C, h) (end-solo n nodes f C)
-after-solo n nodes f C sync h = rw (append-nil C, h)
-after-solo n nodes f C (read x) h = refl
-after-solo n nodes f C (fold x y) h = refl
-after-solo n nodes f C (write x v) h = refl
+after-solo : (n nodes places : ℕ) (f : Frame) (C : List Frame) (a : Action) → hasChild (f .name) (f ∷ C) ≡ false → afterTurn (solo n nodes places (f ∷ C)) (acting 0 a) ≡ solo n nodes places (onward f a ++ C)
+after-solo n nodes places f C spawn h = refl
+after-solo n nodes places f C return h = rw (append-nil C, h) (end-solo n nodes places f C)
+after-solo n nodes places f C sync h = rw (append-nil C, h)
+after-solo n nodes places f C (read x) h = refl
+after-solo n nodes places f C (fold x y) h = refl
+after-solo n nodes places f C (write x v) h = refl
 
 -- ---- the child-first list
 
 -- with f, which has not returned, on any chain of its ancestors, one worker does what is left of f's child-first list and ends with the chain
-abbrev ChildFirstRuns : ℕ → ℕ → List Entry → List Frame → Type 0
-ChildFirstRuns n nodes es L = (f : Frame) (C : List Frame) → In f L → f .returning ≡ false → Ancestors L f C → Performs (childFirst es (f .name) (suc (f .spawned))) (solo n nodes (f ∷ C)) (solo n nodes C)
+abbrev ChildFirstRuns : ℕ → ℕ → ℕ → List Entry → List Frame → Type 0
+ChildFirstRuns n nodes places es L = (f : Frame) (C : List Frame) → In f L → f .returning ≡ false → Ancestors L f C → Performs (childFirst es (f .name) (suc (f .spawned))) (solo n nodes places (f ∷ C)) (solo n nodes places C)
 
 -- one step of the chain's bottom: where it leads is where the rest goes on
-performs-step : (n nodes : ℕ) (f : Frame) (C : List Frame) (a : Action) (es : List Entry) (M : Machine) → Allowed n nodes f C a → hasChild (f .name) (f ∷ C) ≡ false
-    → Performs es (solo n nodes (onward f a ++ C)) M → Performs (entry f a ∷ es) (solo n nodes (f ∷ C)) M
-performs-step n nodes f C a es M ok h d = (ac .zero-refusal, rw (turn-of-step 0 a), rw (ac .after, turn-of-step 0 a, after-solo n nodes f C a h) d)
+performs-step : (n nodes places : ℕ) (f : Frame) (C : List Frame) (a : Action) (es : List Entry) (M : Machine) → Allowed n nodes places f C a → hasChild (f .name) (f ∷ C) ≡ false
+    → Performs es (solo n nodes places (onward f a ++ C)) M → Performs (entry f a ∷ es) (solo n nodes places (f ∷ C)) M
+performs-step n nodes places f C a es M ok h d = (ac .zero-refusal, rw (turn-of-step 0 a), rw (ac .after, turn-of-step 0 a, after-solo n nodes places f C a h) d)
   where
-    ac : Accepted (solo n nodes (f ∷ C)) (stepOf 0 a)
-    ac = accepted-at (solo n nodes (f ∷ C)) (stepOf 0 a) (rw (turn-of-step 0 a) (passes-solo n nodes f C a ok))
+    ac : Accepted (solo n nodes places (f ∷ C)) (stepOf 0 a)
+    ac = accepted-at (solo n nodes places (f ∷ C)) (stepOf 0 a) (rw (turn-of-step 0 a) (passes-solo n nodes places f C a ok))
 
 -- f itself took the step
-runs-mine : (n nodes : ℕ) (L′ : List Frame) (q : Frame) (C : List Frame) (a : Action) (es : List Entry) → q .returning ≡ false → Allowed n nodes q C a → hasChild (q .name) (q ∷ C) ≡ false
-    → ((t : Frame) → In t (successors q a) → In t L′) → (a ≡ return → entriesOf (q .name) es ≡ []) → Ancestors L′ q C → ChildFirstRuns n nodes es L′
+runs-mine : (n nodes places : ℕ) (L′ : List Frame) (q : Frame) (C : List Frame) (a : Action) (es : List Entry) → q .returning ≡ false → Allowed n nodes places q C a → hasChild (q .name) (q ∷ C) ≡ false
+    → ((t : Frame) → In t (successors q a) → In t L′) → (a ≡ return → entriesOf (q .name) es ≡ []) → Ancestors L′ q C → ChildFirstRuns n nodes places es L′
     → Performs (follow a (entry q a) (childFirst es (suc (q .spawned) ∷ q .name) 1) (childFirst es (q .name) (suc (suc (q .spawned)))) (childFirst es (q .name) (suc (q .spawned))))
-    (solo n nodes (q ∷ C)) (solo n nodes C)
-runs-mine n nodes L′ q C spawn es live ok h new out ab ih =
-    performs-step n nodes q C spawn (childFirst es (suc (q .spawned) ∷ q .name) 1 ++ childFirst es (q .name) (suc (suc (q .spawned)))) (solo n nodes C) ok h
-    (performs-append (childFirst es (suc (q .spawned) ∷ q .name) 1) (childFirst es (q .name) (suc (suc (q .spawned)))) (solo n nodes (child q ∷ afterSpawn q ∷ C)) (solo n nodes (afterSpawn q ∷ C)) (solo n nodes C)
+    (solo n nodes places (q ∷ C)) (solo n nodes places C)
+runs-mine n nodes places L′ q C spawn es live ok h new out ab ih =
+    performs-step n nodes places q C spawn (childFirst es (suc (q .spawned) ∷ q .name) 1 ++ childFirst es (q .name) (suc (suc (q .spawned)))) (solo n nodes places C) ok h
+    (performs-append (childFirst es (suc (q .spawned) ∷ q .name) 1) (childFirst es (q .name) (suc (suc (q .spawned)))) (solo n nodes places (child q ∷ afterSpawn q ∷ C)) (solo n nodes places (afterSpawn q ∷ C)) (solo n nodes places C)
     (ih (child q) (afterSpawn q ∷ C) (new (child q) (here refl)) refl (link, on)) (ih (afterSpawn q) C (new (afterSpawn q) (there (here refl))) live on))
   where
     on : Ancestors L′ (afterSpawn q) C
@@ -179,43 +179,43 @@ runs-mine n nodes L′ q C spawn es live ok h new out ab ih =
       extends = extends-same (suc (depth q)) (q .history);
       twin = record { frame = afterSpawn q; there-is = new (afterSpawn q) (there (here refl)); named = refl; extends = extends-same (depth q) (q .history) };
     }
-runs-mine n nodes L′ q C return es live ok h new out ab ih =
-    performs-step n nodes q C return (childFirst es (q .name) (suc (q .spawned))) (solo n nodes C) ok h
-    (subst (λ z. Performs z (solo n nodes C) (solo n nodes C)) (sym (childFirst-none es (q .name) (suc (q .spawned)) (out refl))) refl)
-runs-mine n nodes L′ q C sync es live ok h new out ab ih =
-    performs-step n nodes q C sync (childFirst es (q .name) (suc (q .spawned))) (solo n nodes C) ok h (ih q C (new q (here refl)) live ab)
-runs-mine n nodes L′ q C (read x) es live ok h new out ab ih =
-    performs-step n nodes q C (read x) (childFirst es (q .name) (suc (q .spawned))) (solo n nodes C) ok h (ih q C (new q (here refl)) live ab)
-runs-mine n nodes L′ q C (fold x y) es live ok h new out ab ih =
-    performs-step n nodes q C (fold x y) (childFirst es (q .name) (suc (q .spawned))) (solo n nodes C) ok h (ih q C (new q (here refl)) live ab)
-runs-mine n nodes L′ q C (write x v) es live ok h new out ab ih =
-    performs-step n nodes q C (write x v) (childFirst es (q .name) (suc (q .spawned))) (solo n nodes C) ok h
+runs-mine n nodes places L′ q C return es live ok h new out ab ih =
+    performs-step n nodes places q C return (childFirst es (q .name) (suc (q .spawned))) (solo n nodes places C) ok h
+    (subst (λ z. Performs z (solo n nodes places C) (solo n nodes places C)) (sym (childFirst-none es (q .name) (suc (q .spawned)) (out refl))) refl)
+runs-mine n nodes places L′ q C sync es live ok h new out ab ih =
+    performs-step n nodes places q C sync (childFirst es (q .name) (suc (q .spawned))) (solo n nodes places C) ok h (ih q C (new q (here refl)) live ab)
+runs-mine n nodes places L′ q C (read x) es live ok h new out ab ih =
+    performs-step n nodes places q C (read x) (childFirst es (q .name) (suc (q .spawned))) (solo n nodes places C) ok h (ih q C (new q (here refl)) live ab)
+runs-mine n nodes places L′ q C (fold x y) es live ok h new out ab ih =
+    performs-step n nodes places q C (fold x y) (childFirst es (q .name) (suc (q .spawned))) (solo n nodes places C) ok h (ih q C (new q (here refl)) live ab)
+runs-mine n nodes places L′ q C (write x v) es live ok h new out ab ih =
+    performs-step n nodes places q C (write x v) (childFirst es (q .name) (suc (q .spawned))) (solo n nodes places C) ok h
     (ih (written q x v) C (new (written q x v) (here refl)) live (ancestors-head L′ q (written q x v) C ab refl (extends-written q x v)))
 
 -- what the other run allowed is allowed in the chain
-allowed-chain : (n nodes : ℕ) (L : List Frame) (q : Frame) (R C : List Frame) (a : Action) → List·Permᴰ L (q ∷ R) → Ancestors L q C → Allowed n nodes q R a → Allowed n nodes q C a
-allowed-chain n nodes L q R C spawn p ab ok = let h = no-more-frames L q C (In-perm (Permᴰ·symm p) (here refl)) ab in omega (arith, ok, h, perm-length p)
-allowed-chain n nodes L q R C return p ab ok = tt
-allowed-chain n nodes L q R C sync p ab ok = tt
-allowed-chain n nodes L q R C (read x) p ab ok = ok
-allowed-chain n nodes L q R C (fold x y) p ab ok = ok
-allowed-chain n nodes L q R C (write x v) p ab ok = (ok .0, le-trans (no-more-nodes-after n L q R C x v p ab) (ok .1))
+allowed-chain : (n nodes places : ℕ) (L : List Frame) (q : Frame) (R C : List Frame) (a : Action) → List·Permᴰ L (q ∷ R) → Ancestors L q C → Allowed n nodes places q R a → Allowed n nodes places q C a
+allowed-chain n nodes places L q R C spawn p ab ok = let h = no-more-frames L q C (In-perm (Permᴰ·symm p) (here refl)) ab in omega (arith, ok, h, perm-length p)
+allowed-chain n nodes places L q R C return p ab ok = tt
+allowed-chain n nodes places L q R C sync p ab ok = tt
+allowed-chain n nodes places L q R C (read x) p ab ok = ok
+allowed-chain n nodes places L q R C (fold x y) p ab ok = ok
+allowed-chain n nodes places L q R C (write x v) p ab ok = (ok .0, le-trans (no-more-nodes-after n L q R C x v p ab) (ok .1))
 
-runs-acted : (n nodes : ℕ) {L L′ : List Frame} {es : List Entry} (q : Frame) (a : Action) (R : List Frame) → List·Permᴰ L (q ∷ R) → q .returning ≡ false → Allowed n nodes q R a → List·Permᴰ (successors q a ++ R) L′
-    → LiveRun n nodes L′ es → Disjoint (q ∷ R) → ChildFirstRuns n nodes es L′ → ChildFirstRuns n nodes (entry q a ∷ es) L
-runs-acted n nodes {L} {L′} {es} q a R p on ok p′ g c ih f C m live ab = elim (In-cons (In-perm p m)) [ inl e ↦ mine e | inr i ↦ other i ]
+runs-acted : (n nodes places : ℕ) {L L′ : List Frame} {es : List Entry} (q : Frame) (a : Action) (R : List Frame) → List·Permᴰ L (q ∷ R) → q .returning ≡ false → Allowed n nodes places q R a → List·Permᴰ (successors q a ++ R) L′
+    → LiveRun n nodes places L′ es → Disjoint (q ∷ R) → ChildFirstRuns n nodes places es L′ → ChildFirstRuns n nodes places (entry q a ∷ es) L
+runs-acted n nodes places {L} {L′} {es} q a R p on ok p′ g c ih f C m live ab = elim (In-cons (In-perm p m)) [ inl e ↦ mine e | inr i ↦ other i ]
   where
-    mine-as : In q L → Ancestors L q C → Performs (childFirst (entry q a ∷ es) (q .name) (suc (q .spawned))) (solo n nodes (q ∷ C)) (solo n nodes C)
+    mine-as : In q L → Ancestors L q C → Performs (childFirst (entry q a ∷ es) (q .name) (suc (q .spawned))) (solo n nodes places (q ∷ C)) (solo n nodes places C)
     mine-as mq abq =
         rw (childFirst-mine (entry q a) es (q .name) (suc (q .spawned)) (same-refl (q .name)))
-        (runs-mine n nodes L′ q C a es on (allowed-chain n nodes L q R C a p abq ok) (hasChild-short L (q .name) q C abq (le-refl (depth q)))
+        (runs-mine n nodes places L′ q C a es on (allowed-chain n nodes places L q R C a p abq ok) (hasChild-short L (q .name) q C abq (le-refl (depth q)))
         (λ t i. In-perm p′ (In-left R i)) (unmet q a R p′ g c (q .name) (inl refl))
         (ancestors-acted q a R p p′ q C mq abq) ih)
 
-    mine : f ≡ q → Performs (childFirst (entry q a ∷ es) (f .name) (suc (f .spawned))) (solo n nodes (f ∷ C)) (solo n nodes C)
-    mine e = subst (λ z. In z L → Ancestors L z C → Performs (childFirst (entry q a ∷ es) (z .name) (suc (z .spawned))) (solo n nodes (z ∷ C)) (solo n nodes C)) (sym e) mine-as m ab
+    mine : f ≡ q → Performs (childFirst (entry q a ∷ es) (f .name) (suc (f .spawned))) (solo n nodes places (f ∷ C)) (solo n nodes places C)
+    mine e = subst (λ z. In z L → Ancestors L z C → Performs (childFirst (entry q a ∷ es) (z .name) (suc (z .spawned))) (solo n nodes places (z ∷ C)) (solo n nodes places C)) (sym e) mine-as m ab
 
-    other : In f R → Performs (childFirst (entry q a ∷ es) (f .name) (suc (f .spawned))) (solo n nodes (f ∷ C)) (solo n nodes C)
+    other : In f R → Performs (childFirst (entry q a ∷ es) (f .name) (suc (f .spawned))) (solo n nodes places (f ∷ C)) (solo n nodes places C)
     other i =
         rw (childFirst-skip (entry q a) es (f .name) (suc (f .spawned)) (same-differ (λ d. c .0 f i (q .name) (inl refl) (inl d))))
         (ih f C (In-perm p′ (In-right (successors q a) i)) live (ancestors-acted q a R p p′ f C m ab))
@@ -227,8 +227,8 @@ ancestors-moved {L} p f (g ∷ C) ab = (link-to (ab .0) (record { frame = t .fra
     t : Twin L g
     t = (ab .0) .twin
 
-pub child-first-runs : (n nodes : ℕ) {L : List Frame} {es : List Entry} → LiveRun n nodes L es → Disjoint L → ChildFirstRuns n nodes es L
-child-first-runs n nodes =
-    backward n nodes (ChildFirstRuns n nodes) (λ f C m. absurd (not-in-nil m)) (λ L L′ es p k f C m l ab. k f C (In-perm p m) l (ancestors-moved p f C ab))
+pub child-first-runs : (n nodes places : ℕ) {L : List Frame} {es : List Entry} → LiveRun n nodes places L es → Disjoint L → ChildFirstRuns n nodes places es L
+child-first-runs n nodes places =
+    backward n nodes places (ChildFirstRuns n nodes places) (λ f C m. absurd (not-in-nil m)) (λ L L′ es p k f C m l ab. k f C (In-perm p m) l (ancestors-moved p f C ab))
     (λ L es q R p e k f C m l ab. k f C (still p e m l) l (ancestors-dropped q R p e f C m ab))
-    (λ L L′ es q a R p on ok p′ g c ih. runs-acted n nodes q a R p on ok p′ g c ih)
+    (λ L L′ es q a R p on ok p′ g c ih. runs-acted n nodes places q a R p on ok p′ g c ih)

@@ -70,18 +70,18 @@ return-within : (q : Frame) (R : List Frame) → Within (asReturning q ∷ R) (q
 return-within q R f (here e) = (q, here refl, ap (λ z. z .history) e)
 return-within q R f (there m) = (f, there m, refl)
 
-pool-acted : (n nodes : ℕ) (q : Frame) (a : Action) (R : List Frame) → Allowed n nodes q R a → inUse n (q ∷ R) ≤ nodes → inUse n (successors q a ++ R) ≤ nodes
-pool-acted n nodes q spawn R ok h = le-trans (inUse-within n (child q ∷ afterSpawn q ∷ R) (q ∷ R) (spawn-within q R)) h
-pool-acted n nodes q return R ok h = le-trans (inUse-within n (asReturning q ∷ R) (q ∷ R) (return-within q R)) h
-pool-acted n nodes q sync R ok h = h
-pool-acted n nodes q (read x) R ok h = h
-pool-acted n nodes q (fold x y) R ok h = h
-pool-acted n nodes q (write x v) R ok h = ok .1
+pool-acted : (n nodes places : ℕ) (q : Frame) (a : Action) (R : List Frame) → Allowed n nodes places q R a → inUse n (q ∷ R) ≤ nodes → inUse n (successors q a ++ R) ≤ nodes
+pool-acted n nodes places q spawn R ok h = le-trans (inUse-within n (child q ∷ afterSpawn q ∷ R) (q ∷ R) (spawn-within q R)) h
+pool-acted n nodes places q return R ok h = le-trans (inUse-within n (asReturning q ∷ R) (q ∷ R) (return-within q R)) h
+pool-acted n nodes places q sync R ok h = h
+pool-acted n nodes places q (read x) R ok h = h
+pool-acted n nodes places q (fold x y) R ok h = h
+pool-acted n nodes places q (write x v) R ok h = ok .1
 
 pub pool-turn : (M : Machine) (t : Turn) → Passes M t → WithinPool M → WithinPool (afterTurn M t)
 pool-turn M t h i =
     rw ((sizes-turn M t) .splitters, (sizes-turn M t) .nodes)
-    (live-kept (λ L. inUse (M .splitters) L ≤ M .nodes) M (λ A B p b. omega (arith, b, inUse-perm (M .splitters) p)) (λ q a R p. pool-acted (M .splitters) (M .nodes) q a R)
+    (live-kept (λ L. inUse (M .splitters) L ≤ M .nodes) M (λ A B p b. omega (arith, b, inUse-perm (M .splitters) p)) (λ q a R p. pool-acted (M .splitters) (M .nodes) (M .places) q a R)
     (λ q R e b. le-trans (inUse-within (M .splitters) R (q ∷ R) (λ f m. (f, there m, refl))) b) t h i)
 
 -- ---- the start
@@ -90,5 +90,5 @@ pub inUse-main : (vs : List ℕ) → inUse (length vs) (main vs ∷ []) ≡ tree
 unfolding nodesInUse treeNodes
 inUse-main vs = sum-cong (suc (height (length vs))) (λ l. sum (width (length vs) l) (λ g. 1)) (width (length vs)) (λ l b. omega (arith, sum-const (width (length vs) l) 1))
 
-pub pool-start : (w : ℕ) (vs : List ℕ) (nodes : ℕ) → treeNodes (length vs) ≤ nodes → WithinPool (start w vs nodes)
-pool-start w vs nodes h = subst (λ L. inUse (length vs) L ≤ nodes) (sym (live-start w vs nodes)) (omega (arith, h, inUse-main vs))
+pub pool-start : (w : ℕ) (vs : List ℕ) (nodes places : ℕ) → treeNodes (length vs) ≤ nodes → WithinPool (start w vs nodes places)
+pool-start w vs nodes places h = subst (λ L. inUse (length vs) L ≤ nodes) (sym (live-start w vs nodes places)) (omega (arith, h, inUse-main vs))

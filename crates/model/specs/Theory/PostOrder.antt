@@ -219,9 +219,9 @@ pub post-turn : (M : Machine) (t : Turn) (ns : List Name) → Passes M t → Fra
 post-turn M t ns h tree o = post-left (live (afterTurn M t)) (turnNames M t ns) ((tree-turn M t h tree) .rooted) (turn-all M t ns h (o .names)) (post-moved M t ns h tree o)
 
 -- at a start
-pub post-start : (w : ℕ) (vs : List ℕ) (nodes : ℕ) → InPostOrder (live (start w vs nodes)) (viewNames (viewsAtStart .views))
-post-start w vs nodes = record {
-  names = names-start w vs nodes;
+pub post-start : (w : ℕ) (vs : List ℕ) (nodes places : ℕ) → InPostOrder (live (start w vs nodes places)) (viewNames (viewsAtStart .views))
+post-start w vs nodes places = record {
+  names = names-start w vs nodes places;
   post = (record { to-parent = λ k p e. absurd (nil≢cons e); after-below = λ m i. absurd (not-in-nil i) }, tt);
 }
 
@@ -239,5 +239,5 @@ views-run M W [] tree o = o
 views-run M W (s ∷ ss) tree o = views-run (step M s) (viewsAfter M W s) ss (tree-step M s tree) (views-step M s W tree o)
 
 -- at every moment of a run from a start there is one view for each live frame, and they stand in post-order
-pub views-from-start : (w : ℕ) (vs : List ℕ) (nodes : ℕ) (ss : List Step) → InPostOrder (live (run (start w vs nodes) ss)) (viewNames ((runViews (start w vs nodes) viewsAtStart ss) .views))
-views-from-start w vs nodes ss = views-run (start w vs nodes) viewsAtStart ss (tree-start w vs nodes) (post-start w vs nodes)
+pub views-from-start : (w : ℕ) (vs : List ℕ) (nodes places : ℕ) (ss : List Step) → InPostOrder (live (run (start w vs nodes places) ss)) (viewNames ((runViews (start w vs nodes places) viewsAtStart ss) .views))
+views-from-start w vs nodes places ss = views-run (start w vs nodes places) viewsAtStart ss (tree-start w vs nodes places) (post-start w vs nodes places)

@@ -48,7 +48,7 @@ accepted-or-refused M s = go (refusal M s) refl
 
 -- of the live frames: what does not depend on their order, is kept where a frame's successors take its place, and where a frame ends
 pub live-kept : (P : List Frame → Type 0) (M : Machine) → ((L L′ : List Frame) → List·Permᴰ L L′ → P L → P L′)
-    → ((q : Frame) (a : Action) (R : List Frame) → List·Permᴰ (live M) (q ∷ R) → Allowed (M .splitters) (M .nodes) q R a → P (q ∷ R) → P (successors q a ++ R))
+    → ((q : Frame) (a : Action) (R : List Frame) → List·Permᴰ (live M) (q ∷ R) → Allowed (M .splitters) (M .nodes) (M .places) q R a → P (q ∷ R) → P (successors q a ++ R))
     → ((q : Frame) (R : List Frame) → Ends q R → P (q ∷ R) → P R)
     → (t : Turn) → Passes M t → P (live M) → P (live (afterTurn M t))
 live-kept P M perm act drop (acting w a) h i =
@@ -70,16 +70,17 @@ run-kept P steps M (s ∷ ss) i = run-kept P steps (step M s) ss (steps M s i)
 pub record SameSizes (M N : Machine) : Type 0 where
   pub splitters : N .splitters ≡ M .splitters
   pub nodes : N .nodes ≡ M .nodes
+  pub places : N .places ≡ M .places
   pub workers : length (N .deques) ≡ length (M .deques)
 
 sizes-same : (M : Machine) → SameSizes M M
-sizes-same M = record { splitters = refl; nodes = refl; workers = refl }
+sizes-same M = record { splitters = refl; nodes = refl; places = refl; workers = refl }
 
 sizes-trans : (M N O : Machine) → SameSizes M N → SameSizes N O → SameSizes M O
-sizes-trans M N O a b = record { splitters = b .splitters ∙ a .splitters; nodes = b .nodes ∙ a .nodes; workers = b .workers ∙ a .workers }
+sizes-trans M N O a b = record { splitters = b .splitters ∙ a .splitters; nodes = b .nodes ∙ a .nodes; places = b .places ∙ a .places; workers = b .workers ∙ a .workers }
 
 sizes-with : (M : Machine) (w : ℕ) (d : List Frame) {fs : List Frame} → SameSizes M (withFrames M (set (M .deques) w d) fs)
-sizes-with M w d = record { splitters = refl; nodes = refl; workers = length-set (M .deques) w d }
+sizes-with M w d = record { splitters = refl; nodes = refl; places = refl; workers = length-set (M .deques) w d }
 
 sizes-upward : (M : Machine) (w : ℕ) (r : Name) → SameSizes M (upward M w r)
 sizes-upward M w [] = sizes-same M
@@ -88,7 +89,7 @@ sizes-upward M w (k ∷ p) =
       | inl c ↦ rw c (sizes-same M)
       | inr c ↦ rw c (elim (decided (isEmpty (those (waitsInReturn p) (M .suspended)))) [
         | inl s ↦ rw s (sizes-with M w (those (waitsAtSync p) (M .suspended)))
-        | inr s ↦ rw s (let r = sizes-upward (leave M p) w p in record { splitters = r .splitters; nodes = r .nodes; workers = r .workers })
+        | inr s ↦ rw s (let r = sizes-upward (leave M p) w p in record { splitters = r .splitters; nodes = r .nodes; places = r .places; workers = r .workers })
       ])
     ]
 
@@ -117,5 +118,5 @@ sizes-step M s = step-kept (SameSizes M) M (λ t h i. sizes-turn M t) s (sizes-s
 pub sizes-run : (M : Machine) (ss : List Step) → SameSizes M (run M ss)
 sizes-run M ss = run-kept (SameSizes M) (λ N s i. sizes-trans M N (step N s) i (sizes-step N s)) M ss (sizes-same M)
 
-pub sizes-start : (w : ℕ) (vs : List ℕ) (nodes : ℕ) → 0 < w → length ((start w vs nodes) .deques) ≡ w
-sizes-start w vs nodes h = ap suc (length-replicate (w - 1) []) ∙ (let e : suc (w - 1) ≡ w = omega arith in e)
+pub sizes-start : (w : ℕ) (vs : List ℕ) (nodes places : ℕ) → 0 < w → length ((start w vs nodes places) .deques) ≡ w
+sizes-start w vs nodes places h = ap suc (length-replicate (w - 1) []) ∙ (let e : suc (w - 1) ≡ w = omega arith in e)

@@ -16,7 +16,7 @@ use Rattle.model.specs.Theory.ChildFirst.{childFirst, of-skip, of-cons, 
 use Rattle.model.specs.Theory.LiveRun.{successors, Ends, LiveRun, ended, moved, dropped, acted, Owns, Disjoint, successors-owned, backward, gone-returned}
 
 -- a name that no live frame owns, but one that has returned, is not met again
-pub unowned : {n nodes : ℕ} {L : List Frame} {es : List Entry} → LiveRun n nodes L es → (r : Name) → ((f : Frame) → In f L → f .returning ≡ false → Owns f r → ⊥) → entriesOf r es ≡ []
+pub unowned : {n nodes places : ℕ} {L : List Frame} {es : List Entry} → LiveRun n nodes places L es → (r : Name) → ((f : Frame) → In f L → f .returning ≡ false → Owns f r → ⊥) → entriesOf r es ≡ []
 unowned ended r h = refl
 unowned (moved p g) r h = unowned g r (λ f m. h f (In-perm (Permᴰ·symm p) m))
 unowned (dropped q R p e g) r h = unowned g r (λ f m. h f (In-perm (Permᴰ·symm p) (there m)))
@@ -25,7 +25,7 @@ unowned (acted {es = es} q a R p on ok p′ g) r h =
     unowned g r (λ f m l o. elim (In-cases (successors q a) (In-perm (Permᴰ·symm p′) m)) [ inl i ↦ h q (In-perm (Permᴰ·symm p) (here refl)) on (successors-owned q a f r i o) | inr i ↦ h f (In-perm (Permᴰ·symm p) (there i)) l o ])
 
 -- so nothing of q's names is met after q's return
-pub unmet : {n nodes : ℕ} {L′ : List Frame} {es : List Entry} (q : Frame) (a : Action) (R : List Frame) → List·Permᴰ (successors q a ++ R) L′ → LiveRun n nodes L′ es → Disjoint (q ∷ R) → (r : Name) → Owns q r → a ≡ return → entriesOf r es ≡ []
+pub unmet : {n nodes places : ℕ} {L′ : List Frame} {es : List Entry} (q : Frame) (a : Action) (R : List Frame) → List·Permᴰ (successors q a ++ R) L′ → LiveRun n nodes places L′ es → Disjoint (q ∷ R) → (r : Name) → Owns q r → a ≡ return → entriesOf r es ≡ []
 unmet q a R p′ g c r o e = unowned g r (λ f m l o′. elim (In-cases (successors q return) (rw e at (In-perm (Permᴰ·symm p′) m))) [ inl i ↦ gone-returned q f (In-one i) l | inr i ↦ c .0 f i r o o′ ])
 
 -- a frame that has not returned does not end
@@ -55,8 +55,8 @@ steps-kept-mine q (read x) es r on ih out o = of-cons r (entry q (read x)) (chil
 steps-kept-mine q (fold x y) es r on ih out o = of-cons r (entry q (fold x y)) (childFirst es (q .name) (suc (q .spawned))) es (ih q (here refl) on r o)
 steps-kept-mine q (write x v) es r on ih out o = of-cons r (entry q (write x v)) (childFirst es (q .name) (suc (q .spawned))) es (ih (written q x v) (here refl) on r o)
 
-steps-kept-acted : {n nodes : ℕ} {L L′ : List Frame} {es : List Entry} (q : Frame) (a : Action) (R : List Frame) → List·Permᴰ L (q ∷ R) → q .returning ≡ false → List·Permᴰ (successors q a ++ R) L′
-    → LiveRun n nodes L′ es → Disjoint (q ∷ R) → Keeps es L′ → Keeps (entry q a ∷ es) L
+steps-kept-acted : {n nodes places : ℕ} {L L′ : List Frame} {es : List Entry} (q : Frame) (a : Action) (R : List Frame) → List·Permᴰ L (q ∷ R) → q .returning ≡ false → List·Permᴰ (successors q a ++ R) L′
+    → LiveRun n nodes places L′ es → Disjoint (q ∷ R) → Keeps es L′ → Keeps (entry q a ∷ es) L
 steps-kept-acted {es = es} q a R p on p′ g c ih f m l r o =
     elim (In-cons (In-perm p m)) [
       | inl e ↦ rw (e, childFirst-mine (entry q a) es (q .name) (suc (q .spawned)) (same-refl (q .name)))
@@ -72,7 +72,7 @@ steps-kept-acted {es = es} q a R p on p′ g c ih f m l r o =
         )
         (ih f (In-perm p′ (In-right (successors q a) i)) l r o)
 
-pub steps-kept : (n nodes : ℕ) {L : List Frame} {es : List Entry} → LiveRun n nodes L es → Disjoint L → Keeps es L
-steps-kept n nodes =
-    backward n nodes Keeps (λ f m. absurd (not-in-nil m)) (λ L L′ es p k f m. k f (In-perm p m)) (λ L es q R p e k f m l. k f (still p e m l) l)
+pub steps-kept : (n nodes places : ℕ) {L : List Frame} {es : List Entry} → LiveRun n nodes places L es → Disjoint L → Keeps es L
+steps-kept n nodes places =
+    backward n nodes places Keeps (λ f m. absurd (not-in-nil m)) (λ L L′ es p k f m. k f (In-perm p m)) (λ L es q R p e k f m l. k f (still p e m l) l)
     (λ L L′ es q a R p on ok p′ g c ih. steps-kept-acted q a R p on p′ g c ih)

@@ -184,7 +184,7 @@ counts-acted q a R s c k f m = elim (In-cases (successors q a) m) [ inl i ↦ ne
 
 -- ---- a run
 
-silent : {n nodes : ℕ} {L₁ L′ : List Frame} {es : List Entry} → Disjoint L₁ → ((f : Frame) → In f L′ → In f L₁) → LiveRun n nodes L′ es
+silent : {n nodes places : ℕ} {L₁ L′ : List Frame} {es : List Entry} → Disjoint L₁ → ((f : Frame) → In f L′ → In f L₁) → LiveRun n nodes places L′ es
     → (p : Name) → (f : Frame) × In f L₁ × (f .name ≡ p) → hasFrame p L′ ≡ false → entriesOf p es ≡ []
 silent {L₁ = L₁} {L′ = L′} c sub g p x h = unowned g p (λ f m l o.
     let e = one-owner L₁ c f (x .0) (sub f m) (x .1) p o (inl (sym (x .2))) in
@@ -259,8 +259,8 @@ totals-turn M t ss h tree dq ih W s k cs e =
     es : List Entry
     es = trace (afterTurn M t) ss
 
-    later : LiveRun ((afterTurn M t) .splitters) ((afterTurn M t) .nodes) L′ es
-    later = live-run _ _ (afterTurn M t) ss refl refl (tree-turn M t h tree) (deques-turn M t h tree dq) e
+    later : LiveRun ((afterTurn M t) .splitters) ((afterTurn M t) .nodes) ((afterTurn M t) .places) L′ es
+    later = live-run _ _ _ (afterTurn M t) ss refl refl refl (tree-turn M t h tree) (deques-turn M t h tree dq) e
 
 totals-run : (M : Machine) (ss : List Step) → FrameTree M → DequeInvariant M → TotalsAre ss M
 totals-run M [] tree dq W s k cs e = sym (ap (λ z. whole s [] z ++ W .totals) (none-viewed (W .views) (subst (λ L. NamesOf L (viewNames (W .views))) e (k .names))))
@@ -274,20 +274,20 @@ totals-run M (u ∷ ss) tree dq W s k cs e =
 
 -- ---- from a start
 
-module _ (w : ℕ) (vs : List ℕ) (nodes : ℕ) (ss : List Step) (returned : Returned (start w vs nodes) ss) where
-  totals-childFirst : totalsOf w vs nodes ss ≡ foldsIn (childFirst (traceOf w vs nodes ss) [] 1)
+module _ (w : ℕ) (vs : List ℕ) (nodes places : ℕ) (ss : List Step) (returned : Returned (start w vs nodes places) ss) where
+  totals-childFirst : totalsOf w vs nodes places ss ≡ foldsIn (childFirst (traceOf w vs nodes places ss) [] 1)
   totals-childFirst =
-      totals-run (start w vs nodes) ss (tree-start w vs nodes) (deques-start w vs nodes) viewsAtStart (λ r. 0) (post-start w vs nodes) (λ f m. zero-spawned f (subst (λ L. In f L) (live-start w vs nodes) m)) (returned-ends (start w vs nodes) ss (tree-start w vs nodes) returned)
+      totals-run (start w vs nodes places) ss (tree-start w vs nodes places) (deques-start w vs nodes places) viewsAtStart (λ r. 0) (post-start w vs nodes places) (λ f m. zero-spawned f (subst (λ L. In f L) (live-start w vs nodes places) m)) (returned-ends (start w vs nodes places) ss (tree-start w vs nodes places) returned)
       ∙ append-nil _ ∙ append-nil _
     where
       zero-spawned : (f : Frame) → In f (main vs ∷ []) → 0 ≡ f .spawned
       zero-spawned f m = ap (λ z. z .spawned) (sym (In-one m))
 
   -- "the values folded into its reducer, in the order of Main's child-first list"
-  pub totals-are : totalsOf w vs nodes ss ≡ mainFolds (traceOf w vs nodes ss)
-  totals-are = totals-childFirst ∙ ap foldsIn (sym (main-list w vs nodes ss returned))
+  pub totals-are : totalsOf w vs nodes places ss ≡ mainFolds (traceOf w vs nodes places ss)
+  totals-are = totals-childFirst ∙ ap foldsIn (sym (main-list w vs nodes places ss returned))
 
 -- "as in the one-worker run"
-pub totals-same : (w : ℕ) (vs : List ℕ) (nodes : ℕ) (ss : List Step) → Returned (start w vs nodes) ss → totalsOf w vs nodes ss ≡ totalsOf 1 vs nodes (oneWorkerOf w vs nodes ss)
-totals-same w vs nodes ss returned =
-    totals-childFirst w vs nodes ss returned ∙ ap foldsIn (sym (same-list w vs nodes ss returned)) ∙ sym (totals-childFirst 1 vs nodes (oneWorkerOf w vs nodes ss) ((demand3 w vs nodes ss returned) .returns))
+pub totals-same : (w : ℕ) (vs : List ℕ) (nodes places : ℕ) (ss : List Step) → Returned (start w vs nodes places) ss → totalsOf w vs nodes places ss ≡ totalsOf 1 vs nodes places (oneWorkerOf w vs nodes places ss)
+totals-same w vs nodes places ss returned =
+    totals-childFirst w vs nodes places ss returned ∙ ap foldsIn (sym (same-list w vs nodes places ss returned)) ∙ sym (totals-childFirst 1 vs nodes places (oneWorkerOf w vs nodes places ss) ((demand3 w vs nodes places ss returned) .returns))

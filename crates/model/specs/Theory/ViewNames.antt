@@ -276,8 +276,8 @@ turn-all M (stealing w v) ns h o f m = o .all f (In-perm (Permᴰ·symm ((steals
 pub names-turn : (M : Machine) (t : Turn) (ns : List Name) → Passes M t → NamesOf (live M) ns → NamesOf (live (afterTurn M t)) (liveNames (live (afterTurn M t)) (turnNames M t ns))
 names-turn M t ns h o = names-left (live (afterTurn M t)) (turnNames M t ns) (turn-all M t ns h o)
 
-pub names-start : (w : ℕ) (vs : List ℕ) (nodes : ℕ) → NamesOf (live (start w vs nodes)) ([] ∷ [])
-names-start w vs nodes = subst (λ L. NamesOf L ([] ∷ [])) (sym (live-start w vs nodes)) (record {
+pub names-start : (w : ℕ) (vs : List ℕ) (nodes places : ℕ) → NamesOf (live (start w vs nodes places)) ([] ∷ [])
+names-start w vs nodes places = subst (λ L. NamesOf L ([] ∷ [])) (sym (live-start w vs nodes places)) (record {
   alive = λ n i. (main vs, here refl, sym (In-one i));
   all = λ f i. here (ap (λ z. z .name) (In-one i));
 })

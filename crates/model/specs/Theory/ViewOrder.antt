@@ -172,13 +172,13 @@ views-ordered M W [] tree pos o = o
 views-ordered M W (s ∷ ss) tree pos o =
     views-ordered (step M s) (viewsAfter M W s) ss (tree-step M s tree) (step-kept (λ N. Positives (live N)) M (positive-turn M) s pos) (views-ordered-step M s W tree pos o)
 
-module _ (w : ℕ) (vs : List ℕ) (nodes : ℕ) where
-  in-order-start : InOrder (live (start w vs nodes)) ([] ∷ [])
-  in-order-start = record { names = names-start w vs nodes; ordered = ((λ m i. absurd (not-in-nil i)), tt) }
+module _ (w : ℕ) (vs : List ℕ) (nodes places : ℕ) where
+  in-order-start : InOrder (live (start w vs nodes places)) ([] ∷ [])
+  in-order-start = record { names = names-start w vs nodes places; ordered = ((λ m i. absurd (not-in-nil i)), tt) }
 
-  positive-start : Positives (live (start w vs nodes))
-  positive-start f m = subst Positive (ap (λ z. z .name) (sym (In-one (subst (λ L. In f L) (live-start w vs nodes) m)))) tt
+  positive-start : Positives (live (start w vs nodes places))
+  positive-start f m = subst Positive (ap (λ z. z .name) (sym (In-one (subst (λ L. In f L) (live-start w vs nodes places) m)))) tt
 
   -- at every moment there is one view for each live frame, in that order
-  pub views-in-order : (ss : List Step) → InOrder (live (run (start w vs nodes) ss)) (viewNames ((runViews (start w vs nodes) viewsAtStart ss) .views))
-  views-in-order ss = views-ordered (start w vs nodes) viewsAtStart ss (tree-start w vs nodes) positive-start in-order-start
+  pub views-in-order : (ss : List Step) → InOrder (live (run (start w vs nodes places) ss)) (viewNames ((runViews (start w vs nodes places) viewsAtStart ss) .views))
+  views-in-order ss = views-ordered (start w vs nodes places) viewsAtStart ss (tree-start w vs nodes places) positive-start in-order-start

@@ -115,7 +115,7 @@ module _ (N n : ℕ) (most : N ≤ 16384) (some : 0 < n) where
 
   -- ---- spawn: the acting frame's root is retained
 
-  pub good-spawn : (ws : List ℕ) (free k : ℕ) (F : Frame) (Fs : List Frame) → length Fs ≤ 64 → Good N n ws free k (F ∷ Fs) → After N n ws (F ∷ Fs) (F ∷ F ∷ Fs) (retain ws (F .0)) free k
+  pub good-spawn : (ws : List ℕ) (free k : ℕ) (F : Frame) (Fs : List Frame) → length Fs ≤ 256 → Good N n ws free k (F ∷ Fs) → After N n ws (F ∷ Fs) (F ∷ F ∷ Fs) (retain ws (F .0)) free k
   good-spawn ws free k F Fs few G =
       let P = live-spawn N (height n) n small (height-covers n) (G .live) (omega (arith, length-map (F ∷ Fs) (λ (K : Frame). K .0))) (F .0) (root-of F (F ∷ Fs) (here refl)) in
       record {
@@ -140,7 +140,7 @@ module _ (N n : ℕ) (most : N ≤ 16384) (some : 0 < n) where
 
   -- ---- write: a fresh mark, and as many free nodes as the rest of the path has that is new
 
-  pub good-write : (ws : List ℕ) (free k root : ℕ) (h : History) (Fs : List Frame) (e : Event) (v : ℕ) → length Fs ≤ 64 → e .splitter < n → rest (height n) ws root (e .splitter) ≤ k → Fresh (e .mark) ((root, h) ∷ Fs)
+  pub good-write : (ws : List ℕ) (free k root : ℕ) (h : History) (Fs : List Frame) (e : Event) (v : ℕ) → length Fs ≤ 256 → e .splitter < n → rest (height n) ws root (e .splitter) ≤ k → Fresh (e .mark) ((root, h) ∷ Fs)
       → Good N n ws free k ((root, h) ∷ Fs)
       → let p : List ℕ × ℕ × ℕ × ℕ = write (height n) ws free k root (e .splitter) v in
       After N n ws Fs ((p .3, e ∷ h) ∷ Fs) (p .0) (p .1) (p .2)
