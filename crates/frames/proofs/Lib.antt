@@ -1,3 +1,7 @@
 pub mod Loops
 pub mod Ends
-pub mod Links
+pub mod Ways
+pub mod Starting
+pub mod Lent
+pub mod Called
+pub mod Local

@@ -1,15 +1,11 @@
--- A turn and the end of the loops.
+-- A turn and the end of the loop over a deque.
 use mathlib.Core.Path.{_≡_, sym, ap, _∙_}
-use mathlib.Core.Bool.{cond}
 use mathlib.Core.List.{List}
 use Prim.Native.Nat.{ℕ, zero, suc, _+_, _-_, _*_, _≤_, _<_}
 use native.Mathlib.Omega.{arith}
-use lib.Dec.{eqb}
 use lib.ListN.{getD, set}
 use lib.Seq.{set-set, set-comm}
-use Rattle.words.specs.Basics.{none, plus}
 use Rattle.frames.specs.Widths.{dequePlaces, dequeStride}
-use Rattle.frames.specs.Frames.{setFrame, freePlace, initPlaces}
 use Rattle.frames.specs.Deques.{place, setPlace, shiftUp}
 use Rattle.frames.specs.Theory.Cells.{place-setPlace-other, shift-suc}
 
@@ -46,15 +42,3 @@ sink-turn d n k a b l =
 pub sink-done : (d : List ℕ) (n k : ℕ) → n ≤ k → shiftUp (n - k) d 0 (k - 1) ≡ d
 unfolding shiftUp
 sink-done d n k h = let e : n - k ≡ 0 = omega arith in rw e
-
--- ---- the start
-
-pub places-step : (fs : List ℕ) (p left : ℕ) → 0 < left → initPlaces (left - 1) (setFrame fs p (freePlace (cond (eqb (left - 1) 0) none (plus p 1)))) (plus p 1) ≡ initPlaces left fs p
-unfolding initPlaces
-places-step fs p left h =
-    let e : left ≡ suc (left - 1) = omega arith in
-    sym (ap (λ (n : ℕ). initPlaces n fs p) e)
-
-pub places-end : (fs : List ℕ) (p left : ℕ) → left ≤ 0 → initPlaces left fs p ≡ fs
-unfolding initPlaces
-places-end fs p left h = let e : left ≡ 0 = omega arith in ap (λ (n : ℕ). initPlaces n fs p) e

@@ -5,7 +5,7 @@ use lib.ListN.{getD, set}
 use Rattle.words.specs.Basics.{plus}
 use Rattle.frames.specs.Widths.{dequeStride}
 
--- document 02: "for each of 8 workers its deque length and 64 places for its frames from the top"
+-- document 02: "for each of 8 workers its deque length and .. places for its frames from the top"
 unfoldable pub size : List ℕ → ℕ → ℕ
 size ds w = getD ds (dequeStride * w) 0
 

@@ -18,7 +18,7 @@ use Rattle.frames.specs.Deques.{bottom, top, push, pop, dropTop}
 -- the deques, the frame table and the first free place
 pub record Table : Type 0 where
   pub deques : List ℕ
-  pub frames : List ℕ
+  pub frames : List Frame
   pub «free_place» : ℕ
 
 -- the frame that worker w executes
@@ -28,7 +28,7 @@ acting t w = frameAt (t .frames) (bottom (t .deques) w)
 -- ---- spawn: "a new frame, child of the worker's bottom frame and one deeper, goes to the bottom of the same deque"
 
 -- its other live children, if it has any: the youngest of them names the new one, at place g, as its next younger sibling
-abbrev pub linkChild : List ℕ → ℕ → ℕ → List ℕ
+abbrev pub linkChild : List Frame → ℕ → ℕ → List Frame
 linkChild fs p g = cond (eqb (frameAt fs p .outstanding) 0) fs (relink fs p none g)
 
 -- the child in the first free place
@@ -42,7 +42,7 @@ addChild t w =
       «free_place» = frameAt (t .frames) (t .«free_place») .parent;
     }
 
-abbrev pub withFrames : Table → List ℕ → Table
+abbrev pub withFrames : Table → List Frame → Table
 withFrames t fs = record { deques = t .deques; frames = fs; «free_place» = t .«free_place» }
 
 unfoldable pub spawn : Table → ℕ → Table
@@ -57,19 +57,19 @@ suspend t w f =
 
 -- the frame at place p ends: its place is free again, "the last freed is the first taken", and its parent, if it has one, has a live
 -- child less
-unfoldable pub removeFrame : List ℕ → ℕ → ℕ → List ℕ
+unfoldable pub removeFrame : List Frame → ℕ → ℕ → List Frame
 removeFrame fs free p =
     let q : ℕ = frameAt fs p .parent in
     cond (eqb q none) (setFrame fs p (freePlace free)) (setFrame (setFrame fs p (freePlace free)) q (withoutChild (frameAt fs q)))
 
 -- the frame at p has ended, and gs is the table without it: an elder sibling names the next younger one instead
-abbrev pub unlink : List ℕ → ℕ → List ℕ → List ℕ
+abbrev pub unlink : List Frame → ℕ → List Frame → List Frame
 unlink fs p gs = cond (onlyChild fs p) gs (relink gs (frameAt fs p .parent) p (frameAt fs p .younger))
 
 -- all of it; R-5: "the view of a frame that ends joins on the left of the next one's" (Main's becomes the totals: semantics)
-unfoldable pub endFrame : List ℕ → ℕ → ℕ → List ℕ
+unfoldable pub endFrame : List Frame → ℕ → ℕ → List Frame
 endFrame fs free p =
-    let gs : List ℕ = removeFrame fs free p in
+    let gs : List Frame = removeFrame fs free p in
     cond (eqb (frameAt fs p .parent) none) gs (joinAt (unlink fs p gs) (nextAfter fs p) (frameAt fs p .view))
 
 -- of the parent's record, already without the child that has ended: it "is suspended and has no live child left"

@@ -5,23 +5,20 @@ use Prim.Native.Nat.{ℕ, _+_, _*_}
 abbrev pub maxWorkers : ℕ
 maxWorkers = 8
 
--- "At most 64 live frames": the places of the frame table
-abbrev pub places : ℕ
-places = 64
+-- R-6: the frame table, "a slice of frame records .. Its length, 1 to 256"
+abbrev pub maxPlaces : ℕ
+maxPlaces = 256
 
 -- document 02: frame records "of live, parent .., depth, outstanding, suspended and root", by R-3 "a word for it, last", and by R-5, "last, the
 -- four view words and the next younger live sibling or none"
 abbrev pub recordWords : ℕ
 recordWords = 12
 
-abbrev pub frameWords : ℕ
-frameWords = places * recordWords
-
--- "64 places for its frames from the top": the places of a deque
+-- the places of a lent deque: as many as the longest table has
 abbrev pub dequePlaces : ℕ
-dequePlaces = 64
+dequePlaces = maxPlaces
 
--- "its deque length and 64 places"
+-- "its deque length and .. places"
 abbrev pub dequeStride : ℕ
 dequeStride = 1 + dequePlaces
 

@@ -1,9 +1,11 @@
-// The frame table and the workers' deques, in lent words; what the steps do to them. The lent words have their exact lengths,
-// so no function tests an index, but for frame_or_zero and join_if_place.
+// The frame records and the workers' deques, in lent words; what the steps do to them. The lent words have their exact lengths, so no function tests an
+// index.
 mod deques;
 mod records;
 mod siblings;
+mod start;
 mod steps;
+mod table;
 
 pub use deques::acting_place;
 pub use deques::init_deques;
@@ -11,21 +13,23 @@ pub use deques::place_at;
 pub use deques::pop_off;
 pub use deques::size_at;
 pub use deques::top_at;
-pub use records::frame_at;
-pub use records::frame_or_zero;
-pub use records::init_frames;
-pub use records::root_at;
-pub use records::set_root;
+pub use records::ends_too;
+pub use records::free_place;
+pub use records::with_root;
 use reducers::View;
+pub use start::clear_frames;
+pub use start::init_frames;
 pub use steps::end_below;
 pub use steps::end_frame;
-pub use steps::ends_too;
 pub use steps::fold_at;
 pub use steps::go_on;
 pub use steps::spawn_frame;
 pub use steps::steal_frame;
 pub use steps::sync_frame;
 pub use steps::wait_frame;
+pub use table::frame_at;
+pub use table::frame_or_zero;
+pub use table::put_frame;
 
 // document 01: "None is 4,294,967,295"
 pub const NONE: u32 = 4294967295;
@@ -33,16 +37,11 @@ pub const NONE: u32 = 4294967295;
 // The widths of specs/Widths.antt.
 pub const MAX_WORKERS: u32 = 8;
 
-pub const PLACES: u32 = 64;
+pub const MAX_PLACES: u32 = 256;
 
 pub const RECORD_WORDS: usize = 12;
 
-// A record's words but one.
-pub const OTHER_WORDS: u32 = RECORD_WORDS as u32 - 1;
-
-pub const FRAME_WORDS: usize = PLACES as usize * RECORD_WORDS;
-
-pub const DEQUE_PLACES: u32 = 64;
+pub const DEQUE_PLACES: u32 = 256;
 
 pub const DEQUE_STRIDE: usize = 1 + DEQUE_PLACES as usize;
 
@@ -50,6 +49,7 @@ pub const DEQUE_WORDS: usize = MAX_WORKERS as usize * DEQUE_STRIDE;
 
 // A frame record. live, suspended and returning are 0 or 1, and a frame that waits in its return is both suspended and returning;
 // parent is the parent's place, none for Main, and for a free place the next free place or none.
+#[repr(C)]
 pub struct Frame {
     pub live: u32,
     pub parent: u32,

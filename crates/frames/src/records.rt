@@ -1,23 +1,17 @@
-// Frame records: single records by value, the record at a place and its words, and the table at the start.
+// Single frame records by value: those that a step makes or changes, and what is asked of one.
 ghost use mathlib.Core.Path.{_≡_};
-ghost use mathlib.Core.Bool.{cond};
-ghost use Prim.Native.Nat.{_+_, _*_, _≤_, _<_};
-ghost use lib.Dec.{eqb};
-ghost use lib.ListN.{length, replicate};
-ghost use Rattle.words.specs.Basics.{none};
-ghost use Rattle.reducers.specs.Reducers.{withSum, withMin, withAffine, zeroView};
-ghost use Rattle.frames.specs.Widths.{places, recordWords, frameWords};
-ghost use Rattle.frames.specs.Frames.{frameAt, setFrame, withOutstanding, withSuspended, withRoot, withReturning, withView, withYounger, childOf, freePlace, mainFrame, initPlaces, initFrames};
+ghost use mathlib.Core.Bool.{cond, _&&_};
+ghost use lib.Dec.{eqb, ltb};
+ghost use Rattle.words.specs.Basics.{none, plus, minus};
+ghost use Rattle.reducers.specs.Reducers.{zeroView, joinView, foldView};
+ghost use Rattle.frames.specs.Frames.{withSuspended, withRoot, withView, withYounger, withoutChild, afterSpawn, asReturning, childOf, freePlace, mainFrame};
+ghost use Rattle.frames.specs.Steps.{waitsNoMore, endsToo};
 use super::Frame;
 use super::NONE;
-use super::OTHER_WORDS;
-use super::PLACES;
 use reducers::Affine;
 use reducers::Min;
 use reducers::Sum;
 use reducers::View;
-
-// ---- single records
 
 // A spawned child of the frame f at place p.
 pub fn child_of(f: Frame, p: u32) -> Frame
@@ -69,7 +63,7 @@ pub fn free_place(next: u32) -> Frame
 }
 
 // Main, with the tree of this root.
-fn main_frame(root: u32) -> Frame
+pub fn main_frame(root: u32) -> Frame
     ensures { λ r. ⌜ r ≡ mainFrame root ⌝ }
 {
     Frame {
@@ -85,216 +79,136 @@ fn main_frame(root: u32) -> Frame
     }
 }
 
-// ---- the table
+// ---- a record changed
 
-// Where the record at place p begins. (A sum that may wrap, for the compiler: it stays 32 bits wide.)
-fn start_of(p: u32) -> usize
-    requires { ⌜ p < places ⌝ }
-    ensures { λ r. ⌜ r ≡ recordWords * p ⌝ }
+// With another tree.
+pub fn with_root(f: Frame, root: u32) -> Frame
+    ensures { λ r. ⌜ r ≡ withRoot f root ⌝ }
 {
-    words::add(OTHER_WORDS * p, p) as usize
+    let mut g = f;
+    g.root = root;
+    g
 }
 
-// The record at place p.
-pub fn frame_at(frames: &[u32], p: u32) -> Frame
-    requires { ⌜ (length (now frames) ≡ frameWords) × (p < places) ⌝ }
-    ensures { λ r. ⌜ r ≡ frameAt (now (frames .entry)) p ⌝ }
+// Suspended (1) or not (0).
+pub fn with_suspended(f: Frame, s: u32) -> Frame
+    ensures { λ r. ⌜ r ≡ withSuspended f s ⌝ }
 {
-    let at = start_of(p);
-    Frame {
-        live: frames[at],
-        parent: frames[at + 1],
-        depth: frames[at + 2],
-        outstanding: frames[at + 3],
-        suspended: frames[at + 4],
-        root: frames[at + 5],
-        returning: frames[at + 6],
-        view: View {
-            sum: Sum {
-                value: frames[at + 7],
-            },
-            min: Min {
-                value: frames[at + 8],
-            },
-            affine: Affine {
-                multiplier: frames[at + 9],
-                addend: frames[at + 10],
-            },
-        },
-        younger: frames[at + 11],
+    let mut g = f;
+    g.suspended = s;
+    g
+}
+
+// It waits in its return.
+pub fn as_returning(f: Frame) -> Frame
+    ensures { λ r. ⌜ r ≡ asReturning f ⌝ }
+{
+    let mut g = f;
+    g.suspended = 1;
+    g.returning = 1;
+    g
+}
+
+// With another next younger sibling.
+pub fn with_younger(f: Frame, y: u32) -> Frame
+    ensures { λ r. ⌜ r ≡ withYounger f y ⌝ }
+{
+    let mut g = f;
+    g.younger = y;
+    g
+}
+
+// After its spawn.
+pub fn after_spawn(f: Frame) -> Frame
+    ensures { λ r. ⌜ r ≡ afterSpawn f ⌝ }
+{
+    let children = words::add(f.outstanding, 1);
+    let identity = View::IDENTITY;
+    let mut g = f;
+    g.outstanding = children;
+    g.view = identity;
+    g
+}
+
+// With a live child less.
+pub fn without_child(f: Frame) -> Frame
+    ensures { λ r. ⌜ r ≡ withoutChild f ⌝ }
+{
+    let mut g = f;
+    g.outstanding = words::sub(f.outstanding, 1);
+    g
+}
+
+// A view has joined its own on the left.
+pub fn joined(f: Frame, view: View) -> Frame
+    ensures { λ r. ⌜ r ≡ withView f (joinView view (f .view)) ⌝ }
+{
+    let own = f.view;
+    let mut g = f;
+    g.view = View::join(view, own);
+    g
+}
+
+// The value v is folded into reducer r of its view; a number that names no reducer folds nothing.
+pub fn folded(f: Frame, r: u32, v: u32) -> Frame
+    ensures { λ g. ⌜ g ≡ withView f (foldView (f .view) r v) ⌝ }
+{
+    let own = f.view;
+    let mut g = f;
+    g.view = View::folded(own, r, v);
+    g
+}
+
+// ---- what is asked of a record
+
+// Is it suspended, with no live child left?
+pub fn waits_no_more(f: Frame) -> bool
+    ensures { λ r. ⌜ r ≡ waitsNoMore f ⌝ }
+{
+    (f.suspended == 1) & (f.outstanding == 0)
+}
+
+// Does it, a child of which has ended, end too?
+pub fn ends_too(f: Frame) -> bool
+    ensures { λ r. ⌜ r ≡ endsToo f ⌝ }
+{
+    ((f.suspended == 1) & (f.outstanding == 0)) & (f.returning == 1)
+}
+
+// Is it a live child of the frame at place q?
+pub fn is_child(f: Frame, q: u32) -> bool
+    ensures { λ r. ⌜ r ≡ eqb (f .live) 1 && eqb (f .parent) q ⌝ }
+{
+    (f.live == 1) & (f.parent == q)
+}
+
+// Is it a live child of the frame at place q that names x as its next younger sibling?
+pub fn child_names(f: Frame, q: u32, x: u32) -> bool
+    ensures { λ r. ⌜ r ≡ (eqb (f .live) 1 && eqb (f .parent) q) && eqb (f .younger) x ⌝ }
+{
+    ((f.live == 1) & (f.parent == q)) & (f.younger == x)
+}
+
+// The sum e and, if the record at place c is a live child of q, its place less the one that it names.
+pub fn eldest_with(f: Frame, q: u32, c: u32, e: u32) -> u32
+    ensures { λ r. ⌜ r ≡ cond (eqb (f .live) 1 && eqb (f .parent) q) (minus (plus e c) (f .younger)) e ⌝ }
+{
+    if is_child(f, q) {
+        return words::wrapping_sub(words::add(e, c), f.younger);
     }
+    e
 }
 
-// The record at place p, and zeros where p is no place.
-pub fn frame_or_zero(frames: &[u32], p: u32) -> Frame
-    requires { ⌜ length (now frames) ≡ frameWords ⌝ }
-    ensures { λ r. ⌜ r ≡ frameAt (now (frames .entry)) p ⌝ }
+// Is p one of n places?
+pub fn is_place(p: u32, n: usize) -> bool
+    ensures { λ r. ⌜ r ≡ ltb p n ⌝ }
 {
-    if p < PLACES {
-        frame_at(frames, p)
-    } else {
-        free_place(0)
-    }
+    (p as usize) < n
 }
-
-// Stores the record at place p.
-pub fn put_frame(frames: &mut [u32], p: u32, f: Frame)
-    requires { ⌜ (length (now frames) ≡ frameWords) × (p < places) ⌝ }
-    ensures { λ _. ⌜ now (frames .exit) ≡ setFrame (now (frames .entry)) p f ⌝ }
-{
-    let at = start_of(p);
-    frames[at] = f.live;
-    frames[at + 1] = f.parent;
-    frames[at + 2] = f.depth;
-    frames[at + 3] = f.outstanding;
-    frames[at + 4] = f.suspended;
-    frames[at + 5] = f.root;
-    frames[at + 6] = f.returning;
-    frames[at + 7] = f.view.sum.value;
-    frames[at + 8] = f.view.min.value;
-    frames[at + 9] = f.view.affine.multiplier;
-    frames[at + 10] = f.view.affine.addend;
-    frames[at + 11] = f.younger;
-}
-
-// The root of the frame at place p.
-pub fn root_at(frames: &[u32], p: u32) -> u32
-    requires { ⌜ (length (now frames) ≡ frameWords) × (p < places) ⌝ }
-    ensures { λ r. ⌜ r ≡ frameAt (now (frames .entry)) p .root ⌝ }
-{
-    frames[start_of(p) + 5]
-}
-
-// How many live children has the frame at place p?
-pub fn outstanding_at(frames: &[u32], p: u32) -> u32
-    requires { ⌜ (length (now frames) ≡ frameWords) × (p < places) ⌝ }
-    ensures { λ r. ⌜ r ≡ frameAt (now (frames .entry)) p .outstanding ⌝ }
-{
-    frames[start_of(p) + 3]
-}
-
-// Is the frame at place p suspended?
-pub fn suspended_at(frames: &[u32], p: u32) -> u32
-    requires { ⌜ (length (now frames) ≡ frameWords) × (p < places) ⌝ }
-    ensures { λ r. ⌜ r ≡ frameAt (now (frames .entry)) p .suspended ⌝ }
-{
-    frames[start_of(p) + 4]
-}
-
-// Is the frame at place p returning?
-pub fn returning_at(frames: &[u32], p: u32) -> u32
-    requires { ⌜ (length (now frames) ≡ frameWords) × (p < places) ⌝ }
-    ensures { λ r. ⌜ r ≡ frameAt (now (frames .entry)) p .returning ⌝ }
-{
-    frames[start_of(p) + 6]
-}
-
-// Gives the frame at place p another number of live children.
-pub fn set_outstanding(frames: &mut [u32], p: u32, n: u32)
-    requires { ⌜ (length (now frames) ≡ frameWords) × (p < places) ⌝ }
-    ensures { λ _. ⌜ now (frames .exit) ≡ setFrame (now (frames .entry)) p (withOutstanding (frameAt (now (frames .entry)) p) n) ⌝ }
-{
-    frames[start_of(p) + 3] = n;
-}
-
-// The frame at place p is suspended (1) or not (0).
-pub fn set_suspended(frames: &mut [u32], p: u32, s: u32)
-    requires { ⌜ (length (now frames) ≡ frameWords) × (p < places) ⌝ }
-    ensures { λ _. ⌜ now (frames .exit) ≡ setFrame (now (frames .entry)) p (withSuspended (frameAt (now (frames .entry)) p) s) ⌝ }
-{
-    frames[start_of(p) + 4] = s;
-}
-
-// Gives the frame at place p another tree.
-pub fn set_root(frames: &mut [u32], p: u32, root: u32)
-    requires { ⌜ (length (now frames) ≡ frameWords) × (p < places) ⌝ }
-    ensures { λ _. ⌜ now (frames .exit) ≡ setFrame (now (frames .entry)) p (withRoot (frameAt (now (frames .entry)) p) root) ⌝ }
-{
-    frames[start_of(p) + 5] = root;
-}
-
-// The frame at place p is returning (1) or not (0).
-pub fn set_returning(frames: &mut [u32], p: u32, b: u32)
-    requires { ⌜ (length (now frames) ≡ frameWords) × (p < places) ⌝ }
-    ensures { λ _. ⌜ now (frames .exit) ≡ setFrame (now (frames .entry)) p (withReturning (frameAt (now (frames .entry)) p) b) ⌝ }
-{
-    frames[start_of(p) + 6] = b;
-}
-
-// Gives the frame at place p another view.
-pub fn set_view(frames: &mut [u32], p: u32, view: View)
-    requires { ⌜ (length (now frames) ≡ frameWords) × (p < places) ⌝ }
-    ensures { λ _. ⌜ now (frames .exit) ≡ setFrame (now (frames .entry)) p (withView (frameAt (now (frames .entry)) p) view) ⌝ }
-{
-    let at = start_of(p);
-    frames[at + 7] = view.sum.value;
-    frames[at + 8] = view.min.value;
-    frames[at + 9] = view.affine.multiplier;
-    frames[at + 10] = view.affine.addend;
-}
-
-// One part of the view of the frame at place p.
-pub fn set_sum(frames: &mut [u32], p: u32, sum: Sum)
-    requires { ⌜ (length (now frames) ≡ frameWords) × (p < places) ⌝ }
-    ensures { λ _. ⌜ now (frames .exit) ≡ setFrame (now (frames .entry)) p (withView (frameAt (now (frames .entry)) p) (withSum (frameAt (now (frames .entry)) p .view) sum)) ⌝ }
-{
-    frames[start_of(p) + 7] = sum.value;
-}
-
-pub fn set_min(frames: &mut [u32], p: u32, min: Min)
-    requires { ⌜ (length (now frames) ≡ frameWords) × (p < places) ⌝ }
-    ensures { λ _. ⌜ now (frames .exit) ≡ setFrame (now (frames .entry)) p (withView (frameAt (now (frames .entry)) p) (withMin (frameAt (now (frames .entry)) p .view) min)) ⌝ }
-{
-    frames[start_of(p) + 8] = min.value;
-}
-
-pub fn set_affine(frames: &mut [u32], p: u32, affine: Affine)
-    requires { ⌜ (length (now frames) ≡ frameWords) × (p < places) ⌝ }
-    ensures { λ _. ⌜ now (frames .exit) ≡ setFrame (now (frames .entry)) p (withView (frameAt (now (frames .entry)) p) (withAffine (frameAt (now (frames .entry)) p .view) affine)) ⌝ }
-{
-    let at = start_of(p);
-    frames[at + 9] = affine.multiplier;
-    frames[at + 10] = affine.addend;
-}
-
-// Gives the frame at place p another next younger sibling.
-pub fn set_younger(frames: &mut [u32], p: u32, y: u32)
-    requires { ⌜ (length (now frames) ≡ frameWords) × (p < places) ⌝ }
-    ensures { λ _. ⌜ now (frames .exit) ≡ setFrame (now (frames .entry)) p (withYounger (frameAt (now (frames .entry)) p) y) ⌝ }
-{
-    frames[start_of(p) + 11] = y;
-}
-
-// ---- the start
 
 // The link of a free place with so many free places after it, the first of them at next.
-fn link(left: u32, next: u32) -> u32
+pub fn link(left: u32, next: u32) -> u32
     ensures { λ r. ⌜ r ≡ cond (eqb left 0) none next ⌝ }
 {
     if left == 0 { NONE } else { next }
-}
-
-// count free places from place first on, in rising order.
-fn init_places(frames: &mut [u32], count: u32, first: u32)
-    requires { ⌜ (length (now frames) ≡ frameWords) × (first + count ≤ places) ⌝ }
-    ensures { λ _. ⌜ now (frames .exit) ≡ initPlaces count (now (frames .entry)) first ⌝ }
-{
-    let mut left = count;
-    let mut p = first;
-    while left > 0 {
-        left -= 1;
-        let next = words::add(p, 1);
-        put_frame(frames, p, free_place(link(left, next)));
-        p = next;
-    }
-}
-
-// The start, whatever the words held: Main in place 0, with node 0 as its root; the other places are free.
-pub fn init_frames(frames: &mut [u32])
-    requires { ⌜ length (now frames) ≡ frameWords ⌝ }
-    ensures { λ _. ⌜ now (frames .exit) ≡ initFrames (replicate frameWords 0) ⌝ }
-{
-    words::clear_all(frames);
-    put_frame(frames, 0, main_frame(0));
-    init_places(frames, PLACES - 1, 1);
 }

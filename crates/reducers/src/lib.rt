@@ -1,25 +1,29 @@
 // The reducers of document 02's R-5, each a type with its identity and the join of two views; a frame's view has one of each. Joined, the
 // earlier one stands on the left.
 ghost use mathlib.Core.Path.{_≡_};
-ghost use Rattle.reducers.specs.Reducers.{joinSum, joinMin, joinAffine, identityView, joinView, foldedAffine};
+ghost use Rattle.reducers.specs.Reducers.{joinSum, joinMin, joinAffine, identityView, joinView, foldedAffine, foldView};
 
 // 0, the sum modulo 4,294,967,296.
+#[repr(C)]
 pub struct Sum {
     pub value: u32,
 }
 
 // 1, the minimum.
+#[repr(C)]
 pub struct Min {
     pub value: u32,
 }
 
 // 2, the affine map, multiply then add, modulo 4,294,967,296.
+#[repr(C)]
 pub struct Affine {
     pub multiplier: u32,
     pub addend: u32,
 }
 
 // What a frame has folded, of each reducer.
+#[repr(C)]
 pub struct View {
     pub sum: Sum,
     pub min: Min,
@@ -97,5 +101,24 @@ impl View {
             min: Min::join(a.min, b.min),
             affine: Affine::join(a.affine, b.affine),
         }
+    }
+
+    // The value v folded into reducer r; a number that names no reducer folds nothing.
+    pub fn folded(w: View, r: u32, v: u32) -> View
+        ensures { λ g. ⌜ g ≡ foldView w r v ⌝ }
+    {
+        let mut g = w;
+        if r == 0 {
+            g.sum = Sum::join(w.sum, Sum { value: v });
+            return g;
+        }
+        if r == 1 {
+            g.min = Min::join(w.min, Min { value: v });
+            return g;
+        }
+        if r == 2 {
+            g.affine = Affine::join(w.affine, Affine::of_value(v));
+        }
+        g
     }
 }

@@ -15,7 +15,6 @@ use Rattle.words.specs.Tests.{decided}
 use Rattle.reducers.specs.declared.View.{View}
 use Rattle.reducers.specs.Reducers.{joinView}
 use Rattle.frames.specs.declared.Frame.{Frame}
-use Rattle.frames.specs.Widths.{places, frameWords}
 use Rattle.frames.specs.Frames.{frameAt, setFrame, withView, withYounger, withoutChild, freePlace}
 use Rattle.frames.specs.Siblings.{liveChild, younger, names, onlyChild, nextAfter, joinAt}
 use Rattle.frames.specs.Steps.{removeFrame, unlink, endFrame}
@@ -24,8 +23,8 @@ use Rattle.frames.specs.Theory.Alike.{join-same, join-other}
 use Rattle.frames.specs.Theory.Links.{unlink-alike, length-unlink, names-live, relink-view, relink-record}
 use Rattle.frames.specs.Theory.Ends.{length-remove, end-joins}
 
-module _ (fs : List ℕ) (free p : ℕ) (l : length fs ≡ frameWords) (b : p < places) (q : ℕ) (up : frameAt fs p .parent ≡ q) (n : q ≢ none) (bq : q < places) (qp : q ≢ p) where
-  abbrev gs : List ℕ
+module _ (fs : List Frame) (free p : ℕ) (b : p < length fs) (q : ℕ) (up : frameAt fs p .parent ≡ q) (n : q ≢ none) (bq : q < length fs) (qp : q ≢ p) where
+  abbrev gs : List Frame
   gs = removeFrame fs free p
 
   pub removed-is : gs ≡ setFrame (setFrame fs p (freePlace free)) q (withoutChild (frameAt fs q))
@@ -33,23 +32,27 @@ module _ (fs : List ℕ) (free p : ℕ) (l : length fs ≡ frameWords) (b : p < 
   removed-is = rw (up, ne-eqb q none n)
 
   pub removed-own : frameAt gs p ≡ freePlace free
-  removed-own = ap (λ (hs : List ℕ). frameAt hs p) removed-is ∙ frame-set-other _ q p _ (λ e. qp (sym e)) ∙ frame-set-same fs p (freePlace free) l b
+  removed-own = ap (λ (hs : List Frame). frameAt hs p) removed-is ∙ frame-set-other _ q p _ (λ e. qp (sym e)) ∙ frame-set-same fs p (freePlace free) b
 
   pub removed-parent : frameAt gs q ≡ withoutChild (frameAt fs q)
-  removed-parent = ap (λ (hs : List ℕ). frameAt hs q) removed-is ∙ frame-set-same _ q _ (length-setFrame fs p _ ∙ l) bq
+  removed-parent = ap (λ (hs : List Frame). frameAt hs q) removed-is ∙ frame-set-same _ q _ (omega (arith, length-setFrame fs p (freePlace free), bq))
 
   -- a part that the parent's record keeps
   removed-part : {A : Type 0} (part : Frame → A) → ((f : Frame) → part (withoutChild f) ≡ part f) → (x : ℕ) → x ≢ p → part (frameAt gs x) ≡ part (frameAt fs x)
   removed-part part h x d = elim (ℕ-discrete x q) [
     | yes e ↦ ap (λ (y : ℕ). part (frameAt gs y)) e ∙ ap part removed-parent ∙ h (frameAt fs q) ∙ ap (λ (y : ℕ). part (frameAt fs y)) (sym e)
-    | no e ↦ ap part (ap (λ (hs : List ℕ). frameAt hs x) removed-is ∙ frame-set-other _ q x _ e ∙ frame-set-other fs p x _ d)
+    | no e ↦ ap part (ap (λ (hs : List Frame). frameAt hs x) removed-is ∙ frame-set-other _ q x _ e ∙ frame-set-other fs p x _ d)
   ]
 
-  abbrev hs : List ℕ
+  abbrev hs : List Frame
   hs = unlink fs p gs
 
-  long-hs : length hs ≡ frameWords
-  long-hs = length-unlink fs p gs ∙ length-remove fs free p ∙ l
+  -- the table keeps its length
+  long-gs : length gs ≡ length fs
+  long-gs = length-remove fs free p
+
+  long-hs : length hs ≡ length fs
+  long-hs = length-unlink fs p gs ∙ long-gs
 
   -- ---- the links
 
@@ -71,16 +74,16 @@ module _ (fs : List ℕ) (free p : ℕ) (l : length fs ≡ frameWords) (b : p < 
 
   -- one child at most of the same parent names the frame
   abbrev NamedOnce : Type 0
-  NamedOnce = (c d : ℕ) → c < places → d < places → names fs q p c ≡ true → names fs q p d ≡ true → c ≡ d
+  NamedOnce = (c d : ℕ) → c < length fs → d < length fs → names fs q p c ≡ true → names fs q p d ≡ true → c ≡ d
 
   link-unlinked : NamedOnce → (x : ℕ) → x ≢ p → younger hs x ≡ linkAfter x
   link-unlinked once x d = elim (decided (onlyChild fs p)) [
     | inl e ↦ rw e (younger-kept x d)
-    | inr e ↦ rw (e, up) (ap (λ (f : Frame). f .younger) (relink-record gs q p (younger fs p) (length-remove fs free p ∙ l) still x) ∙ picks (names gs q p x) ∙ same-test)
+    | inr e ↦ rw (e, up) (ap (λ (f : Frame). f .younger) (relink-record gs q p (younger fs p) still x) ∙ picks (names gs q p x) ∙ same-test)
   ]
     where
-      still : (c d : ℕ) → c < places → d < places → names gs q p c ≡ true → names gs q p d ≡ true → c ≡ d
-      still c d b k t u = once c d b k (names-kept c t) (names-kept d u)
+      still : (c d : ℕ) → c < length gs → d < length gs → names gs q p c ≡ true → names gs q p d ≡ true → c ≡ d
+      still c d b k t u = once c d (omega (arith, long-gs)) (omega (arith, long-gs)) (names-kept c t) (names-kept d u)
 
       picks : (t : Bool) → (cond t (withYounger (frameAt gs x) (younger fs p)) (frameAt gs x)) .younger ≡ cond t (younger fs p) (younger gs x)
       picks true = refl
@@ -92,34 +95,34 @@ module _ (fs : List ℕ) (free p : ℕ) (l : length fs ≡ frameWords) (b : p < 
   view-unlinked : (x : ℕ) → x ≢ p → frameAt hs x .view ≡ frameAt fs x .view
   view-unlinked x d = elim (decided (onlyChild fs p)) [
     | inl e ↦ rw e (removed-part (λ (f : Frame). f .view) (λ f. refl) x d)
-    | inr e ↦ rw (e, up) (relink-view gs q p (younger fs p) (length-remove fs free p ∙ l) x ∙ removed-part (λ (f : Frame). f .view) (λ f. refl) x d)
+    | inr e ↦ rw (e, up) (relink-view gs q p (younger fs p) x ∙ removed-part (λ (f : Frame). f .view) (λ f. refl) x d)
   ]
 
   -- ---- after the join; m is the next one
 
-  module _ (m : ℕ) (next : nextAfter fs p ≡ m) (bm : m < places) where
-    abbrev es : List ℕ
+  module _ (m : ℕ) (next : nextAfter fs p ≡ m) (bm : m < length fs) where
+    abbrev es : List Frame
     es = endFrame fs free p
 
     ended-is : es ≡ joinAt hs m (frameAt fs p .view)
-    ended-is = end-joins fs free p l (λ z. n (sym up ∙ z)) ∙ ap (λ (k : ℕ). joinAt hs k (frameAt fs p .view)) next
+    ended-is = end-joins fs free p (λ z. n (sym up ∙ z)) ∙ ap (λ (k : ℕ). joinAt hs k (frameAt fs p .view)) next
 
     -- a part that is not the view
     joined-part : {A : Type 0} (part : Frame → A) → ((f : Frame) (w : View) → part (withView f w) ≡ part f) → (x : ℕ) → part (frameAt es x) ≡ part (frameAt hs x)
-    joined-part part h x = ap (λ (ks : List ℕ). part (frameAt ks x)) ended-is ∙ elim (ℕ-discrete x m) [
-      | yes e ↦ ap (λ (y : ℕ). part (frameAt (joinAt hs m (frameAt fs p .view)) y)) e ∙ ap part (join-same hs m (frameAt fs p .view) long-hs bm) ∙ h (frameAt hs m) _ ∙ ap (λ (y : ℕ). part (frameAt hs y)) (sym e)
+    joined-part part h x = ap (λ (ks : List Frame). part (frameAt ks x)) ended-is ∙ elim (ℕ-discrete x m) [
+      | yes e ↦ ap (λ (y : ℕ). part (frameAt (joinAt hs m (frameAt fs p .view)) y)) e ∙ ap part (join-same hs m (frameAt fs p .view) (omega (arith, long-hs, bm))) ∙ h (frameAt hs m) _ ∙ ap (λ (y : ℕ). part (frameAt hs y)) (sym e)
       | no e ↦ ap part (join-other hs m x (frameAt fs p .view) e)
     ]
 
     unlinked-alike-live : (x : ℕ) → frameAt hs x .live ≡ frameAt gs x .live
-    unlinked-alike-live x = unlink-alike fs p gs (length-remove fs free p ∙ l) .same x .live
+    unlinked-alike-live x = unlink-alike fs p gs .same x .live
 
     pub ended-live : (x : ℕ) → x ≢ p → frameAt es x .live ≡ frameAt fs x .live
     ended-live x d = joined-part (λ (f : Frame). f .live) (λ f w. refl) x ∙ unlinked-alike-live x ∙ removed-part (λ (f : Frame). f .live) (λ f. refl) x d
 
     pub ended-parent : (x : ℕ) → x ≢ p → frameAt es x .parent ≡ frameAt fs x .parent
     ended-parent x d =
-        joined-part (λ (f : Frame). f .parent) (λ f w. refl) x ∙ unlink-alike fs p gs (length-remove fs free p ∙ l) .same x .parent
+        joined-part (λ (f : Frame). f .parent) (λ f w. refl) x ∙ unlink-alike fs p gs .same x .parent
         ∙ removed-part (λ (f : Frame). f .parent) (λ f. refl) x d
 
     pub ended-own : frameAt es p .live ≡ 0
@@ -131,8 +134,8 @@ module _ (fs : List ℕ) (free p : ℕ) (l : length fs ≡ frameWords) (b : p < 
     -- "joins on the left of the next one's"
     pub ended-next : m ≢ p → frameAt es m .view ≡ joinView (frameAt fs p .view) (frameAt fs m .view)
     ended-next d =
-        ap (λ (ks : List ℕ). frameAt ks m .view) ended-is ∙ ap (λ (f : Frame). f .view) (join-same hs m (frameAt fs p .view) long-hs bm)
+        ap (λ (ks : List Frame). frameAt ks m .view) ended-is ∙ ap (λ (f : Frame). f .view) (join-same hs m (frameAt fs p .view) (omega (arith, long-hs, bm)))
         ∙ ap (joinView (frameAt fs p .view)) (view-unlinked m d)
 
     pub ended-view : (x : ℕ) → x ≢ p → x ≢ m → frameAt es x .view ≡ frameAt fs x .view
-    ended-view x d e = ap (λ (ks : List ℕ). frameAt ks x .view) ended-is ∙ ap (λ (f : Frame). f .view) (join-other hs m x (frameAt fs p .view) e) ∙ view-unlinked x d
+    ended-view x d e = ap (λ (ks : List Frame). frameAt ks x .view) ended-is ∙ ap (λ (f : Frame). f .view) (join-other hs m x (frameAt fs p .view) e) ∙ view-unlinked x d

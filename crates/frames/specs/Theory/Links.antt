@@ -12,7 +12,6 @@ use lib.ListN.{length}
 use Rattle.words.specs.Basics.{none}
 use Rattle.words.specs.Tests.{decided, true≢false, both}
 use Rattle.frames.specs.declared.Frame.{Frame}
-use Rattle.frames.specs.Widths.{places, frameWords}
 use Rattle.frames.specs.Frames.{frameAt, setFrame, withYounger}
 use Rattle.frames.specs.Siblings.{liveChild, younger, names, relinkFrom, relink, onlyChild}
 use Rattle.frames.specs.Steps.{linkChild, unlink}
@@ -20,12 +19,12 @@ use Rattle.frames.specs.Theory.Records.{length-setFrame, frame-set-same,
 use Rattle.frames.specs.Theory.Alike.{Alike, frame-but, alike-refl, alike-set}
 
 -- a child that names
-pub names-live : (fs : List ℕ) (q x c : ℕ) → names fs q x c ≡ true → frameAt fs c .live ≡ 1
+pub names-live : (fs : List Frame) (q x c : ℕ) → names fs q x c ≡ true → frameAt fs c .live ≡ 1
 names-live fs q x c t =
     let child = both (liveChild fs q c) (eqb (younger fs c) x) t .0 in
     eqb-true (frameAt fs c .live) 1 (both (eqb (frameAt fs c .live) 1) (eqb (frameAt fs c .parent) q) child .0)
 
-module _ (fs : List ℕ) (q x y : ℕ) where
+module _ (fs : List Frame) (q x y : ℕ) where
   -- the record of the child that names
   abbrev renamed : ℕ → Frame
   renamed c = withYounger (frameAt fs c) y
@@ -48,85 +47,84 @@ module _ (fs : List ℕ) (q x y : ℕ) where
   ]
 
   pub length-relink : length (relink fs q x y) ≡ length fs
-  length-relink = elim (found places 0) [
+  length-relink = elim (found (length fs) 0) [
     | inl r ↦ ap length (r .4) ∙ length-setFrame fs (r .0) (renamed (r .0))
     | inr r ↦ ap length (r .1)
   ]
 
   -- the record of another one stays
   pub relink-none : (p : ℕ) → names fs q x p ≡ false → frameAt (relink fs q x y) p ≡ frameAt fs p
-  relink-none p n = elim (found places 0) [
-    | inl r ↦ ap (λ (gs : List ℕ). frameAt gs p) (r .4) ∙ frame-set-other fs (r .0) p (renamed (r .0)) (λ e. true≢false (sym (r .3) ∙ ap (names fs q x) (sym e) ∙ n))
-    | inr r ↦ ap (λ (gs : List ℕ). frameAt gs p) (r .1)
+  relink-none p n = elim (found (length fs) 0) [
+    | inl r ↦ ap (λ (gs : List Frame). frameAt gs p) (r .4) ∙ frame-set-other fs (r .0) p (renamed (r .0)) (λ e. true≢false (sym (r .3) ∙ ap (names fs q x) (sym e) ∙ n))
+    | inr r ↦ ap (λ (gs : List Frame). frameAt gs p) (r .1)
   ]
 
-  module _ (l : length fs ≡ frameWords) where
-    pub relink-alike : Alike fs (relink fs q x y)
-    relink-alike = elim (found places 0) [
-      | inl r ↦ rw (r .4) (alike-set fs (r .0) (renamed (r .0)) l (omega (arith, r .2)) (names-live fs q x (r .0) (r .3)) (frame-but (frameAt fs (r .0)) (frameAt fs (r .0) .view) y))
-      | inr r ↦ rw (r .1) (alike-refl fs)
+  pub relink-alike : Alike fs (relink fs q x y)
+  relink-alike = elim (found (length fs) 0) [
+    | inl r ↦ rw (r .4) (alike-set fs (r .0) (renamed (r .0)) (omega (arith, r .2)) (names-live fs q x (r .0) (r .3)) (frame-but (frameAt fs (r .0)) (frameAt fs (r .0) .view) y))
+    | inr r ↦ rw (r .1) (alike-refl fs)
+  ]
+
+  -- the views stay
+  pub relink-view : (p : ℕ) → frameAt (relink fs q x y) p .view ≡ frameAt fs p .view
+  relink-view p = elim (found (length fs) 0) [
+    | inl r ↦ elim (ℕ-discrete p (r .0)) [
+      | yes e ↦ rw (r .4, e, frame-set-same fs (r .0) (renamed (r .0)) (omega (arith, r .2)))
+      | no e ↦ rw (r .4, frame-set-other fs (r .0) p (renamed (r .0)) e)
+    ]
+    | inr r ↦ rw (r .1)
+  ]
+
+  -- where one child at most names x
+  module _ (once : (c d : ℕ) → c < length fs → d < length fs → names fs q x c ≡ true → names fs q x d ≡ true → c ≡ d) where
+    relink-some : (p : ℕ) → p < length fs → names fs q x p ≡ true → frameAt (relink fs q x y) p ≡ renamed p
+    relink-some p b t = elim (found (length fs) 0) [
+      | inl r ↦ (let e : p ≡ r .0 = once p (r .0) b (omega (arith, r .2)) t (r .3) in rw (r .4, e) (frame-set-same fs (r .0) (renamed (r .0)) (omega (arith, r .2))))
+      | inr r ↦ absurd (true≢false (sym t ∙ r .0 p (omega arith) (omega arith)))
     ]
 
-    -- the views stay
-    pub relink-view : (p : ℕ) → frameAt (relink fs q x y) p .view ≡ frameAt fs p .view
-    relink-view p = elim (found places 0) [
-      | inl r ↦ elim (ℕ-discrete p (r .0)) [
-        | yes e ↦ rw (r .4, e, frame-set-same fs (r .0) (renamed (r .0)) l (omega (arith, r .2)))
-        | no e ↦ rw (r .4, frame-set-other fs (r .0) p (renamed (r .0)) e)
-      ]
-      | inr r ↦ rw (r .1)
+    -- past the table no frame lives
+    names-within : (p : ℕ) → names fs q x p ≡ true → p < length fs
+    names-within p t = elim (decLt p (length fs)) [
+      | yes b ↦ b
+      | no b ↦ absurd (omega (arith, names-live fs q x p t, ap (λ (f : Frame). f .live) (frame-past fs p (omega arith))))
     ]
 
-    -- where one child at most names x
-    module _ (once : (c d : ℕ) → c < places → d < places → names fs q x c ≡ true → names fs q x d ≡ true → c ≡ d) where
-      relink-some : (p : ℕ) → p < places → names fs q x p ≡ true → frameAt (relink fs q x y) p ≡ renamed p
-      relink-some p b t = elim (found places 0) [
-        | inl r ↦ (let e : p ≡ r .0 = once p (r .0) b (omega (arith, r .2)) t (r .3) in rw (r .4, e) (frame-set-same fs (r .0) (renamed (r .0)) l (omega (arith, r .2))))
-        | inr r ↦ absurd (true≢false (sym t ∙ r .0 p (omega arith) (omega arith)))
-      ]
-
-      -- past the table no frame lives
-      names-within : (p : ℕ) → names fs q x p ≡ true → p < places
-      names-within p t = elim (decLt p places) [
-        | yes b ↦ b
-        | no b ↦ absurd (omega (arith, names-live fs q x p t, ap (λ (f : Frame). f .live) (frame-past fs p l (omega arith))))
-      ]
-
-      pub relink-record : (p : ℕ) → frameAt (relink fs q x y) p ≡ cond (names fs q x p) (renamed p) (frameAt fs p)
-      relink-record p = elim (decided (names fs q x p)) [
-        | inl t ↦ relink-some p (names-within p t) t ∙ sym (rw t)
-        | inr t ↦ relink-none p t ∙ sym (rw t)
-      ]
+    pub relink-record : (p : ℕ) → frameAt (relink fs q x y) p ≡ cond (names fs q x p) (renamed p) (frameAt fs p)
+    relink-record p = elim (decided (names fs q x p)) [
+      | inl t ↦ relink-some p (names-within p t) t ∙ sym (rw t)
+      | inr t ↦ relink-none p t ∙ sym (rw t)
+    ]
 
 -- ---- a spawn and an end
 
 -- the youngest child names the new one
-pub link-alike : (fs : List ℕ) (p g : ℕ) → length fs ≡ frameWords → Alike fs (linkChild fs p g)
-link-alike fs p g l = elim (decided (eqb (frameAt fs p .outstanding) 0)) [
+pub link-alike : (fs : List Frame) (p g : ℕ) → Alike fs (linkChild fs p g)
+link-alike fs p g = elim (decided (eqb (frameAt fs p .outstanding) 0)) [
   | inl e ↦ rw e (alike-refl fs)
-  | inr e ↦ rw e (relink-alike fs p none g l)
+  | inr e ↦ rw e (relink-alike fs p none g)
 ]
 
-pub link-view : (fs : List ℕ) (p g : ℕ) → length fs ≡ frameWords → (q : ℕ) → frameAt (linkChild fs p g) q .view ≡ frameAt fs q .view
-link-view fs p g l q = elim (decided (eqb (frameAt fs p .outstanding) 0)) [
+pub link-view : (fs : List Frame) (p g : ℕ) → (q : ℕ) → frameAt (linkChild fs p g) q .view ≡ frameAt fs q .view
+link-view fs p g q = elim (decided (eqb (frameAt fs p .outstanding) 0)) [
   | inl e ↦ rw e
-  | inr e ↦ rw e (relink-view fs p none g l q)
+  | inr e ↦ rw e (relink-view fs p none g q)
 ]
 
-pub length-link : (fs : List ℕ) (p g : ℕ) → length (linkChild fs p g) ≡ length fs
+pub length-link : (fs : List Frame) (p g : ℕ) → length (linkChild fs p g) ≡ length fs
 length-link fs p g = elim (decided (eqb (frameAt fs p .outstanding) 0)) [
   | inl e ↦ rw e
   | inr e ↦ rw e (length-relink fs p none g)
 ]
 
 -- an elder sibling names the next younger one
-pub unlink-alike : (fs : List ℕ) (p : ℕ) (gs : List ℕ) → length gs ≡ frameWords → Alike gs (unlink fs p gs)
-unlink-alike fs p gs l = elim (decided (onlyChild fs p)) [
+pub unlink-alike : (fs : List Frame) (p : ℕ) (gs : List Frame) → Alike gs (unlink fs p gs)
+unlink-alike fs p gs = elim (decided (onlyChild fs p)) [
   | inl e ↦ rw e (alike-refl gs)
-  | inr e ↦ rw e (relink-alike gs (frameAt fs p .parent) p (frameAt fs p .younger) l)
+  | inr e ↦ rw e (relink-alike gs (frameAt fs p .parent) p (frameAt fs p .younger))
 ]
 
-pub length-unlink : (fs : List ℕ) (p : ℕ) (gs : List ℕ) → length (unlink fs p gs) ≡ length gs
+pub length-unlink : (fs : List Frame) (p : ℕ) (gs : List Frame) → length (unlink fs p gs) ≡ length gs
 length-unlink fs p gs = elim (decided (onlyChild fs p)) [
   | inl e ↦ rw e
   | inr e ↦ rw e (length-relink gs (frameAt fs p .parent) p (frameAt fs p .younger))

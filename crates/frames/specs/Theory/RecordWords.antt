@@ -1,8 +1,9 @@
--- A record whose parts are words: read from words and stored, with one part changed, a child's, a free place's.
+-- A record whose parts are words: in a table, with one part changed, a child's, a free place's.
 use mathlib.Core.List.{List, [], _∷_}
-use Prim.Native.Nat.{ℕ, zero, suc, _+_, _*_, _<_}
+use Prim.Native.Nat.{ℕ, zero, suc, _<_}
 use native.Mathlib.Omega.{arith}
-use lib.ListN.{set}
+use native.Mathlib.Decide.{ℕ-discrete, decLt}
+use lib.ListN.{length, set}
 use lib.Seq.{sets}
 use Rattle.words.specs.Basics.{plus}
 use Rattle.words.specs.Below.{Words, words-set, plus-word}
@@ -11,19 +12,9 @@ use Rattle.reducers.specs.Reducers.{identityView, viewWords}
 use Rattle.reducers.specs.Law.{ViewWord}
 use Rattle.reducers.specs.Theory.Laws.{view-law}
 use Rattle.frames.specs.declared.Frame.{Frame}
-use Rattle.frames.specs.Widths.{recordWords}
 use Rattle.frames.specs.Frames.{frameAt, wordsOf, setFrame, withOutstanding, withSuspended, withRoot, withReturning, withView, withYounger, withChild, afterSpawn, childOf, freePlace, mainFrame}
-
-pub record FrameWords (f : Frame) : Type 0 where
-  pub live : f .live < 4294967296
-  pub parent : f .parent < 4294967296
-  pub depth : f .depth < 4294967296
-  pub outstanding : f .outstanding < 4294967296
-  pub suspended : f .suspended < 4294967296
-  pub root : f .root < 4294967296
-  pub returning : f .returning < 4294967296
-  pub view : ViewWord (f .view)
-  pub younger : f .younger < 4294967296
+pub use Rattle.frames.specs.Frames.{FrameWords, RecordWords}
+use Rattle.frames.specs.Theory.Records.{frame-set-same, frame-set-other, set-past}
 
 -- every element is a word
 abbrev EachWord : List ℕ → Type 0
@@ -43,34 +34,23 @@ pub words-view : (w : View) → ViewWord w → Words (viewWords w)
 words-view w h = each-word (viewWords w) (h .0, (h .1, (h .2 .0, (h .2 .1, tt))))
 
 -- its parts, one by one, and its words
-parts-of : (f : Frame) → Words (wordsOf f) → FrameWords f
+pub parts-of : (f : Frame) → Words (wordsOf f) → FrameWords f
 parts-of f h = record { live = h 0; parent = h 1; depth = h 2; outstanding = h 3; suspended = h 4; root = h 5; returning = h 6; view = (h 7, h 8, (h 9, h 10)); younger = h 11 }
 
-words-of : (f : Frame) → FrameWords f → Words (wordsOf f)
+pub words-of : (f : Frame) → FrameWords f → Words (wordsOf f)
 words-of f F =
     let v = F .view in
     each-word (wordsOf f)
     (F .live, (F .parent, (F .depth, (F .outstanding, (F .suspended, (F .root, (F .returning, (v .0, (v .1, (v .2 .0, (v .2 .1, (F .younger, tt))))))))))))
 
-pub words-frameAt : (fs : List ℕ) (p : ℕ) → Words fs → FrameWords (frameAt fs p)
-unfolding frameAt
-words-frameAt fs p h =
-    let a : ℕ = recordWords * p in
-    record {
-      live = h a;
-      parent = h (a + 1);
-      depth = h (a + 2);
-      outstanding = h (a + 3);
-      suspended = h (a + 4);
-      root = h (a + 5);
-      returning = h (a + 6);
-      view = (h (a + 7), h (a + 8), (h (a + 9), h (a + 10)));
-      younger = h (a + 11);
-    }
-
-pub words-setFrame : (fs : List ℕ) (p : ℕ) (f : Frame) → Words fs → FrameWords f → Words (setFrame fs p f)
-unfolding setFrame
-words-setFrame fs p f h F = words-sets fs (recordWords * p) (wordsOf f) h (words-of f F)
+pub words-setFrame : (fs : List Frame) (p : ℕ) (f : Frame) → RecordWords fs → FrameWords f → RecordWords (setFrame fs p f)
+words-setFrame fs p f h F q = elim (ℕ-discrete q p) [
+  | yes e ↦ elim (decLt p (length fs)) [
+    | yes b ↦ rw (e, frame-set-same fs p f b) F
+    | no b ↦ rw (set-past fs p f (omega arith)) (h q)
+  ]
+  | no e ↦ rw (frame-set-other fs p q f e) (h q)
+]
 
 -- a record with one part changed
 module _ (f : Frame) (F : FrameWords f) where

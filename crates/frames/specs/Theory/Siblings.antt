@@ -19,7 +19,8 @@ use Rattle.words.specs.Tallies.{either, or-left, or-right, some-at, some-of, ho
 use Rattle.words.specs.Chains.{chain-start}
 use Rattle.words.specs.Followed.{Listed, chain-listed, listed-all}
 use Rattle.words.specs.Linked.{ahead, parted, chain-below, follow-chain, chain-in, chain-from, chain-moved, chain-ahead, chain-unique}
-use Rattle.frames.specs.Widths.{places}
+use Rattle.frames.specs.declared.Frame.{Frame}
+use Rattle.frames.specs.Widths.{maxPlaces}
 use Rattle.frames.specs.Frames.{frameAt}
 use Rattle.frames.specs.Siblings.{headOr, liveChild, younger, names, chained, Children, eldestTo, eldest}
 
@@ -37,8 +38,8 @@ not-none d e = omega arith
 -- ---- lists of children
 
 -- how many live children
-abbrev pub liveChildren : List ℕ → ℕ → ℕ
-liveChildren fs q = howMany places (liveChild fs q)
+abbrev pub liveChildren : List Frame → ℕ → ℕ
+liveChildren fs q = howMany (length fs) (liveChild fs q)
 
 -- a chain starts with its first element
 pub chain-first : (next : ℕ → ℕ) (N a : ℕ) (xs : List ℕ) → Chain next N a xs → a ≡ headOr none xs
@@ -46,22 +47,22 @@ chain-first next N a [] ch = ch
 chain-first next N a (x ∷ xs) ch = ch .0
 
 -- the links from a on
-abbrev pub Linked : List ℕ → ℕ → List ℕ → Type 0
-Linked fs a cs = Chain (younger fs) places a cs
+abbrev pub Linked : List Frame → ℕ → List ℕ → Type 0
+Linked fs a cs = Chain (younger fs) (length fs) a cs
 
 -- ---- single children
 
-module _ {fs : List ℕ} {q : ℕ} {cs : List ℕ} (s : Children fs q cs) where
+module _ {fs : List Frame} {q : ℕ} {cs : List ℕ} (s : Children fs q cs) where
   -- one of them
-  pub children-in : (c : ℕ) → 0 < count c cs → (c < places) × (liveChild fs q c ≡ true)
+  pub children-in : (c : ℕ) → 0 < count c cs → (c < length fs) × (liveChild fs q c ≡ true)
   children-in c h =
-      let b = chain-in (younger fs) places (headOr none cs) cs (s .chain) c h in
+      let b = chain-in (younger fs) (length fs) (headOr none cs) cs (s .chain) c h in
       (b, elim (decided (liveChild fs q c)) [ inl e ↦ e | inr e ↦ absurd (omega (arith, s .each c b, miss e)) ])
 
-  pub children-has : (c : ℕ) → c < places → liveChild fs q c ≡ true → count c cs ≡ 1
+  pub children-has : (c : ℕ) → c < length fs → liveChild fs q c ≡ true → count c cs ≡ 1
   children-has c b e = s .each c b ∙ hit e
 
-  pub children-lacks : (c : ℕ) → c < places → liveChild fs q c ≡ false → count c cs ≡ 0
+  pub children-lacks : (c : ℕ) → c < length fs → liveChild fs q c ≡ false → count c cs ≡ 0
   children-lacks c b e = s .each c b ∙ miss e
 
   pub children-once : (c : ℕ) → count c cs ≤ 1
@@ -72,18 +73,18 @@ module _ {fs : List ℕ} {q : ℕ} {cs : List ℕ} (s : Children fs q cs) where
 
   pub children-length : length cs ≡ liveChildren fs q
   children-length =
-      sym (count-sum places cs (chain-below (younger fs) places (headOr none cs) cs (s .chain)))
-      ∙ sum-cong places (λ c. count c cs) (λ c. cond (liveChild fs q c) 1 0) (s .each)
+      sym (count-sum (length fs) cs (chain-below (younger fs) (length fs) (headOr none cs) cs (s .chain)))
+      ∙ sum-cong (length fs) (λ c. count c cs) (λ c. cond (liveChild fs q c) 1 0) (s .each)
 
-pub child-parent : (fs : List ℕ) (q c : ℕ) → liveChild fs q c ≡ true → frameAt fs c .parent ≡ q
+pub child-parent : (fs : List Frame) (q c : ℕ) → liveChild fs q c ≡ true → frameAt fs c .parent ≡ q
 child-parent fs q c e = eqb-true (frameAt fs c .parent) q (both (eqb (frameAt fs c .live) 1) (eqb (frameAt fs c .parent) q) e .1)
 
 -- an element names the next, and the last names none
-pub children-next : {fs : List ℕ} {q : ℕ} (xs : List ℕ) (c : ℕ) (ys : List ℕ) → Children fs q (xs ++ (c ∷ ys)) → younger fs c ≡ headOr none ys
+pub children-next : {fs : List Frame} {q : ℕ} (xs : List ℕ) (c : ℕ) (ys : List ℕ) → Children fs q (xs ++ (c ∷ ys)) → younger fs c ≡ headOr none ys
 children-next {fs} xs c ys s =
-    chain-first (younger fs) places (younger fs c) ys (chain-from (younger fs) places (headOr none (xs ++ (c ∷ ys))) xs c ys (s .chain))
+    chain-first (younger fs) (length fs) (younger fs c) ys (chain-from (younger fs) (length fs) (headOr none (xs ++ (c ∷ ys))) xs c ys (s .chain))
 
-pub children-at : {fs : List ℕ} {q : ℕ} (xs : List ℕ) (c : ℕ) (ys : List ℕ) → Children fs q (xs ++ (c ∷ ys)) → (c < places) × (liveChild fs q c ≡ true)
+pub children-at : {fs : List Frame} {q : ℕ} (xs : List ℕ) (c : ℕ) (ys : List ℕ) → Children fs q (xs ++ (c ∷ ys)) → (c < length fs) × (liveChild fs q c ≡ true)
 children-at xs c ys s = children-in s c (omega (arith, count-append c xs (c ∷ ys), count-cons c c ys, δ-same c))
 
 -- ---- two children name different ones
@@ -112,13 +113,13 @@ module _ (next : ℕ → ℕ) (N : ℕ) (few : N ≤ none) where
     ]
   ]
 
-module _ {fs : List ℕ} {q : ℕ} {cs : List ℕ} (s : Children fs q cs) where
-  pub children-injective : (c d : ℕ) → c < places → d < places → liveChild fs q c ≡ true → liveChild fs q d ≡ true → younger fs c ≡ younger fs d → c ≡ d
+module _ {fs : List Frame} {q : ℕ} {cs : List ℕ} (s : Children fs q cs) where
+  pub children-injective : (c d : ℕ) → c < length fs → d < length fs → liveChild fs q c ≡ true → liveChild fs q d ≡ true → younger fs c ≡ younger fs d → c ≡ d
   children-injective c d b k t u e =
-      chain-injective (younger fs) places (omega arith) (headOr none cs) cs (s .chain) c d (omega (arith, children-has s c b t)) (omega (arith, children-has s d k u)) e
+      chain-injective (younger fs) (length fs) (omega (arith, s .few)) (headOr none cs) cs (s .chain) c d (omega (arith, children-has s c b t)) (omega (arith, children-has s d k u)) e
 
   -- so one of them at most names x
-  pub named-once : (x c d : ℕ) → c < places → d < places → names fs q x c ≡ true → names fs q x d ≡ true → c ≡ d
+  pub named-once : (x c d : ℕ) → c < length fs → d < length fs → names fs q x c ≡ true → names fs q x d ≡ true → c ≡ d
   named-once x c d b k t u =
       let p = both (liveChild fs q c) (eqb (younger fs c) x) t in
       let r = both (liveChild fs q d) (eqb (younger fs d) x) u in
@@ -126,35 +127,35 @@ module _ {fs : List ℕ} {q : ℕ} {cs : List ℕ} (s : Children fs q cs) where
 
 -- ---- the chain that soundness asks for
 
-linked-chained : (fs : List ℕ) (q a : ℕ) (cs : List ℕ) → ((c : ℕ) → 0 < count c cs → liveChild fs q c ≡ true) → Linked fs a cs → chained (length cs) fs q a ≡ true
+linked-chained : (fs : List Frame) (q a : ℕ) (cs : List ℕ) → ((c : ℕ) → 0 < count c cs → liveChild fs q c ≡ true) → Linked fs a cs → chained (length cs) fs q a ≡ true
 unfolding chained
 linked-chained fs q a [] h ch = eq-eqb a none ch
 linked-chained fs q a (c ∷ cs) h ch =
     rw (ch .0, ltb-of (ch .1), h c (omega (arith, count-cons c c cs, δ-same c)))
     (linked-chained fs q (younger fs c) cs (λ x o. h x (omega (arith, count-cons x c cs))) (ch .2))
 
-pub children-chained : {fs : List ℕ} {q : ℕ} {cs : List ℕ} → Children fs q cs → (length cs ≡ liveChildren fs q) × (chained (length cs) fs q (headOr none cs) ≡ true)
+pub children-chained : {fs : List Frame} {q : ℕ} {cs : List ℕ} → Children fs q cs → (length cs ≡ liveChildren fs q) × (chained (length cs) fs q (headOr none cs) ≡ true)
 children-chained {fs} {q} {cs} s = (children-length s, linked-chained fs q (headOr none cs) cs (λ c o. children-in s c o .1) (s .chain))
 
 -- k different live children are all of them
-pub chained-children : (k : ℕ) (fs : List ℕ) (q c : ℕ) → chained k fs q c ≡ true → k ≡ liveChildren fs q → (cs : List ℕ) × Children fs q cs × (headOr none cs ≡ c)
+pub chained-children : (k : ℕ) (fs : List Frame) (q c : ℕ) → length fs ≤ maxPlaces → chained k fs q c ≡ true → k ≡ liveChildren fs q → (cs : List ℕ) × Children fs q cs × (headOr none cs ≡ c)
 unfolding chained
-chained-children k fs q c e d = (cs, record { chain = chain-moved (younger fs) places cs start ch; each = each }, sym start)
+chained-children k fs q c few e d = (cs, record { few = few; chain = chain-moved (younger fs) (length fs) cs start ch; each = each }, sym start)
   where
     cs : List ℕ
     cs = follow (suc k) (younger fs) c
 
-    listed : Listed places (liveChild fs q) k cs
-    listed = chain-listed places (younger fs) (liveChild fs q) (λ j a. chained j fs q a) (omega arith) (λ a. refl) (λ j a. refl) k k c (omega arith) e
+    listed : Listed (length fs) (liveChild fs q) k cs
+    listed = chain-listed (length fs) (younger fs) (liveChild fs q) (λ j a. chained j fs q a) (omega (arith, few)) (λ a. refl) (λ j a. refl) k k c (omega arith) e
 
     ch : Linked fs c cs
-    ch = follow-chain (younger fs) places (suc k) c (omega (arith, listed .size)) (listed .within)
+    ch = follow-chain (younger fs) (length fs) (suc k) c (omega (arith, listed .size)) (listed .within)
 
     start : c ≡ headOr none cs
-    start = chain-first (younger fs) places c cs ch
+    start = chain-first (younger fs) (length fs) c cs ch
 
-    each : (x : ℕ) → x < places → count x cs ≡ cond (liveChild fs q x) 1 0
-    each = listed-all places (liveChild fs q) k cs (λ x. cond (liveChild fs q x) 1 0) (λ x t. hit t) (at-most d) listed
+    each : (x : ℕ) → x < length fs → count x cs ≡ cond (liveChild fs q x) 1 0
+    each = listed-all (length fs) (liveChild fs q) k cs (λ x. cond (liveChild fs q x) 1 0) (λ x t. hit t) (at-most d) listed
 
 -- ---- the eldest
 
@@ -162,7 +163,7 @@ chained-children k fs q c e d = (cs, record { chain = chain-moved (younger fs) p
 in-word : (s n r : ℕ) → ((s % 2 ^ 32 + n) % 2 ^ 32 + r) % 2 ^ 32 ≡ (s + (n + r)) % 2 ^ 32
 in-word s n r = rw (mod-add-mod (s % 2 ^ 32 + n) (2 ^ 32) r, add-assoc, mod-add-mod)
 
-eldest-sum : (n : ℕ) (fs : List ℕ) (q : ℕ) → eldestTo n fs q ≡ (none + sum n (λ c. cond (liveChild fs q c) (ahead (younger fs) c) 0)) % 2 ^ 32
+eldest-sum : (n : ℕ) (fs : List Frame) (q : ℕ) → eldestTo n fs q ≡ (none + sum n (λ c. cond (liveChild fs q c) (ahead (younger fs) c) 0)) % 2 ^ 32
 unfolding eldestTo
 eldest-sum zero fs q = refl
 eldest-sum (suc n) fs q =
@@ -193,49 +194,49 @@ sum-ahead N next test a cs few ch each = left-over (length cs) (sum-cong N _ (λ
     small = elim (chain-start N next a cs ch) [ inl h ↦ omega arith | inr h ↦ omega arith ]
 
 -- the first of them, and none if there is none
-pub eldest-is : {fs : List ℕ} {q : ℕ} {cs : List ℕ} → Children fs q cs → eldest fs q ≡ headOr none cs
-eldest-is {fs} {q} {cs} s = eldest-sum places fs q ∙ sum-ahead places (younger fs) (liveChild fs q) (headOr none cs) cs (omega arith) (s .chain) (s .each)
+pub eldest-is : {fs : List Frame} {q : ℕ} {cs : List ℕ} → Children fs q cs → eldest fs q ≡ headOr none cs
+eldest-is {fs} {q} {cs} s = eldest-sum (length fs) fs q ∙ sum-ahead (length fs) (younger fs) (liveChild fs q) (headOr none cs) cs (omega (arith, s .few)) (s .chain) (s .each)
 
 -- so there is one list of them
-pub children-unique : {fs : List ℕ} {q : ℕ} {cs ds : List ℕ} → Children fs q cs → Children fs q ds → cs ≡ ds
+pub children-unique : {fs : List Frame} {q : ℕ} {cs ds : List ℕ} → Children fs q cs → Children fs q ds → cs ≡ ds
 children-unique {fs} {cs = cs} {ds = ds} s t =
-    chain-unique (younger fs) places (omega arith) (headOr none cs) cs ds (s .chain) (chain-moved (younger fs) places ds (sym (eldest-is t) ∙ eldest-is s) (t .chain))
+    chain-unique (younger fs) (length fs) (omega (arith, s .few)) (headOr none cs) cs ds (s .chain) (chain-moved (younger fs) (length fs) ds (sym (eldest-is t) ∙ eldest-is s) (t .chain))
 
 -- ---- no child, an only child
 
-pub no-child : (fs : List ℕ) (q : ℕ) → liveChildren fs q ≡ 0 → (c : ℕ) → c < places → liveChild fs q c ≡ true → ⊥
-no-child fs q e c b h = true≢false (sym h ∙ howMany-zero places (liveChild fs q) e c b)
+pub no-child : (fs : List Frame) (q : ℕ) → liveChildren fs q ≡ 0 → (c : ℕ) → c < length fs → liveChild fs q c ≡ true → ⊥
+no-child fs q e c b h = true≢false (sym h ∙ howMany-zero (length fs) (liveChild fs q) e c b)
 
-pub one-child : (fs : List ℕ) (q : ℕ) → liveChildren fs q ≡ 1 → (p c : ℕ) → p < places → c < places → liveChild fs q p ≡ true → liveChild fs q c ≡ true → c ≡ p
-one-child fs q e p c b d h k = howMany-unique places c p (liveChild fs q) (at-most (sym e)) d b k h
+pub one-child : (fs : List Frame) (q : ℕ) → liveChildren fs q ≡ 1 → (p c : ℕ) → p < length fs → c < length fs → liveChild fs q p ≡ true → liveChild fs q c ≡ true → c ≡ p
+one-child fs q e p c b d h k = howMany-unique (length fs) c p (liveChild fs q) (at-most (sym e)) d b k h
 
-pub children-empty : (fs : List ℕ) (q : ℕ) → liveChildren fs q ≡ 0 → Children fs q []
-children-empty fs q e = record { chain = refl; each = λ c b. count-nil c ∙ sym (miss (howMany-zero places (liveChild fs q) e c b)) }
+pub children-empty : (fs : List Frame) (q : ℕ) → length fs ≤ maxPlaces → liveChildren fs q ≡ 0 → Children fs q []
+children-empty fs q few e = record { few = few; chain = refl; each = λ c b. count-nil c ∙ sym (miss (howMany-zero (length fs) (liveChild fs q) e c b)) }
 
-pub children-none : {fs : List ℕ} {q : ℕ} {cs : List ℕ} → Children fs q cs → liveChildren fs q ≡ 0 → cs ≡ []
-children-none {fs} {q} s e = children-unique s (children-empty fs q e)
+pub children-none : {fs : List Frame} {q : ℕ} {cs : List ℕ} → Children fs q cs → liveChildren fs q ≡ 0 → cs ≡ []
+children-none {fs} {q} s e = children-unique s (children-empty fs q (s .few) e)
 
-pub children-only : {fs : List ℕ} {q : ℕ} {cs : List ℕ} → Children fs q cs → liveChildren fs q ≡ 1 → (p : ℕ) → p < places → liveChild fs q p ≡ true → cs ≡ p ∷ []
+pub children-only : {fs : List Frame} {q : ℕ} {cs : List ℕ} → Children fs q cs → liveChildren fs q ≡ 1 → (p : ℕ) → p < length fs → liveChild fs q p ≡ true → cs ≡ p ∷ []
 children-only {cs = []} s e p b h = absurd (not-none (children-length s) e)
 children-only {cs = c ∷ d ∷ cs} s e p b h = absurd (not-one (children-length s) e)
 children-only {cs = c ∷ []} s e p b h = ap (λ (x : ℕ). x ∷ []) (sym (δ-eq p c (omega (arith, children-has s p b h, count-cons p c [], count-nil p))))
 
 -- ---- soundness: "these links chain the live children of each frame, each once"
 
-pub linked-is : (fs : List ℕ) (q : ℕ) → (eqb (liveChildren fs q) 0 || some places (chained (liveChildren fs q) fs q) ≡ true) ↔ ((cs : List ℕ) × Children fs q cs)
-linked-is fs q = (to, λ r. from (r .0) (r .1))
+pub linked-is : (fs : List Frame) (q : ℕ) → length fs ≤ maxPlaces → (eqb (liveChildren fs q) 0 || some (length fs) (chained (liveChildren fs q) fs q) ≡ true) ↔ ((cs : List ℕ) × Children fs q cs)
+linked-is fs q few = (to, λ r. from (r .0) (r .1))
   where
-    to : eqb (liveChildren fs q) 0 || some places (chained (liveChildren fs q) fs q) ≡ true → (cs : List ℕ) × Children fs q cs
-    to e = elim (either (eqb (liveChildren fs q) 0) (some places (chained (liveChildren fs q) fs q)) e) [
-      | inl z ↦ ([], children-empty fs q (eqb-true (liveChildren fs q) 0 z))
+    to : eqb (liveChildren fs q) 0 || some (length fs) (chained (liveChildren fs q) fs q) ≡ true → (cs : List ℕ) × Children fs q cs
+    to e = elim (either (eqb (liveChildren fs q) 0) (some (length fs) (chained (liveChildren fs q) fs q)) e) [
+      | inl z ↦ ([], children-empty fs q few (eqb-true (liveChildren fs q) 0 z))
       | inr z ↦ (
-          let r = some-at places (chained (liveChildren fs q) fs q) z in
-          let w = chained-children (liveChildren fs q) fs q (r .0) (r .2) refl in
+          let r = some-at (length fs) (chained (liveChildren fs q) fs q) z in
+          let w = chained-children (liveChildren fs q) fs q (r .0) few (r .2) refl in
           (w .0, w .1))
     ]
 
-    from : (cs : List ℕ) → Children fs q cs → eqb (liveChildren fs q) 0 || some places (chained (liveChildren fs q) fs q) ≡ true
+    from : (cs : List ℕ) → Children fs q cs → eqb (liveChildren fs q) 0 || some (length fs) (chained (liveChildren fs q) fs q) ≡ true
     from [] s = or-left _ (eq-eqb (liveChildren fs q) 0 (sym (children-length s)))
     from (c ∷ cs) s =
         let e : chained (liveChildren fs q) fs q c ≡ true = ap (λ k. chained k fs q c) (sym (children-length s)) ∙ children-chained s .1 in
-        or-right (eqb (liveChildren fs q) 0) (some-of places (chained (liveChildren fs q) fs q) c (s .chain .1) e)
+        or-right (eqb (liveChildren fs q) 0) (some-of (length fs) (chained (liveChildren fs q) fs q) c (s .chain .1) e)

@@ -11,7 +11,7 @@ use Rattle.words.specs.Basics.{none}
 use Rattle.words.specs.Counting.{δ, δ-same, count, count-cons}
 use Rattle.frames.specs.declared.Frame.{Frame}
 use Rattle.frames.specs.declared.Synced.the-variants.{Passed, Suspended}
-use Rattle.frames.specs.Widths.{maxWorkers, places, dequePlaces}
+use Rattle.frames.specs.Widths.{maxWorkers, dequePlaces}
 use Rattle.frames.specs.Frames.{frameAt, setFrame, childOf, afterSpawn, withoutChild, withSuspended, withRoot, freePlace}
 use Rattle.frames.specs.Deques.{top, dequeList, push, dropTop}
 use Rattle.frames.specs.Steps.{Table, acting, suspend, removeFrame, resume, addChild, steal, sync, synced}
@@ -44,7 +44,7 @@ module _ (t : Table) (w p g : ℕ) (ps gs : List ℕ) (F : Formed t (g ∷ gs)) 
   unfolding addChild
   spawn-is = rw (list-head (t .deques) w p ps d, F .places .0)
 
-  pub spawn-does : suc (length ps) < dequePlaces → p < places → count p (g ∷ gs) ≡ 0 → count g gs ≡ 0 → Spawned t (addChild t w) w p g ps gs
+  pub spawn-does : suc (length ps) < dequePlaces → p < length (t .frames) → count p (g ∷ gs) ≡ 0 → count g gs ≡ 0 → Spawned t (addChild t w) w p g ps gs
   spawn-does r b o og =
       let f = frameAt (t .frames) p in
       rw spawn-is
@@ -53,8 +53,8 @@ module _ (t : Table) (w p g : ℕ) (ps gs : List ℕ) (F : Formed t (g ∷ gs)) 
             after-push
             (after-store (after-store (after-take g gs (unchanged t w (p ∷ ps) (g ∷ gs) F d)) p (afterSpawn f) (out-tail p g gs o)) g (childOf f p) og)
             g h r;
-        parent = frame-set-other _ g p _ (out-head p g gs o) ∙ frame-set-same (t .frames) p (afterSpawn f) (F .long) b;
-        child = frame-set-same _ g (childOf f p) (length-setFrame (t .frames) p _ ∙ F .long) (F .places .1);
+        parent = frame-set-other _ g p _ (out-head p g gs o) ∙ frame-set-same (t .frames) p (afterSpawn f) b;
+        child = frame-set-same _ g (childOf f p) (omega (arith, length-setFrame (t .frames) p (afterSpawn f), F .places .1));
       })
 
 -- ---- the end of the frame at place p: its place is the first free one
@@ -68,7 +68,7 @@ pub record Ends (t : Table) (w p : ℕ) (d gs ps : List ℕ) : Type 0 where
   pub after : After t (endTable t p) w d (p ∷ gs) ps
   pub freed : frameAt (endTable t p .frames) p ≡ freePlace (t .«free_place»)
 
-module _ (t : Table) (w p : ℕ) (d gs : List ℕ) (F : Formed t gs) (e : dequeList (t .deques) w ≡ d) (b : p < places) (o : count p gs ≡ 0) where
+module _ (t : Table) (w p : ℕ) (d gs : List ℕ) (F : Formed t gs) (e : dequeList (t .deques) w ≡ d) (b : p < length (t .frames)) (o : count p gs ≡ 0) where
   abbrev freed : Table
   freed = table (t .deques) (setFrame (t .frames) p (freePlace (t .«free_place»))) p
 
@@ -76,7 +76,7 @@ module _ (t : Table) (w p : ℕ) (d gs : List ℕ) (F : Formed t gs) (e : dequeL
   freed-after = after-free (unchanged t w d gs F e) p o b
 
   freed-place : frameAt (freed .frames) p ≡ freePlace (t .«free_place»)
-  freed-place = frame-set-same (t .frames) p (freePlace (t .«free_place»)) (F .long) b
+  freed-place = frame-set-same (t .frames) p (freePlace (t .«free_place»)) b
 
   main-is : frameAt (t .frames) p .parent ≡ none → removeFrame (t .frames) (t .«free_place») p ≡ freed .frames
   unfolding removeFrame
@@ -85,14 +85,14 @@ module _ (t : Table) (w p : ℕ) (d gs : List ℕ) (F : Formed t gs) (e : dequeL
   pub end-main : frameAt (t .frames) p .parent ≡ none → Ends t w p d gs (p ∷ [])
   end-main n = let is = main-is n in record { after = rw is freed-after; freed = rw is freed-place }
 
-  module _ (q : ℕ) (n : frameAt (t .frames) p .parent ≡ q) (c : q < places) (oq : count q (p ∷ gs) ≡ 0) where
+  module _ (q : ℕ) (n : frameAt (t .frames) p .parent ≡ q) (c : q < length (t .frames)) (oq : count q (p ∷ gs) ≡ 0) where
     -- the parent's record with a live child less
     abbrev g : Frame
     g = withoutChild (frameAt (t .frames) q)
 
     child-is : removeFrame (t .frames) (t .«free_place») p ≡ setFrame (freed .frames) q g
     unfolding removeFrame
-    child-is = rw (n, ne-eqb q none (λ m. omega (arith, c, m)))
+    child-is = rw (n, ne-eqb q none (λ m. omega (arith, c, m, F .few)))
 
     freed-still : frameAt (setFrame (freed .frames) q g) p ≡ freePlace (t .«free_place»)
     freed-still = frame-set-other (freed .frames) q p g (λ m. out-head q p gs oq (sym m)) ∙ freed-place
@@ -100,24 +100,24 @@ module _ (t : Table) (w p : ℕ) (d gs : List ℕ) (F : Formed t gs) (e : dequeL
     pub end-child : Ends t w p d gs (q ∷ p ∷ []) × (frameAt (endTable t p .frames) q ≡ g)
     end-child = (
       record { after = rw child-is (after-store freed-after q g oq); freed = rw child-is freed-still },
-      rw child-is (frame-set-same (freed .frames) q g (freed-after .formed .long) c),
+      rw child-is (frame-set-same (freed .frames) q g (omega (arith, freed-after .same-length, c))),
     )
 
 -- ---- "the parent resumes on this worker, past its sync": the frame at place q, on worker w's deque, which is empty
 
-pub resume-does : (t : Table) (w q : ℕ) (gs : List ℕ) → Formed t gs → w < maxWorkers → dequeList (t .deques) w ≡ [] → q < places → count q gs ≡ 0
+pub resume-does : (t : Table) (w q : ℕ) (gs : List ℕ) → Formed t gs → w < maxWorkers → dequeList (t .deques) w ≡ [] → q < length (t .frames) → count q gs ≡ 0
     → After t (resume t w q) w (q ∷ []) gs (q ∷ []) × (frameAt (resume t w q .frames) q ≡ withSuspended (frameAt (t .frames) q) 0)
 resume-does t w q gs F h e b o =
     let f = withSuspended (frameAt (t .frames) q) 0 in
-    (after-push (after-store (unchanged t w [] gs F e) q f o) q h (omega arith), frame-set-same (t .frames) q f (F .long) b)
+    (after-push (after-store (unchanged t w [] gs F e) q f o) q h (omega arith), frame-set-same (t .frames) q f b)
 
 -- ---- worker w's bottom frame leaves its deque, at a sync or as returning, with the record f
 
-pub suspend-does : (t : Table) (w p : ℕ) (ps gs : List ℕ) (f : Frame) → Formed t gs → w < maxWorkers → dequeList (t .deques) w ≡ p ∷ ps → p < places → count p gs ≡ 0
+pub suspend-does : (t : Table) (w p : ℕ) (ps gs : List ℕ) (f : Frame) → Formed t gs → w < maxWorkers → dequeList (t .deques) w ≡ p ∷ ps → p < length (t .frames) → count p gs ≡ 0
     → After t (suspend t w f) w ps gs (p ∷ []) × (frameAt (suspend t w f .frames) p ≡ f)
 suspend-does t w p ps gs f F h d b o =
     rw (list-head (t .deques) w p ps d)
-    (after-store (after-pop (unchanged t w (p ∷ ps) gs F d) h) p f o, frame-set-same (t .frames) p f (F .long) b)
+    (after-store (after-pop (unchanged t w (p ∷ ps) gs F d) h) p f o, frame-set-same (t .frames) p f b)
 
 -- ---- sync
 
@@ -137,12 +137,12 @@ sync-waits t w p ps d z =
 
 -- ---- write: the frame gets another tree
 
-pub write-does : (t : Table) (w p r : ℕ) (ps gs : List ℕ) → Formed t gs → dequeList (t .deques) w ≡ p ∷ ps → p < places → count p gs ≡ 0
+pub write-does : (t : Table) (w p r : ℕ) (ps gs : List ℕ) → Formed t gs → dequeList (t .deques) w ≡ p ∷ ps → p < length (t .frames) → count p gs ≡ 0
     → After t (table (t .deques) (setFrame (t .frames) p (withRoot (frameAt (t .frames) p) r)) (t .«free_place»)) w (p ∷ ps) gs (p ∷ [])
     × (frameAt (setFrame (t .frames) p (withRoot (frameAt (t .frames) p) r)) p ≡ withRoot (frameAt (t .frames) p) r)
 write-does t w p r ps gs F d b o =
     let f = withRoot (frameAt (t .frames) p) r in
-    (after-store (unchanged t w (p ∷ ps) gs F d) p f o, frame-set-same (t .frames) p f (F .long) b)
+    (after-store (unchanged t w (p ∷ ps) gs F d) p f o, frame-set-same (t .frames) p f b)
 
 -- ---- steal: "an idle worker takes the top frame of a victim with at least two frames"
 
@@ -161,7 +161,8 @@ module _ (t : Table) (w v : ℕ) (gs : List ℕ) (F : Formed t gs) (h : w < maxW
   dropped : After t (table (dropTop (t .deques) v) (t .frames) (t .«free_place»)) v (front (dequeList (t .deques) v)) gs []
   dropped =
       record {
-        formed = record { shaped = dropTop-shaped (t .deques) v (F .shaped) k; long = F .long; places = F .places };
+        formed = record { shaped = dropTop-shaped (t .deques) v (F .shaped) k; few = F .few; places = F .places };
+        same-length = refl;
         deque = dropTop-list (t .deques) v (F .shaped) k;
         deques = λ u b n. list-elsewhere (F .shaped) (dropTop-elsewhere (t .deques) v (F .shaped) k) u b n;
         records = λ q a. refl;

@@ -1,13 +1,13 @@
--- A table whose words have the right form, and what a store to a record, a deque or the free places does to it.
+-- A table of the right form, and what a store to a record, a deque or the free places does to it.
 use mathlib.Core.Path.{_≡_, refl, sym, ap, _∙_}
 use mathlib.Core.Logic.{_≢_}
 use mathlib.Core.List.{List, [], _∷_, tail}
-use Prim.Native.Nat.{ℕ, _<_}
+use Prim.Native.Nat.{ℕ, _≤_, _<_}
 use native.Mathlib.Omega.{arith}
 use lib.ListN.{length}
 use Rattle.words.specs.Counting.{count}
 use Rattle.frames.specs.declared.Frame.{Frame}
-use Rattle.frames.specs.Widths.{maxWorkers, places, frameWords, dequePlaces}
+use Rattle.frames.specs.Widths.{maxWorkers, maxPlaces, dequePlaces}
 use Rattle.frames.specs.Frames.{frameAt, setFrame, freePlace}
 use Rattle.frames.specs.Deques.{size, dequeList, push, pop}
 use Rattle.frames.specs.Steps.{Table}
@@ -20,7 +20,7 @@ use Rattle.frames.specs.Theory.Places.{nextFree, FreePlaces, free-elsewh
 -- gs are the free places
 pub record Formed (t : Table) (gs : List ℕ) : Type 0 where
   pub shaped : Shaped (t .deques)
-  pub long : length (t .frames) ≡ frameWords
+  pub few : length (t .frames) ≤ maxPlaces
   pub places : FreePlaces (t .frames) (t .«free_place») gs
 
 -- q is none of them
@@ -31,12 +31,13 @@ Apart q (p ∷ ps) = (q ≢ p) × Apart q ps
 -- from t to t′ worker w's deque became d, the free places gs, and only the records at the places ps were stored
 pub record After (t t′ : Table) (w : ℕ) (d gs ps : List ℕ) : Type 0 where
   pub formed : Formed t′ gs
+  pub same-length : length (t′ .frames) ≡ length (t .frames)
   pub deque : dequeList (t′ .deques) w ≡ d
   pub deques : (v : ℕ) → v < maxWorkers → v ≢ w → dequeList (t′ .deques) v ≡ dequeList (t .deques) v
   pub records : (q : ℕ) → Apart q ps → frameAt (t′ .frames) q ≡ frameAt (t .frames) q
 
 pub unchanged : (t : Table) (w : ℕ) (d gs : List ℕ) → Formed t gs → dequeList (t .deques) w ≡ d → After t t w d gs []
-unchanged t w d gs f e = record { formed = f; deque = e; deques = λ v h a. refl; records = λ q a. refl }
+unchanged t w d gs f e = record { formed = f; same-length = refl; deque = e; deques = λ v h a. refl; records = λ q a. refl }
 
 module _ {t t′ : Table} {w : ℕ} {d gs ps : List ℕ} (a : After t t′ w d gs ps) where
   after-size : size (t′ .deques) w ≡ length d
@@ -48,24 +49,26 @@ module _ {t t′ : Table} {w : ℕ} {d gs ps : List ℕ} (a : After t t′ w d g
         formed =
             record {
               shaped = a .formed .shaped;
-              long = length-setFrame (t′ .frames) p f ∙ a .formed .long;
+              few = omega (arith, length-setFrame (t′ .frames) p f, a .formed .few);
               places = free-elsewhere (t′ .frames) (t′ .«free_place») p gs out (a .formed .places) f;
             };
+        same-length = length-setFrame (t′ .frames) p f ∙ a .same-length;
         deque = a .deque;
         deques = a .deques;
         records = λ q r. frame-set-other (t′ .frames) p q f (r .0) ∙ a .records q (r .1);
       }
 
   -- the place p is free, and the first
-  pub after-free : (p : ℕ) → count p gs ≡ 0 → p < places → After t (table (t′ .deques) (setFrame (t′ .frames) p (freePlace (t′ .«free_place»))) p) w d (p ∷ gs) (p ∷ ps)
+  pub after-free : (p : ℕ) → count p gs ≡ 0 → p < length (t .frames) → After t (table (t′ .deques) (setFrame (t′ .frames) p (freePlace (t′ .«free_place»))) p) w d (p ∷ gs) (p ∷ ps)
   after-free p out h =
       record {
         formed =
             record {
               shaped = a .formed .shaped;
-              long = length-setFrame (t′ .frames) p (freePlace (t′ .«free_place»)) ∙ a .formed .long;
-              places = free-put (t′ .frames) (t′ .«free_place») p gs out (a .formed .places) (a .formed .long) h;
+              few = omega (arith, length-setFrame (t′ .frames) p (freePlace (t′ .«free_place»)), a .formed .few);
+              places = free-put (t′ .frames) (t′ .«free_place») p gs out (a .formed .places) (omega (arith, a .same-length));
             };
+        same-length = length-setFrame (t′ .frames) p (freePlace (t′ .«free_place»)) ∙ a .same-length;
         deque = a .deque;
         deques = a .deques;
         records = λ q r. frame-set-other (t′ .frames) p q (freePlace (t′ .«free_place»)) (r .0) ∙ a .records q (r .1);
@@ -76,7 +79,8 @@ module _ {t t′ : Table} {w : ℕ} {d gs ps : List ℕ} (a : After t t′ w d g
       let r : size (t′ .deques) w < dequePlaces = omega (arith, after-size) in
       let s = a .formed .shaped in
       record {
-        formed = record { shaped = push-shaped (t′ .deques) w p s h r; long = a .formed .long; places = a .formed .places };
+        formed = record { shaped = push-shaped (t′ .deques) w p s h r; few = a .formed .few; places = a .formed .places };
+        same-length = a .same-length;
         deque = push-list (t′ .deques) w p s h r ∙ ap (λ (l : List ℕ). p ∷ l) (a .deque);
         deques = λ v c n. list-elsewhere s (push-elsewhere (t′ .deques) w p s h r) v c n ∙ a .deques v c n;
         records = a .records;
@@ -86,7 +90,8 @@ module _ {t t′ : Table} {w : ℕ} {d gs ps : List ℕ} (a : After t t′ w d g
   after-pop h =
       let s = a .formed .shaped in
       record {
-        formed = record { shaped = pop-shaped (t′ .deques) w s h; long = a .formed .long; places = a .formed .places };
+        formed = record { shaped = pop-shaped (t′ .deques) w s h; few = a .formed .few; places = a .formed .places };
+        same-length = a .same-length;
         deque = pop-list (t′ .deques) w s h ∙ ap tail (a .deque);
         deques = λ v c n. list-elsewhere s (pop-elsewhere (t′ .deques) w s h) v c n ∙ a .deques v c n;
         records = a .records;
@@ -96,7 +101,8 @@ module _ {t t′ : Table} {w : ℕ} {d gs ps : List ℕ} (a : After t t′ w d g
 pub after-take : {t t′ : Table} {w : ℕ} {d ps : List ℕ} (g : ℕ) (gs : List ℕ) → After t t′ w d (g ∷ gs) ps → After t (table (t′ .deques) (t′ .frames) (nextFree (t′ .frames) g)) w d gs ps
 after-take g gs a =
     record {
-      formed = record { shaped = a .formed .shaped; long = a .formed .long; places = a .formed .places .2 };
+      formed = record { shaped = a .formed .shaped; few = a .formed .few; places = a .formed .places .2 };
+      same-length = a .same-length;
       deque = a .deque;
       deques = a .deques;
       records = a .records;

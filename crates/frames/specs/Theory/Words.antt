@@ -1,11 +1,11 @@
--- Every step keeps the words of the deques and of the frame table words: sums wrap, and all else that is stored is a copy of a word, a
+-- Every step keeps the words of the deques and of the frame records words: sums wrap, and all else that is stored is a copy of a word, a
 -- constant or a smaller number.
 use mathlib.Core.Bool.{cond}
 use mathlib.Core.Logic.{inl, inr}
 use mathlib.Core.List.{List}
 use Prim.Native.Nat.{ℕ, zero, suc, _+_, _-_, _*_, _<_}
 use native.Mathlib.Omega.{arith}
-use lib.ListN.{replicate}
+use lib.ListN.{length, replicate}
 use lib.Dec.{eqb}
 use Rattle.words.specs.Basics.{none, plus}
 use Rattle.words.specs.Tests.{decided}
@@ -16,31 +16,31 @@ use Rattle.reducers.specs.Law.{ViewWord}
 use Rattle.reducers.specs.Theory.Laws.{view-law}
 use Rattle.reducers.specs.Theory.Folds.{fold-word}
 use Rattle.frames.specs.declared.Frame.{Frame}
-use Rattle.frames.specs.Widths.{places, dequeStride}
+use Rattle.frames.specs.Widths.{dequeStride}
 use Rattle.frames.specs.Frames.{frameAt, setFrame, withSuspended, withView, withYounger, withoutChild, asReturning, afterSpawn, childOf, freePlace, mainFrame, initPlaces, initFrames}
 use Rattle.frames.specs.Siblings.{names, relinkFrom, relink, onlyChild, nextAfter, joinAt}
 use Rattle.frames.specs.Deques.{size, setSize, place, setPlace, bottom, top, push, pop, shiftUp, dropTop, initDeques}
 use Rattle.frames.specs.Steps.{Table, acting, linkChild, addChild, withFrames, spawn, suspend, removeFrame, unlink, endFrame, resumes, goOn, steal, sync, fold}
 use Rattle.frames.specs.Theory.RecordWords.{words-outstanding, words-suspended, words-returning, words-withView, words-younger, words-childOf, words-afterSpawn, words-freePlace, words-mainFrame}
-pub use Rattle.frames.specs.Theory.RecordWords.{FrameWords, words-view, words-frameAt, words-setFrame, words-root}
+pub use Rattle.frames.specs.Theory.RecordWords.{FrameWords, RecordWords, words-view, words-setFrame, words-root}
 
 -- ---- siblings, and views joined
 
-words-relinkFrom : (n : ℕ) (fs : List ℕ) (q x y c : ℕ) → y < 4294967296 → Words fs → Words (relinkFrom n fs q x y c)
+words-relinkFrom : (n : ℕ) (fs : List Frame) (q x y c : ℕ) → y < 4294967296 → RecordWords fs → RecordWords (relinkFrom n fs q x y c)
 unfolding relinkFrom
 words-relinkFrom zero fs q x y c h F = F
 words-relinkFrom (suc n) fs q x y c h F = elim (decided (names fs q x c)) [
-  | inl e ↦ rw e (words-setFrame fs c (withYounger (frameAt fs c) y) F (words-younger (frameAt fs c) (words-frameAt fs c F) y h))
+  | inl e ↦ rw e (words-setFrame fs c (withYounger (frameAt fs c) y) F (words-younger (frameAt fs c) (F c) y h))
   | inr e ↦ rw e (words-relinkFrom n fs q x y (suc c) h F)
 ]
 
-pub words-relink : (fs : List ℕ) (q x y : ℕ) → y < 4294967296 → Words fs → Words (relink fs q x y)
-words-relink fs q x y h F = words-relinkFrom places fs q x y 0 h F
+pub words-relink : (fs : List Frame) (q x y : ℕ) → y < 4294967296 → RecordWords fs → RecordWords (relink fs q x y)
+words-relink fs q x y h F = words-relinkFrom (length fs) fs q x y 0 h F
 
-pub words-joinAt : (fs : List ℕ) (n : ℕ) (w : View) → ViewWord w → Words fs → Words (joinAt fs n w)
+pub words-joinAt : (fs : List Frame) (n : ℕ) (w : View) → ViewWord w → RecordWords fs → RecordWords (joinAt fs n w)
 words-joinAt fs n w h F =
     let f : Frame = frameAt fs n in
-    let G : FrameWords f = words-frameAt fs n F in
+    let G : FrameWords f = F n in
     words-setFrame fs n (withView f (joinView w (f .view))) F (words-withView f G (joinView w (f .view)) (view-law .join-word w (f .view) h (G .view)))
 
 -- ---- a deque
@@ -96,12 +96,12 @@ words-dropTop ds w h = words-shorter ds w h (shiftUp (size ds w - 1) ds w 0) (wo
 
 pub record TableWords (t : Table) : Type 0 where
   pub deques : Words (t .deques)
-  pub frames : Words (t .frames)
+  pub frames : RecordWords (t .frames)
   pub place : t .«free_place» < 4294967296
 
 module _ (t : Table) (w : ℕ) (T : TableWords t) where
   pub words-acting : FrameWords (acting t w)
-  words-acting = words-frameAt (t .frames) (bottom (t .deques) w) (T .frames)
+  words-acting = T .frames (bottom (t .deques) w)
 
   words-addChild : TableWords (addChild t w)
   unfolding addChild
@@ -111,7 +111,7 @@ module _ (t : Table) (w : ℕ) (T : TableWords t) where
       record {
         deques = words-push (t .deques) w (T .deques) (t .«free_place») (T .place);
         frames = words-setFrame (setFrame (t .frames) p (afterSpawn f)) (t .«free_place») (childOf f p) (words-setFrame (t .frames) p (afterSpawn f) (T .frames) (words-afterSpawn f words-acting)) (words-childOf f words-acting p (bottom-word (t .deques) w (T .deques)));
-        place = words-frameAt (t .frames) (t .«free_place») (T .frames) .parent;
+        place = T .frames (t .«free_place») .parent;
       }
 
   pub words-fold : (r v : ℕ) → TableWords (fold t w r v)
@@ -141,7 +141,7 @@ module _ (t : Table) (w : ℕ) (T : TableWords t) where
       elim (decided (resumes f)) [
         | inl e ↦ rw e (record {
           deques = words-push (t .deques) w (T .deques) q h;
-          frames = words-setFrame (t .frames) q (withSuspended f 0) (T .frames) (words-suspended f (words-frameAt (t .frames) q (T .frames)) 0 (omega arith));
+          frames = words-setFrame (t .frames) q (withSuspended f 0) (T .frames) (words-suspended f (T .frames q) 0 (omega arith));
           place = T .place;
         })
         | inr e ↦ rw e T
@@ -156,7 +156,7 @@ module _ (t : Table) (w : ℕ) (T : TableWords t) where
       ]
 
 -- the youngest child names the new one
-words-linkChild : (fs : List ℕ) (p g : ℕ) → g < 4294967296 → Words fs → Words (linkChild fs p g)
+words-linkChild : (fs : List Frame) (p g : ℕ) → g < 4294967296 → RecordWords fs → RecordWords (linkChild fs p g)
 words-linkChild fs p g h F = elim (decided (eqb (frameAt fs p .outstanding) 0)) [
   | inl e ↦ rw e F
   | inr e ↦ rw e (words-relink fs p none g h F)
@@ -165,39 +165,39 @@ words-linkChild fs p g h F = elim (decided (eqb (frameAt fs p .outstanding) 0)) 
 pub words-spawn : (t : Table) (w : ℕ) → TableWords t → TableWords (spawn t w)
 unfolding spawn
 words-spawn t w T =
-    let fs : List ℕ = linkChild (t .frames) (bottom (t .deques) w) (t .«free_place») in
+    let fs : List Frame = linkChild (t .frames) (bottom (t .deques) w) (t .«free_place») in
     words-addChild (withFrames t fs) w (record {
       deques = T .deques;
       frames = words-linkChild (t .frames) (bottom (t .deques) w) (t .«free_place») (T .place) (T .frames);
       place = T .place;
     })
 
-words-removeFrame : (fs : List ℕ) (free p : ℕ) → free < 4294967296 → Words fs → Words (removeFrame fs free p)
+words-removeFrame : (fs : List Frame) (free p : ℕ) → free < 4294967296 → RecordWords fs → RecordWords (removeFrame fs free p)
 unfolding removeFrame
 words-removeFrame fs free p h F =
     let q : ℕ = frameAt fs p .parent in
     let g : Frame = frameAt fs q in
-    let G : FrameWords g = words-frameAt fs q F in
-    let freed : Words (setFrame fs p (freePlace free)) = words-setFrame fs p (freePlace free) F (words-freePlace free h) in
+    let G : FrameWords g = F q in
+    let freed : RecordWords (setFrame fs p (freePlace free)) = words-setFrame fs p (freePlace free) F (words-freePlace free h) in
     elim (decided (eqb q none)) [
       | inl e ↦ rw e freed
       | inr e ↦ rw e (words-setFrame (setFrame fs p (freePlace free)) q (withoutChild g) freed (words-outstanding g G (g .outstanding - 1) (minus-word (g .outstanding) 1 (G .outstanding))))
     ]
 
-words-unlink : (fs : List ℕ) (p : ℕ) (gs : List ℕ) → Words fs → Words gs → Words (unlink fs p gs)
+words-unlink : (fs : List Frame) (p : ℕ) (gs : List Frame) → RecordWords fs → RecordWords gs → RecordWords (unlink fs p gs)
 words-unlink fs p gs F G = elim (decided (onlyChild fs p)) [
   | inl e ↦ rw e G
-  | inr e ↦ rw e (words-relink gs (frameAt fs p .parent) p (frameAt fs p .younger) (words-frameAt fs p F .younger) G)
+  | inr e ↦ rw e (words-relink gs (frameAt fs p .parent) p (frameAt fs p .younger) (F p .younger) G)
 ]
 
-pub words-endFrame : (fs : List ℕ) (free p : ℕ) → free < 4294967296 → Words fs → Words (endFrame fs free p)
+pub words-endFrame : (fs : List Frame) (free p : ℕ) → free < 4294967296 → RecordWords fs → RecordWords (endFrame fs free p)
 unfolding endFrame
 words-endFrame fs free p h F =
-    let gs : List ℕ = removeFrame fs free p in
-    let G : Words gs = words-removeFrame fs free p h F in
+    let gs : List Frame = removeFrame fs free p in
+    let G : RecordWords gs = words-removeFrame fs free p h F in
     elim (decided (eqb (frameAt fs p .parent) none)) [
       | inl e ↦ rw e G
-      | inr e ↦ rw e (words-joinAt (unlink fs p gs) (nextAfter fs p) (frameAt fs p .view) (words-frameAt fs p F .view) (words-unlink fs p gs F G))
+      | inr e ↦ rw e (words-joinAt (unlink fs p gs) (nextAfter fs p) (frameAt fs p .view) (F p .view) (words-unlink fs p gs F G))
     ]
 
 pub words-steal : (t : Table) (w v : ℕ) → TableWords t → TableWords (steal t w v)
@@ -207,16 +207,16 @@ words-steal t w v T =
 
 -- ---- the start
 
-words-initPlaces : (c : ℕ) (fs : List ℕ) (p : ℕ) → Words fs → Words (initPlaces c fs p)
+words-initPlaces : (c : ℕ) (fs : List Frame) (p : ℕ) → RecordWords fs → RecordWords (initPlaces c fs p)
 unfolding initPlaces
 words-initPlaces zero fs p h = h
 words-initPlaces (suc c) fs p h =
     let next : ℕ = cond (eqb c 0) none (plus p 1) in
     words-initPlaces c (setFrame fs p (freePlace next)) (plus p 1) (words-setFrame fs p (freePlace next) h (words-freePlace next (cond-word (eqb c 0) none (plus p 1) (omega arith) (plus-word p 1))))
 
-pub words-initFrames : (n : ℕ) → Words (initFrames (replicate n 0))
+pub words-initFrames : (fs : List Frame) → RecordWords fs → RecordWords (initFrames fs)
 unfolding initFrames
-words-initFrames n = words-initPlaces (places - 1) (setFrame (replicate n 0) 0 (mainFrame 0)) 1 (words-setFrame (replicate n 0) 0 (mainFrame 0) (words-zeros n) words-mainFrame)
+words-initFrames fs h = words-initPlaces (length fs - 1) (setFrame fs 0 (mainFrame 0)) 1 (words-setFrame fs 0 (mainFrame 0) h words-mainFrame)
 
 pub words-initDeques : (n : ℕ) → Words (initDeques (replicate n 0))
 unfolding initDeques

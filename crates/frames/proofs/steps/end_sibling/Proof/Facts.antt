@@ -1,0 +1,83 @@
+-- The facts of the walk of `frames::steps::end_sibling`, for its author to prove. tools/walk wrote the statements, and never writes over this file.
+-- A module's binders are what is known at that point; a `?` is a goal (`rt dev frames --allow-holes` prints each).
+use mathlib.Core.Path.{_≡_, refl, sym, _∙_, ap, subst}
+use Prim.Native.Nat.{ℕ, _+_, _-_, _*_, _<_, _≤_, _^_}
+use mathlib.Core.List.{List}
+use mathlib.Core.Bool.{Bool, true, false}
+use lib.ListN.{length, getD, set}
+use native.Mathlib.Omega.{arith}
+use mathlib.Core.Logic.{_≢_}
+use Rattle.words.specs.Basics.{none}
+use Rattle.reducers.specs.Reducers.{foldView}
+use Rattle.frames.specs.declared.Frame.{Frame}
+use Rattle.frames.specs.Widths.{maxWorkers, maxPlaces, dequePlaces, dequeWords}
+use Rattle.frames.specs.Frames.{frameAt, setFrame, withView, initFrames}
+use Rattle.frames.specs.Deques.{size}
+use Rattle.frames.specs.Steps.{linkChild, spawn, removeFrame, endFrame, steal}
+use Rattle.frames.specs.Promises.{table, Waits, GoesOn, IsSync}
+use Rattle.frames.specs.Ranges.{Acts, EndsIn}
+use mathlib.Core.Bool.{cond}
+use lib.Dec.{eqb}
+use Rattle.frames.specs.Siblings.{relink, eldest, firstFrom, joinAt}
+use mathlib.Core.Bool.{_&&_}
+use lib.Dec.{ltb}
+use Rattle.words.specs.Basics.{plus, minus}
+use Rattle.reducers.specs.Reducers.{zeroView, joinView}
+use Rattle.frames.specs.Frames.{withSuspended, withRoot, withYounger, withoutChild, afterSpawn, asReturning, childOf, freePlace, mainFrame}
+use Rattle.frames.specs.Steps.{waitsNoMore, endsToo}
+use Rattle.reducers.specs.declared.View.{View}
+use Rattle.frames.proofs.Ways.{parent-in, ended-sibling}
+
+module _
+    (frames : List Frame) (free : ℕ) (p : ℕ) (q : ℕ) (frames-fits : length frames < 2 ^ 64) (free-fits : free < 2 ^ 32) (p-fits : p < 2 ^ 32) (q-fits : q < 2 ^ 32) (ok : EndsIn frames p q × (length frames ≤ maxPlaces) × (q ≢ none) × (frameAt frames q .outstanding ≢ 1)) where
+  -- frames::table::frame_at asks
+  pub needs-1 : p < length frames
+  needs-1 = ok .0 .within
+
+  module _
+      -- frames::table::frame_at(frames, p)
+      (f : Frame) (f-is : f ≡ frameAt frames p) where
+    -- frames::table::frame_at asks
+    pub needs-2 : q < length frames
+    needs-2 = parent-in (ok .0) (ok .2) .0
+
+    module _
+        -- frames::table::frame_at(frames, q)
+        (g : Frame) (g-is : g ≡ frameAt frames q) where
+      -- frames::siblings::next_after asks
+      pub needs-3 : length frames ≤ maxPlaces
+      needs-3 = ok .1
+
+      module _
+          -- frames::siblings::next_after(frames, q, (f .younger))
+          (next : ℕ) (next-fits : next < 2 ^ 32) (next-is : next ≡ cond (eqb (f .younger) none) q (firstFrom (length frames) frames (f .younger)))
+          -- frames::records::free_place(free)
+          (r-4 : Frame) (r-4-is : r-4 ≡ freePlace free) where
+        -- frames::table::put_frame asks
+        pub needs-5 : p < length frames
+        needs-5 = ok .0 .within
+
+        module _
+            -- frames::table::put_frame(frames, p, r-4)
+            (frames-5 : List Frame) (done-5 : frames-5 ≡ setFrame frames p r-4) (same-frames-5 : length frames-5 ≡ length frames)
+            -- frames::records::without_child(g)
+            (r-6 : Frame) (r-6-is : r-6 ≡ withoutChild g) where
+          -- frames::table::put_frame asks
+          pub needs-7 : q < length frames-5
+          needs-7 = subst (λ (k′ : ℕ). q < k′) (sym same-frames-5) (parent-in (ok .0) (ok .2) .0)
+
+          module _
+              -- frames::table::put_frame(frames, q, r-6)
+              (frames-7 : List Frame) (done-7 : frames-7 ≡ setFrame frames-5 q r-6) (same-frames-7 : length frames-7 ≡ length frames-5) where
+            -- frames::siblings::relink asks
+            pub needs-8 : length frames-7 ≤ maxPlaces
+            needs-8 = subst (λ (k′ : ℕ). k′ ≤ maxPlaces) (sym (same-frames-7 ∙ same-frames-5)) (ok .1)
+
+            module _
+                -- frames::siblings::relink(frames, q, p, (f .younger))
+                (frames-8 : List Frame) (done-8 : frames-8 ≡ relink frames-7 q p (f .younger)) (same-frames-8 : length frames-8 ≡ length frames-7)
+                -- frames::siblings::join_if_place(frames, next, (f .view))
+                (frames-9 : List Frame) (done-9 : frames-9 ≡ joinAt frames-8 next (f .view)) (same-frames-9 : length frames-9 ≡ length frames-8) where
+              -- a way out: what the function ensures
+              pub out-10 : frames-9 ≡ endFrame frames free p
+              out-10 = ended-sibling frames free p q (ok .0 .up) r-4 r-4-is g r-6 frames-5 frames-7 (ok .2) g-is r-6-is done-5 done-7 f frames-8 frames-9 next f-is (ok .3) next-is done-8 done-9
