@@ -2,6 +2,8 @@
 pub mod Tallied
 -- the free chain
 pub mod FreeChain
+-- the last place where a frame lives
+pub mod Ends
 -- the check, taken apart
 pub mod Passes
 -- the tests on links are the links' sentence

@@ -1,31 +1,32 @@
 // The frame places: what each has to be, given its tallies, and the free chain.
 ghost use mathlib.Core.Path.{_≡_};
-ghost use Prim.Native.Nat.{_<_};
-ghost use lib.ListN.{length};
-ghost use Rattle.frames.specs.Widths.{places, frameWords};
-ghost use mathlib.Core.Bool.{cond};
+ghost use mathlib.Core.Bool.{_&&_};
+ghost use Prim.Native.Nat.{_≤_};
+ghost use lib.ListN.{length, getD};
 ghost use Rattle.words.specs.Basics.{all};
+ghost use Rattle.frames.specs.Widths.{maxPlaces};
 ghost use Rattle.soundness.specs.Soundness.{viewZero};
-ghost use Rattle.frame_check.specs.Algorithm.{parentSound, placedSound, returningSound, liveSound, freeSound, placeTallied, liveAt, lives, chainFrom};
+ghost use Rattle.frame_check.specs.Algorithm.{parentSound, placedSound, returningSound, liveSound, recordSound, freeSound, freeNext, liveEnd, placeTallied, chainFrom};
+use super::links::LOST;
+use super::links::at_end;
 use super::links::siblings_sound;
 use super::links::younger_sound;
+use super::tallies::DEQUE_SPAN;
 use super::tallies::DEQUE_STEP;
-use super::tallies::LINK_STEP;
 use frames::Frame;
 use frames::NONE;
-use frames::PLACES;
 use frames::frame_at;
 use frames::frame_or_zero;
 use reducers::View;
 
 // Main has no parent, any other live frame f a live one, one shallower, whose record is g.
-fn parent_sound(f: Frame, g: Frame) -> bool
-    ensures { λ r. ⌜ r ≡ parentSound f g ⌝ }
+fn parent_sound(places: u32, f: Frame, g: Frame) -> bool
+    ensures { λ r. ⌜ r ≡ parentSound places f g ⌝ }
 {
     if f.depth == 0 {
         return f.parent == NONE;
     }
-    (f.parent < PLACES) & ((g.live == 1) & (words::sub(f.depth, 1) == g.depth))
+    (f.parent < places) & ((g.live == 1) & (words::sub(f.depth, 1) == g.depth))
 }
 
 // A live frame with so many children is on one place of the deques, or on none and waits.
@@ -42,59 +43,45 @@ fn returning_sound(f: Frame) -> bool
     (f.returning == 0) | ((f.returning == 1) & (f.suspended == 1))
 }
 
-fn live_sound(f: Frame, g: Frame, children: u32, seen: u32) -> bool
-    ensures { λ r. ⌜ r ≡ liveSound f g children seen ⌝ }
+fn live_sound(places: u32, f: Frame, g: Frame, children: u32, seen: u32) -> bool
+    ensures { λ r. ⌜ r ≡ liveSound places f g children seen ⌝ }
 {
     (f.outstanding == children)
-        & (parent_sound(f, g)
+        & (parent_sound(places, f, g)
             & (placed_sound(f, children, seen) & (returning_sound(f) & younger_sound(f, g))))
 }
 
-// A live frame at place p, with its word of the tallies.
-fn place_sound(frames: &[u32], tallies: &[u32], p: u32) -> bool
-    requires { ⌜ (length (now frames) ≡ frameWords) × (length (now tallies) ≡ places) × (p < places) ⌝ }
-    ensures { λ r. ⌜ r ≡ placeTallied (now (frames .entry)) (now (tallies .entry)) p ⌝ }
+// Where the parent's record is.
+pub fn parent_of(f: Frame) -> u32
+    ensures { λ r. ⌜ r ≡ f .parent ⌝ }
 {
-    let f = frame_at(frames, p);
+    f.parent
+}
+
+// The record f with its parent's record g and its word t of the tallies, if a frame lives there.
+fn record_sound(places: u32, f: Frame, g: Frame, t: u32) -> bool
+    ensures { λ r. ⌜ r ≡ recordSound places f g t ⌝ }
+{
     if f.live != 1 {
         return true;
     }
+    live_sound(places, f, g, t % DEQUE_STEP, t / DEQUE_STEP % DEQUE_SPAN)
+}
+
+// Is the place p sound too, whose children are linked as they should be or not?
+pub fn place_turn(
+    sound: bool,
+    linked: bool,
+    places: u32,
+    f: Frame,
+    g: Frame,
+    tallies: &[u32],
+    p: u32,
+) -> bool
+    ensures { λ r. ⌜ r ≡ (sound && (linked && recordSound places f g (getD (now (tallies .entry)) p 0))) ⌝ }
+{
     let t = words::word(tallies, p as usize);
-    let children = t % DEQUE_STEP;
-    if !siblings_sound(frames, p, children, t / LINK_STEP) {
-        return false;
-    }
-    live_sound(
-        f,
-        frame_or_zero(frames, f.parent),
-        children,
-        t / DEQUE_STEP % DEQUE_STEP,
-    )
-}
-
-// 1 where a frame lives, else 0.
-fn live_in(frames: &[u32], p: u32) -> u32
-    requires { ⌜ (length (now frames) ≡ frameWords) × (p < places) ⌝ }
-    ensures { λ r. ⌜ r ≡ cond (liveAt (now (frames .entry)) p) 1 0 ⌝ }
-{
-    if frame_at(frames, p).live == 1 { 1 } else { 0 }
-}
-
-// The places of all live frames, which are so many.
-pub fn places_sound(frames: &[u32], tallies: &[u32], live: u32) -> bool
-    requires { ⌜ (length (now frames) ≡ frameWords) × (length (now tallies) ≡ places) × (live ≡ lives (now frames)) ⌝ }
-    ensures { λ r. ⌜ r ≡ all places (placeTallied (now (frames .entry)) (now (tallies .entry))) ⌝ }
-{
-    let mut left = live;
-    let mut p: u32 = 0;
-    while left > 0 {
-        if !place_sound(frames, tallies, p) {
-            return false;
-        }
-        left -= live_in(frames, p);
-        p += 1;
-    }
-    true
+    sound & (linked & record_sound(places, f, g, t))
 }
 
 fn view_zero(v: View) -> bool
@@ -116,23 +103,45 @@ fn free_sound(f: Frame) -> bool
                     & ((f.root == 0) & ((f.returning == 0) & (view_zero(v) & (f.younger == 0)))))))
 }
 
+// The next free place after p, whose record is f.
+pub fn free_next(places: u32, f: Frame, p: u32) -> u32
+    ensures { λ r. ⌜ r ≡ freeNext places f p ⌝ }
+{
+    if (p < places) & free_sound(f) {
+        f.parent
+    } else {
+        LOST
+    }
+}
+
+// The places before end, from which on no frame lives.
+pub fn places_sound(frames: &[Frame], tallies: &[u32], places: u32, end: u32) -> bool
+    requires { ⌜ (places ≡ length (now frames)) × (places ≤ maxPlaces) × (end ≡ liveEnd (now frames)) ⌝ }
+    ensures { λ r. ⌜ r ≡ all (length (now (frames .entry))) (placeTallied (now (frames .entry)) (now (tallies .entry))) ⌝ }
+{
+    let mut sound = true;
+    let mut p: u32 = 0;
+    while p < end {
+        let linked = siblings_sound(frames, tallies, places, p);
+        let f = frame_at(frames, p);
+        let g = frame_or_zero(frames, parent_of(f));
+        sound = place_turn(sound, linked, places, f, g, tallies, p);
+        p += 1;
+    }
+    sound
+}
+
 // Has the chain from place first on just so many places, all of them free? No place is on such a chain twice: it would not end.
-pub fn follow_free(frames: &[u32], count: u32, first: u32) -> bool
-    requires { ⌜ length (now frames) ≡ frameWords ⌝ }
+pub fn follow_free(frames: &[Frame], places: u32, count: u32, first: u32) -> bool
+    requires { ⌜ (places ≡ length (now frames)) × (places ≤ maxPlaces) ⌝ }
     ensures { λ r. ⌜ r ≡ chainFrom (now (frames .entry)) count first ⌝ }
 {
-    let mut left = count;
     let mut p = first;
-    while left > 0 {
-        if p >= PLACES {
-            return false;
-        }
-        let f = frame_at(frames, p);
-        if !free_sound(f) {
-            return false;
-        }
-        p = f.parent;
-        left -= 1;
+    let mut k: u32 = 0;
+    while k < count {
+        let f = frame_or_zero(frames, p);
+        p = free_next(places, f, p);
+        k += 1;
     }
-    p == NONE
+    at_end(p)
 }

@@ -3,29 +3,31 @@ use mathlib.Core.Path.{_≡_, refl, sym, ap, _∙_}
 use mathlib.Core.Logic.{inl, inr}
 use mathlib.Core.Bool.{Bool, true, false, cond, not, _&&_, and-false}
 use mathlib.Core.List.{List}
-use Prim.Native.Nat.{ℕ, zero, suc, _+_, _-_, _*_, _%_, _^_, _≤_, _<_, min}
+use Prim.Native.Nat.{ℕ, zero, suc, _+_, _-_, _*_, _/_, _%_, _^_, _≤_, _<_, min}
 use native.Mathlib.Nat.{add-zero, add-suc}
 use native.Mathlib.Numerals.{add-one, sub-one}
 use native.Mathlib.Omega.{arith}
 use native.Mathlib.Decide.{ℕ-discrete}
-use borrow.Author.Tests.{eq-eqb, ne-eqb, eqb-false, lt-ltb, le-ltb, le-leb, lt-leb, not-true, not-false}
+use borrow.Author.Tests.{eq-eqb, ne-eqb, eqb-false, lt-ltb, le-ltb, leb-true, le-leb, not-true, not-false}
 use lib.Dec.{eqb, leb, ltb}
 use lib.ListN.{length, getD, set}
 use lib.Pow.{shl-exact}
-use Rattle.words.specs.Basics.{none, all, howMany}
-use Rattle.words.specs.Counting.{hit, miss}
-use Rattle.words.specs.Loops.{upto, all-left, not-past, fewer-left}
+use Rattle.words.specs.Basics.{none, all}
+use Rattle.words.specs.Tallies.{same-tests}
 use Rattle.sizes.specs.Sizes.{height}
-use Rattle.words.specs.Tests.{decided}
+use Rattle.sizes.specs.Heights.{height-le}
+use Rattle.words.specs.Tests.{decided, both}
 use Rattle.pool.specs.Pool.{refcount, left, right, value}
 use Rattle.frames.specs.declared.Frame.{Frame}
 use Rattle.frames.specs.Frames.{frameAt}
-use Rattle.soundness.specs.Soundness.{lives, isFree}
+use Rattle.frames.specs.Widths.{maxPlaces}
+use Rattle.soundness.specs.Soundness.{lives, cleared}
 use Rattle.pool_check.specs.declared.PoolChecked.{PoolChecked}
 use Rattle.pool_check.specs.declared.PoolChecked.the-variants.{Bad, Good}
-use Rattle.pool_check.specs.Theory.Ways.{onLeft, visit-off, visit-again, visit-shapeless, visit-below, below-leaf, below-left, below-end, below-right, place-live, place-free, settle-off, settle-on, run-out, run-off, run-on}
-use Rattle.pool_check.specs.Answer.{inBounds}
-use Rattle.pool_check.specs.Algorithm.{mark, links, counted, fresh, stamp, shaped, stamped, linked, visit, below, onward, Met, Roomy, visitPlace, visitPlaces, nodeRight, unvisited, vacant, chainFrom, settle, runCheck}
+use Rattle.pool_check.specs.Theory.Ways.{onLeft, visit-off, visit-again, visit-shapeless, visit-below, below-leaf, below-left, below-end, below-right, place-free, settle-off, settle-on, run-out, run-off, run-on}
+use Rattle.pool_check.specs.Theory.Correct.{check-answer, check-work}
+use Rattle.pool_check.specs.Answer.{inBounds, poolChecked}
+use Rattle.pool_check.specs.Algorithm.{mark, links, counted, fresh, stamp, andThen, rootVisited, recordVisited, shaped, stamped, linked, visit, below, onward, Met, Roomy, visitPlace, visitPlaces, DeadFrom, nodeRight, unvisited, vacant, chainFrom, settle, runCheck}
 
 -- the two parts of an equation of pairs, and back
 pub parts : {A : Type 0} {p q : List ℕ × A} → p ≡ q → (p .0 ≡ q .0) × (p .1 ≡ q .1)
@@ -165,83 +167,59 @@ module _ {N : ℕ} {ws : List ℕ} {level k i : ℕ} {w : List ℕ} {level' k' i
   pub down-room : Roomy N ws w level k → (w₁ : List ℕ) → length w₁ ≡ length w → (l p : ℕ) → l ≤ level' → p ≤ k' → Roomy N ws w₁ l p
   down-room r w₁ e l p hl hp = record { pool = r .pool; work = omega (arith, r); level = omega (arith, r); part = omega arith }
 
--- ---- the m places
+-- ---- a frame's tree, by the ways out; w and sound are what was before
 
-module _ (m n h N : ℕ) (fs ws w₀ : List ℕ) where
-  abbrev pub visited : ℕ → List ℕ × Bool
-  visited p = visitPlaces n h N fs ws p w₀
+module _ (n h N : ℕ) (ws : List ℕ) (f : Frame) (w : List ℕ) (sound : Bool) where
+  pub record-off : not sound ≡ true → (w, false) ≡ recordVisited n h N ws f (w, sound)
+  record-off t = rw (not-true sound t) refl
 
-  next-place : (p : ℕ) (w : List ℕ) → visited p ≡ (w, true) → visited (suc p) ≡ visitPlace n h N fs ws p w
+  pub record-dead : not sound ≡ false → (f .live ≡ 1 → ⊥) → (w, true) ≡ recordVisited n h N ws f (w, sound)
+  record-dead t u = rw (not-false sound t, ne-eqb (f .live) 1 u, recordVisited, rootVisited) refl
+
+  pub record-live : not sound ≡ false → f .live ≡ 1 → visit N ws h n (f .root) w ≡ recordVisited n h N ws f (w, sound)
+  record-live t u = rw (not-false sound t, eq-eqb (f .live) 1 u, recordVisited, rootVisited) refl
+
+-- ---- visit_places: the places below p
+
+module _ (n h N : ℕ) (fs : List Frame) (ws w₀ : List ℕ) where
+  -- the trees of the places below p are visited, which gives w and sound
+  abbrev pub visitedTo : ℕ → List ℕ × Bool
+  visitedTo p = visitPlaces n h N fs ws p w₀
+
+  pub visited-begins : visitedTo 0 ≡ (w₀, true)
   unfolding visitPlaces
-  next-place p w e = rw e
+  visited-begins = refl
 
-  -- a failure is final
-  failed-place : (d p : ℕ) (w : List ℕ) → visited p ≡ (w, false) → visited (p + d) ≡ (w, false)
+  pub visited-turn : (p : ℕ) {w w′ : List ℕ} {sound sound′ : Bool} {f : Frame} → visitedTo p ≡ (w, sound) → f ≡ frameAt fs p
+      → (w′ ≡ recordVisited n h N ws f (w, sound) .0) × (sound′ ≡ recordVisited n h N ws f (w, sound) .1) → visitedTo (p + 1) ≡ (w′, sound′)
+  unfolding visitPlaces visitPlace
+  visited-turn p {w} {w′} {sound} {sound′} {f} i d is =
+      rw add-one (ap (λ q. andThen q (visitPlace n h N fs ws p)) i ∙ ap (λ (g : Frame). recordVisited n h N ws g (w, sound)) (sym d) ∙ pair _ is)
+
+  -- from `end` on no frame lives
+  dead-places : (d end : ℕ) → ((p : ℕ) → end ≤ p → p < end + d → lives fs p ≡ false) → visitedTo (end + d) ≡ visitedTo end
   unfolding visitPlaces
-  failed-place zero p w e = rw add-zero e
-  failed-place (suc d) p w e = rw (add-suc, failed-place d p w e)
-
-  -- from p on no frame lives
-  dead-places : (d p : ℕ) (w : List ℕ) → visited p ≡ (w, true) → howMany p (lives fs) ≡ howMany (p + d) (lives fs) → visited (p + d) ≡ (w, true)
-  dead-places zero p w e s = rw add-zero e
-  dead-places (suc d) p w e s = rw add-suc (elim (decided (lives fs (p + d))) [
-    | inl t ↦ absurd (omega (arith, count, upto (p + d) (lives fs) (p + d) p (omega arith), hit t))
-    | inr t ↦ next-place (p + d) w (dead-places d p w e (omega (arith, count, miss t))) ∙ place-free n h N fs ws (p + d) w t
-  ])
+  dead-places zero end dead = rw add-zero refl
+  dead-places (suc d) end dead = rw add-suc (ap (λ q. andThen q (visitPlace n h N fs ws (end + d))) (dead-places d end (λ p a b. dead p a (omega arith))) ∙ idle (visitedTo end))
     where
-      count : howMany p (lives fs) ≡ howMany (p + d) (lives fs) + cond (lives fs (p + d)) 1 0
-      count = rw add-suc at s
+      idle : (q : List ℕ × Bool) → andThen q (visitPlace n h N fs ws (end + d)) ≡ q
+      idle (w, true) = place-free n h N fs ws (end + d) w (dead (end + d) (omega arith) (omega arith))
+      idle (w, false) = refl
 
-  -- the trees of the places below p are visited, and `left` live frames are to come
-  pub record Visited (p left : ℕ) (w : List ℕ) : Type 0 where
-    pub done : visited p ≡ (w, true)
-    pub more : howMany p (lives fs) + left ≡ howMany m (lives fs)
-    pub within : p ≤ m
+  pub visited-ends : {p end : ℕ} {w : List ℕ} {sound : Bool} → h ≡ height n → DeadFrom fs end → visitedTo p ≡ (w, sound) → p ≤ end → end ≤ p
+      → (w ≡ visitPlaces n (height n) N fs ws (length fs) w₀ .0) × (sound ≡ visitPlaces n (height n) N fs ws (length fs) w₀ .1)
+  visited-ends {p} {end} {w} {sound} k dead i x y = rw (← k) (parts all-visited)
+    where
+      all-visited : (w, sound) ≡ visitedTo (length fs)
+      all-visited =
+          let e : end ≡ p = omega arith in
+          let b = dead .0 in
+          let l : end + (length fs - end) ≡ length fs = omega arith in
+          sym i ∙ ap (λ q. visitedTo q) (sym e) ∙ sym (dead-places (length fs - end) end (λ q u v. dead .1 q u (omega arith))) ∙ ap (λ q. visitedTo q) l
 
-  pub visited-none : (live : ℕ) → live ≡ howMany m (lives fs) → Visited 0 live w₀
-  unfolding visitPlaces
-  visited-none live e = record { done = refl; more = all-left m (lives fs) live e; within = omega arith }
-
-  module _ (p left : ℕ) (w : List ℕ) (v : Visited p left w) where
-    pub visited-all : left ≤ 0 → (w, true) ≡ visited m
-    visited-all z = let e : p + (m - p) ≡ m = omega (arith, v .within) in
-        sym (ap (λ (q : ℕ). visited q) (sym e) ∙ dead-places (m - p) p w (v .done) (omega (arith, v .more, ap (λ q. howMany q (lives fs)) e)))
-
-    pub inside-places : 0 < left → p < m
-    inside-places some = not-past m (lives fs) p left (v .more) some (v .within)
-
-    module _ (some : 0 < left) (f : Frame) (e : f ≡ frameAt fs p) where
-      live-is : {b : Bool} → eqb (f .live) 1 ≡ b → lives fs p ≡ b
-      live-is t = ap (λ (g : Frame). eqb (g .live) 1) (sym e) ∙ t
-
-      pub visited-dead : (f .live ≡ 1 → ⊥) → Visited (p + 1) left w
-      visited-dead u =
-          let t : lives fs p ≡ false = live-is (ne-eqb (f .live) 1 u) in
-          record {
-            done = rw add-one (next-place p w (v .done) ∙ place-free n h N fs ws p w t);
-            more = omega (arith, fewer-left m (lives fs) p left 0 (v .more) (sym (miss t)) (omega arith));
-            within = omega (arith, inside-places some);
-          }
-
-      module _ (u : f .live ≡ 1) (w′ : List ℕ) (b : Bool) (is : (w′ ≡ visit N ws h n (f .root) w .0) × (b ≡ visit N ws h n (f .root) w .1)) where
-        visited-next : visited (suc p) ≡ (w′, b)
-        visited-next =
-            next-place p w (v .done)
-            ∙ place-live n h N fs ws p w (live-is (eq-eqb (f .live) 1 u))
-            ∙ ap (λ (g : Frame). visit N ws h n (g .root) w) (sym e)
-            ∙ pair _ is
-
-        pub visited-live : b ≡ true → Visited (p + 1) (left - 1) w′
-        visited-live t = record {
-          done = rw add-one (visited-next ∙ ap (λ q. (w′, q)) t);
-          more = fewer-left m (lives fs) p left 1 (v .more) (sym (hit (live-is (eq-eqb (f .live) 1 u)))) some;
-          within = omega (arith, inside-places some);
-        }
-
-        pub visited-fails : b ≡ false → (w′, false) ≡ visited m
-        visited-fails t =
-            let e : suc p + (m - suc p) ≡ m = omega (arith, inside-places some) in
-            sym (ap (λ (q : ℕ). visited q) (sym e) ∙ failed-place (m - suc p) (suc p) w′ (visited-next ∙ ap (λ q. (w′, q)) t))
+-- room for a visit, whatever was visited before
+pub visited-room : (n N : ℕ) (ws w₀ : List ℕ) {w : List ℕ} {h : ℕ} → Roomy N ws w₀ (height n) n → h ≡ height n → length w ≡ length w₀ → Roomy N ws w h n
+visited-room n N ws w₀ r e l = record { pool = r .pool; work = omega (arith, r .work); level = omega (arith, r .level); part = r .part }
 
 -- ---- the nodes
 
@@ -308,26 +286,38 @@ module _ (N : ℕ) (ws : List ℕ) (first : ℕ) (w : List ℕ) (r : PoolChecked
   pub settle-lost : (free : ℕ) → r ≡ Good free → chainFrom N ws w free first ≡ false → Bad ≡ settle N ws first w
   settle-lost free g t = rw t at (settle-right free g)
 
-module _ (n N first : ℕ) (fs ws w : List ℕ) where
-  pub out-splitters : 256 < n → (w, Bad) ≡ runCheck n N first fs ws w
-  out-splitters h = sym (run-out n N first fs ws w (rw (lt-leb n 256 h)))
+-- room for N nodes of four words, as the code tests it
+pub quarter-test : (N m : ℕ) → leb N (m / 4) ≡ leb (4 * N) m
+quarter-test N m = same-tests _ _ (λ e. le-leb (4 * N) m (omega (arith, leb-true N (m / 4) e))) (λ e. le-leb N (m / 4) (omega (arith, leb-true (4 * N) m e)))
 
-  pub out-nodes : 16384 < N → (w, Bad) ≡ runCheck n N first fs ws w
-  out-nodes h = sym (run-out n N first fs ws w (rw (lt-leb N 16384 h) (and-false (leb n 256))))
+-- ---- check_pool; w is the lent work slice
 
-  pub out-pool : length ws < 4 * N → (w, Bad) ≡ runCheck n N first fs ws w
-  out-pool h = sym (run-out n N first fs ws w (rw (lt-leb (4 * N) (length ws) h, and-false (leb N 16384)) (and-false (leb n 256))))
+module _ (n N first : ℕ) (fs : List Frame) (ws w : List ℕ) (table : length fs ≤ maxPlaces) {w₁ : List ℕ} (clears : w₁ ≡ cleared N w) where
+  whole : {w′ : List ℕ} {r : PoolChecked} {p : List ℕ × PoolChecked} → p ≡ runCheck n N first fs ws w₁ → w′ ≡ cleared N (p .0) → r ≡ p .1 → (w′ ≡ cleared N w) × (r ≡ poolChecked n N first fs ws w)
+  whole {p = p} e c r =
+      let d : p ≡ runCheck n N first fs ws (cleared N w) = e ∙ ap (runCheck n N first fs ws) clears in
+      (c ∙ ap (λ q. cleared N (q .0)) d ∙ check-work n N first fs ws w, r ∙ ap (λ q. q .1) d ∙ check-answer n N first fs ws w table)
 
-  pub out-work : length w < N → (w, Bad) ≡ runCheck n N first fs ws w
-  out-work h =
-      sym (run-out n N first fs ws w (rw (lt-leb N (length w) h, and-false (leb (4 * N) (length ws)), and-false (leb N 16384)) (and-false (leb n 256))))
+  module _ {b : Bool} (is : b ≡ inBounds n N ws w₁) where
+    -- out of bounds: nothing more is done
+    pub check-out : b ≡ false → {r : PoolChecked} → r ≡ Bad → (w₁ ≡ cleared N w) × (r ≡ poolChecked n N first fs ws w)
+    check-out t r =
+        (clears, whole (sym (run-out n N first fs ws w₁ (sym is ∙ t))) refl r .1)
 
-  module _ (h : ℕ) (a : n ≤ 256) (b : N ≤ 16384) (p : 4 * N ≤ length ws) (l : N ≤ length w) (e : h ≡ height n) where
-    inside : inBounds n N ws w ≡ true
-    inside = rw (le-leb n 256 a, le-leb N 16384 b, le-leb (4 * N) (length ws) p, le-leb N (length w) l)
+    -- room for the visits
+    pub check-roomy : b ≡ true → Roomy N ws w₁ (height n) n
+    check-roomy t =
+        let p = both (leb n 256) _ (sym is ∙ t) in
+        let q = both (leb N 16384) _ (p .1) in
+        let s = both (leb (4 * N) (length ws)) _ (q .1) in
+        let small : n ≤ 256 = leb-true n 256 (p .0) in
+        record { pool = leb-true (4 * N) (length ws) (s .0); work = leb-true N (length w₁) (s .1); level = height-le n 8 (omega arith); part = small }
 
-    pub run-failed : visitPlaces n h N fs ws 64 w .1 ≡ false → (visitPlaces n h N fs ws 64 w .0, Bad) ≡ runCheck n N first fs ws w
-    run-failed t = rw e (sym (run-off n N first fs ws w inside (rw e at t)))
-
-    pub run-settled : visitPlaces n h N fs ws 64 w .1 ≡ true → (visitPlaces n h N fs ws 64 w .0, settle N ws first (visitPlaces n h N fs ws 64 w .0)) ≡ runCheck n N first fs ws w
-    run-settled t = rw e (sym (run-on n N first fs ws w inside (rw e at t)))
+    -- the trees are visited, which gives w₂, and the rest is done
+    pub check-in : b ≡ true → {w₂ w₃ : List ℕ} {visited : Bool} {r : PoolChecked}
+        → (w₂ ≡ visitPlaces n (height n) N fs ws (length fs) w₁ .0) × (visited ≡ visitPlaces n (height n) N fs ws (length fs) w₁ .1)
+        → (w₃ ≡ cleared N w₂) × (r ≡ cond visited (settle N ws first w₂) Bad) → (w₃ ≡ cleared N w) × (r ≡ poolChecked n N first fs ws w)
+    check-in t {w₂} {w₃} {visited} {r} v e = elim (decided visited) [
+      | inl d ↦ whole (sym (run-on n N first fs ws w₁ (sym is ∙ t) (sym (v .1) ∙ d))) (e .0 ∙ ap (cleared N) (v .0)) (e .1 ∙ rw (d, v .0))
+      | inr d ↦ whole (sym (run-off n N first fs ws w₁ (sym is ∙ t) (sym (v .1) ∙ d))) (e .0 ∙ ap (cleared N) (v .0)) (e .1 ∙ rw d)
+    ]

@@ -9,6 +9,7 @@ use lib.ListN.{length, getD, set}
 use Rattle.words.specs.Basics.{none, plus, sum, all}
 use Rattle.sizes.specs.Sizes.{height}
 use Rattle.pool.specs.Pool.{refcount, left, right, value, nextFree}
+use Rattle.frames.specs.declared.Frame.{Frame}
 use Rattle.frames.specs.Frames.{frameAt}
 use Rattle.soundness.specs.Soundness.{lives}
 use Rattle.pool_check.specs.Answer.{inBounds}
@@ -95,14 +96,26 @@ pub record Roomy (N : ℕ) (ws w : List ℕ) (l k : ℕ) : Type 0 where
   pub level : l ≤ 8
   pub part : k ≤ 256
 
--- the tree, of height h over n splitters, of the frame at place p, if it lives
-unfoldable pub visitPlace : ℕ → ℕ → ℕ → List ℕ → List ℕ → ℕ → List ℕ → List ℕ × Bool
-visitPlace n h N fs ws p w = elim (lives fs p) [ true ↦ visit N ws h n (frameAt fs p .root) w | false ↦ (w, true) ]
+-- the tree, of height h over n splitters, of the frame f, if it lives
+abbrev pub rootVisited : ℕ → ℕ → ℕ → List ℕ → Frame → List ℕ → List ℕ × Bool
+rootVisited n h N ws f w = elim (eqb (f .live) 1) [ true ↦ visit N ws h n (f .root) w | false ↦ (w, true) ]
+
+-- after what was before
+abbrev pub recordVisited : ℕ → ℕ → ℕ → List ℕ → Frame → List ℕ × Bool → List ℕ × Bool
+recordVisited n h N ws f p = andThen p (rootVisited n h N ws f)
+
+-- the tree of the frame at place p
+unfoldable pub visitPlace : ℕ → ℕ → ℕ → List Frame → List ℕ → ℕ → List ℕ → List ℕ × Bool
+visitPlace n h N fs ws p w = rootVisited n h N ws (frameAt fs p) w
 
 -- those of the places below c
-unfoldable pub visitPlaces : ℕ → ℕ → ℕ → List ℕ → List ℕ → ℕ → List ℕ → List ℕ × Bool
+unfoldable pub visitPlaces : ℕ → ℕ → ℕ → List Frame → List ℕ → ℕ → List ℕ → List ℕ × Bool
 visitPlaces n h N fs ws zero w = (w, true)
 visitPlaces n h N fs ws (suc c) w = andThen (visitPlaces n h N fs ws c w) (visitPlace n h N fs ws c)
+
+-- from place `end` on no frame lives, so the visits may end there
+abbrev pub DeadFrom : List Frame → ℕ → Type 0
+DeadFrom fs end = (end ≤ length fs) × ((p : ℕ) → end ≤ p → p < length fs → lives fs p ≡ false)
 
 -- ---- the nodes
 
@@ -140,11 +153,11 @@ unfoldable pub settle : ℕ → List ℕ → ℕ → List ℕ → PoolChecked
 settle N ws first w = cond (all N (nodeRight ws w) && chainFrom N ws w (unvisited N w) first) (Good (unvisited N w)) Bad
 
 -- w begins with N zeros
-unfoldable pub runCheck : ℕ → ℕ → ℕ → List ℕ → List ℕ → List ℕ → List ℕ × PoolChecked
+unfoldable pub runCheck : ℕ → ℕ → ℕ → List Frame → List ℕ → List ℕ → List ℕ × PoolChecked
 runCheck n N first fs ws w =
     elim (inBounds n N ws w) [
       | true ↦
-          let p : List ℕ × Bool = visitPlaces n (height n) N fs ws 64 w in
+          let p : List ℕ × Bool = visitPlaces n (height n) N fs ws (length fs) w in
           elim (p .1) [ true ↦ (p .0, settle N ws first (p .0)) | false ↦ (p .0, Bad) ]
       | false ↦ (w, Bad)
     ]

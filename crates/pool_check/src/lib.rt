@@ -1,19 +1,21 @@
 // The pool part of document 01's soundness, decided in linear time on any words: cycles, wild links, huge counts.
-// A contract is an equation with a definition of specs/, on all inputs; only the functions below run_check require room for the
-// nodes, which run_check tests first.
+// A contract is an equation with a definition of specs/, on all inputs; only the functions that walk the trees require room for the
+// nodes, which in_bounds tests first.
 ghost use mathlib.Core.Path.{_≡_};
-ghost use Rattle.words.specs.Basics.{howMany};
-ghost use Rattle.frames.specs.Widths.{places, frameWords};
+ghost use mathlib.Core.Bool.{cond};
 ghost use Prim.Native.Nat.{_*_, _≤_};
 ghost use lib.ListN.{length};
-ghost use Rattle.soundness.specs.Soundness.{lives, cleared};
-ghost use Rattle.pool_check.specs.Answer.{poolChecked};
-ghost use Rattle.pool_check.specs.Algorithm.{settle, runCheck};
+ghost use Rattle.soundness.specs.Soundness.{cleared};
+ghost use Rattle.frames.specs.Widths.{maxPlaces};
+ghost use Rattle.pool_check.specs.Answer.{inBounds, poolChecked};
+ghost use Rattle.pool_check.specs.Algorithm.{DeadFrom, settle};
+ghost use Rattle.pool_check.specs.declared.PoolChecked.the-variants.{Bad};
 
 mod free;
 mod trees;
 mod work;
 
+use frames::Frame;
 use free::follow_free;
 use free::scan;
 use trees::visit_places;
@@ -41,55 +43,61 @@ fn settle(pool: &[u32], work: &[u32], nodes: u32, first: u32) -> PoolChecked
     }
 }
 
-// The check, in a work slice that begins with a zero for each node.
-fn run_check(
-    n: u32,
-    nodes: u32,
-    first: u32,
-    live: u32,
-    frames: &[u32],
+// Are n and the recorded nodes small enough, and have pool and work slice room for them?
+pub fn in_bounds(n: u32, nodes: u32, pool: &[u32], work: &[u32]) -> bool
+    ensures { λ r. ⌜ r ≡ inBounds n nodes (now (pool .entry)) (now (work .entry)) ⌝ }
+{
+    let end = nodes as usize;
+    (n <= 256) & ((nodes <= 16384) & ((end <= pool.len() / 4) & (end <= work.len())))
+}
+
+// The answer where n or the nodes are out of bounds.
+pub fn out_of_bounds() -> PoolChecked
+    ensures { λ r. ⌜ r ≡ Bad ⌝ }
+{
+    PoolChecked::Bad
+}
+
+// The answer when the trees are visited, which are trees or not; the work slice is cleared again.
+pub fn conclude(
+    visited: bool,
     pool: &[u32],
     work: &mut [u32],
+    nodes: u32,
+    first: u32,
 ) -> PoolChecked
-    requires { ⌜ (length (now frames) ≡ frameWords) × (live ≡ howMany places (lives (now frames))) ⌝ }
-    ensures { λ r. ⌜ (now (work .exit) ≡ runCheck n nodes first (now (frames .entry)) (now (pool .entry)) (now (work .entry)) .0)
-        × (r ≡ runCheck n nodes first (now (frames .entry)) (now (pool .entry)) (now (work .entry)) .1) ⌝ }
+    requires { ⌜ (4 * nodes ≤ length (now pool)) × (nodes ≤ length (now work)) ⌝ }
+    ensures { λ r. ⌜ (now (work .exit) ≡ cleared nodes (now (work .entry)))
+        × (r ≡ cond visited (settle nodes (now (pool .entry)) first (now (work .entry))) Bad) ⌝ }
 {
-    if n > 256 {
+    if !visited {
+        clear(work, nodes);
         return PoolChecked::Bad;
     }
-    if nodes > 16384 {
-        return PoolChecked::Bad;
-    }
-    if 4 * (nodes as usize) > pool.len() {
-        return PoolChecked::Bad;
-    }
-    if (nodes as usize) > work.len() {
-        return PoolChecked::Bad;
-    }
-    if !visit_places(frames, pool, work, n, sizes::height_of(n), nodes, live) {
-        return PoolChecked::Bad;
-    }
-    settle(pool, work, nodes, first)
+    let answer = settle(pool, work, nodes, first);
+    clear(work, nodes);
+    answer
 }
 
 // Is the pool sound, for n splitters and the live frames' trees, and how many nodes are free? The work slice's first words,
-// one for each node, are zero afterwards.
+// one for each node, are zero afterwards. From place end on no frame lives.
 pub fn check_pool(
     n: u32,
     nodes: u32,
     first: u32,
-    live: u32,
-    frames: &[u32],
+    end: u32,
+    frames: &[Frame],
     pool: &[u32],
     work: &mut [u32],
 ) -> PoolChecked
-    requires { ⌜ (length (now frames) ≡ frameWords) × (live ≡ howMany places (lives (now frames))) ⌝ }
+    requires { ⌜ (length (now frames) ≤ maxPlaces) × DeadFrom (now frames) end ⌝ }
     ensures { λ r. ⌜ (now (work .exit) ≡ cleared nodes (now (work .entry)))
         × (r ≡ poolChecked n nodes first (now (frames .entry)) (now (pool .entry)) (now (work .entry))) ⌝ }
 {
     clear(work, nodes);
-    let answer = run_check(n, nodes, first, live, frames, pool, work);
-    clear(work, nodes);
-    answer
+    if !in_bounds(n, nodes, pool, work) {
+        return out_of_bounds();
+    }
+    let visited = visit_places(frames, pool, work, n, nodes, end);
+    conclude(visited, pool, work, nodes, first)
 }

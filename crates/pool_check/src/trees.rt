@@ -1,11 +1,10 @@
 // The live frames' trees are visited: each node reached is stamped, and the links to it are counted.
 ghost use mathlib.Core.Path.{_≡_};
-ghost use Rattle.words.specs.Basics.{howMany};
-ghost use Rattle.frames.specs.Widths.{places, frameWords};
-ghost use Rattle.soundness.specs.Soundness.{lives};
 ghost use Prim.Native.Nat.{_+_, _*_, _^_, _≤_, _<_, min};
 ghost use lib.ListN.{length};
-ghost use Rattle.pool_check.specs.Algorithm.{shaped, visit, below, Met, Roomy, visitPlaces};
+ghost use Rattle.pool_check.specs.Algorithm.{shaped, visit, below, Met, Roomy, recordVisited, DeadFrom, visitPlaces};
+ghost use Rattle.sizes.specs.Sizes.{height};
+use frames::Frame;
 use frames::frame_at;
 use pool::NONE;
 
@@ -136,32 +135,49 @@ fn visit(pool: &[u32], work: &mut [u32], nodes: u32, level: u32, k: u32, i: u32)
     walk(pool, work, nodes, level, k, i)
 }
 
-// The trees of the live frames, which are so many.
-pub fn visit_places(
-    frames: &[u32],
+// The tree of the frame f, if it lives, and if all before it are trees.
+pub fn visit_place(
+    sound: bool,
     pool: &[u32],
     work: &mut [u32],
     n: u32,
     height: u32,
     nodes: u32,
-    live: u32,
+    f: Frame,
 ) -> bool
-    requires { ⌜ Roomy nodes (now pool) (now work) height n × (length (now frames) ≡ frameWords) × (live ≡ howMany places (lives (now frames))) ⌝ }
-    ensures { λ r. ⌜ (now (work .exit) ≡ visitPlaces n height nodes (now (frames .entry)) (now (pool .entry)) places (now (work .entry)) .0)
-        × (r ≡ visitPlaces n height nodes (now (frames .entry)) (now (pool .entry)) places (now (work .entry)) .1) ⌝ }
+    requires { ⌜ Roomy nodes (now pool) (now work) height n ⌝ }
+    ensures { λ r. ⌜ (now (work .exit) ≡ recordVisited n height nodes (now (pool .entry)) f (now (work .entry), sound) .0)
+        × (r ≡ recordVisited n height nodes (now (pool .entry)) f (now (work .entry), sound) .1) ⌝ }
 {
-    let mut left = live;
-    let mut p: u32 = 0;
-    while left > 0 {
-        let f = frame_at(frames, p);
-        p += 1;
-        if f.live != 1 {
-            continue;
-        }
-        if !visit(pool, work, nodes, height, n, f.root) {
-            return false;
-        }
-        left -= 1;
+    if !sound {
+        return false;
     }
-    true
+    if f.live != 1 {
+        return true;
+    }
+    visit(pool, work, nodes, height, n, f.root)
+}
+
+// The trees of the live frames, all of them before place end.
+pub fn visit_places(
+    frames: &[Frame],
+    pool: &[u32],
+    work: &mut [u32],
+    n: u32,
+    nodes: u32,
+    end: u32,
+) -> bool
+    requires { ⌜ Roomy nodes (now pool) (now work) (height n) n × DeadFrom (now frames) end ⌝ }
+    ensures { λ r. ⌜ (now (work .exit) ≡ visitPlaces n (height n) nodes (now (frames .entry)) (now (pool .entry)) (length (now (frames .entry))) (now (work .entry)) .0)
+        × (r ≡ visitPlaces n (height n) nodes (now (frames .entry)) (now (pool .entry)) (length (now (frames .entry))) (now (work .entry)) .1) ⌝ }
+{
+    let height = sizes::height_of(n);
+    let mut sound = true;
+    let mut p: u32 = 0;
+    while p < end {
+        let f = frame_at(frames, p);
+        sound = visit_place(sound, pool, work, n, height, nodes, f);
+        p += 1;
+    }
+    sound
 }

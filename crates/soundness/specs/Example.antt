@@ -1,13 +1,13 @@
--- Document 01's "Soundness" with R-3's and R-5's sentences on small states, computed: a few sound ones, and for each sentence changes of a
+-- Document 01's "Soundness" with R-3's, R-5's and R-6's sentences on small states, computed: a few sound ones, and for each sentence changes of a
 -- sound one after which this sentence alone is false.
 use mathlib.Core.Path.{_≡_, refl, sym, ap, _∙_}
 use mathlib.Core.Bool.{Bool, true, cond, _||_, _&&_}
 use mathlib.Core.Logic.{inl, inr}
-use mathlib.Core.List.{List, [], _∷_, _++_, map}
+use mathlib.Core.List.{List, [], _∷_, map}
 use Prim.Native.Nat.{ℕ, zero, suc, _+_, _*_}
 use Prim.Native.String.{String}
 use native.Mathlib.Omega.{arith}
-use lib.ListN.{getD, set, drop, replicate}
+use lib.ListN.{length, getD, set, drop, replicate}
 use lib.Seq.{getD-drop}
 use lib.Dec.{eqb, leb, ltb}
 use Rattle.words.specs.Basics.{none, all, δ, count, below}
@@ -15,51 +15,50 @@ use Rattle.words.specs.Tests.{decided}
 use Rattle.words.specs.Counting.{all-of}
 use Rattle.sizes.specs.Sizes.{height, width, treeNodes}
 use Rattle.pool.specs.Pool.{refcount, left, right, value, setNode, initLevel, initInner, initLeaves, initFree, initPool}
-use Rattle.frames.specs.Widths.{maxWorkers, places, recordWords, dequePlaces, dequeStride}
+use Rattle.frames.specs.Widths.{maxWorkers, dequePlaces, dequeStride, dequeWords}
 use Rattle.frames.specs.declared.Frame.{Frame}
-use Rattle.frames.specs.Frames.{frameAt, setFrame, asReturning, initPlaces, initFrames}
+use Rattle.frames.specs.Frames.{recordIn, wordsOf, frameAt, setFrame, asReturning, freePlace, mainFrame, initPlaces, initFrames}
 use Rattle.frames.specs.Deques.{size, setSize, place, setPlace, bottom, top, push, pop, shiftUp, dropTop, initDeques}
 use Rattle.frames.specs.Siblings.{chained, relinkFrom}
 use Rattle.frames.specs.Steps.{Table, acting, addChild, spawn, suspend, steal, sync}
-use Rattle.soundness.specs.Numbers.{totalCount, numbersIn}
+use Rattle.soundness.specs.declared.Numbers.{Numbers}
+use Rattle.soundness.specs.Numbers.{headCount, numbersIn, totalsIn}
 use Rattle.soundness.specs.Soundness.{oneMain, parentsLive, countsRight, placedOnce, returningRight, linksRight, totalsRight, holdLive, absentEmpty, restZero, linked, onlyBelow, placesFree, treeAt, nodesAt, rootsBelow}
 use Rattle.soundness.specs.Soundness.{Sentence, says, words, holds, numberSentences, freePlaces, viewZero, sentences}
 
 -- ---- sound states
 
--- the five numbers (workers, splitters, nodes, first free node, first free place), the four totals, the two tables and the lent pool
+-- the numbers (workers, splitters, nodes, first free node, first free place, the four totals, the table's length), the deques, the table and the lent pool
 record State : Type 0 where
   numbers : List ℕ
-  totals : List ℕ
   deques : List ℕ
-  frames : List ℕ
+  frames : List Frame
   pool : List ℕ
 
 -- two workers, two splitters, five nodes; the lent pool has a sixth
 with : ℕ → ℕ → Table → State
 with holders freeNode t =
     record {
-      numbers = 2 ∷ 2 ∷ 5 ∷ freeNode ∷ t .«free_place» ∷ [];
-      totals = replicate totalCount 0;
+      numbers = 2 ∷ 2 ∷ 5 ∷ freeNode ∷ t .«free_place» ∷ 0 ∷ 0 ∷ 0 ∷ 0 ∷ length (t .frames) ∷ [];
       deques = t .deques;
       frames = t .frames;
       pool = set (initPool (replicate 24 7) 2 5 (10 ∷ 20 ∷ []) .0) 0 holders;
     }
 
 -- c free places in rising order, the second being p
-rising : ℕ → ℕ → List ℕ
+rising : ℕ → ℕ → List Frame
 rising zero p = []
-rising (suc c) p = 0 ∷ cond (eqb c 0) none p ∷ (replicate 10 0 ++ rising c (suc p))
+rising (suc c) p = freePlace (cond (eqb c 0) none p) ∷ rising c (suc p)
 
 -- Main's record: no view has anything folded into it yet
-first : List ℕ
-first = 1 ∷ none ∷ 0 ∷ 0 ∷ 0 ∷ 0 ∷ 0 ∷ 0 ∷ none ∷ 1 ∷ 0 ∷ none ∷ []
+first : Frame
+first = recordIn (1 ∷ none ∷ 0 ∷ 0 ∷ 0 ∷ 0 ∷ 0 ∷ 0 ∷ none ∷ 1 ∷ 0 ∷ none ∷ [])
 
 table : Table
-table = record { deques = 1 ∷ replicate 519 0; frames = first ++ rising 63 2; «free_place» = 1 }
+table = record { deques = 1 ∷ replicate 2055 0; frames = first ∷ rising 7 2; «free_place» = 1 }
 
--- the tables at a start
-table-first : (initDeques (replicate 520 0) ≡ table .deques) × (initFrames (replicate 768 0) ≡ table .frames)
+-- the tables at a start, whatever the lent one held
+table-first : (initDeques (replicate dequeWords 0) ≡ table .deques) × (initFrames (replicate 8 (mainFrame 5)) ≡ table .frames)
 unfolding table first rising initDeques push setSize setPlace size initFrames initPlaces setFrame
 table-first = (refl, refl)
 
@@ -93,11 +92,19 @@ twins = with 3 3 (spawn (steal (spawn table 0) 1 0) 1)
 
 -- Main has returned: no frame, any totals, and n nodes free in a lent pool of n
 ended : ℕ → State
-ended n = record { numbers = 2 ∷ 2 ∷ n ∷ 0 ∷ 0 ∷ []; totals = 70 ∷ 7 ∷ 6 ∷ 5 ∷ []; deques = replicate 520 0; frames = rising 64 1; pool = initFree n (replicate (4 * n) 0) 0 }
+ended n = record { numbers = 2 ∷ 2 ∷ n ∷ 0 ∷ 0 ∷ 70 ∷ 7 ∷ 6 ∷ 5 ∷ 8 ∷ []; deques = replicate dequeWords 0; frames = rising 8 1; pool = initFree n (replicate (4 * n) 0) 0 }
 
 -- three splitters: node 0, under it 1 and 2, the leaves 3, 4 under 1 and 5 under 2, which has no right half; 6 is free
 three : State
-three = record { numbers = 2 ∷ 3 ∷ 7 ∷ 6 ∷ 1 ∷ []; totals = replicate totalCount 0; deques = table .deques; frames = table .frames; pool = initPool (replicate 28 7) 3 7 (10 ∷ 20 ∷ 30 ∷ []) .0 }
+three = record { numbers = 2 ∷ 3 ∷ 7 ∷ 6 ∷ 1 ∷ 0 ∷ 0 ∷ 0 ∷ 0 ∷ 8 ∷ []; deques = table .deques; frames = table .frames; pool = initPool (replicate 28 7) 3 7 (10 ∷ 20 ∷ 30 ∷ []) .0 }
+
+-- Main alone, in a table of one place
+lone : State
+lone = with 1 3 (record { deques = table .deques; frames = first ∷ []; «free_place» = none })
+
+-- Main has returned, in a table of n places
+small : ℕ → State
+small n = record { numbers = 2 ∷ 2 ∷ 5 ∷ 0 ∷ cond (eqb n 0) none 0 ∷ 0 ∷ 0 ∷ 0 ∷ 0 ∷ n ∷ []; deques = replicate dequeWords 0; frames = rising n 1; pool = ended 5 .pool }
 
 -- ---- changes
 
@@ -108,7 +115,8 @@ data Change : Type 0 where
   splitters : ℕ → Change
   nodes : ℕ → Change
   freeNode : ℕ → Change
-  freePlace : ℕ → Change
+  firstPlace : ℕ → Change
+  places : ℕ → Change
   total : ℕ → ℕ → Change
   inDeque : ℕ → ℕ → Change
   atPlace : ℕ → ℕ → ℕ → Change
@@ -128,27 +136,25 @@ data Change : Type 0 where
   nodeValue : ℕ → ℕ → Change
 
 setNumber : State → ℕ → ℕ → State
-setNumber s i v = record { numbers = set (s .numbers) i v; totals = s .totals; deques = s .deques; frames = s .frames; pool = s .pool }
-
-setTotal : State → ℕ → ℕ → State
-setTotal s i v = record { numbers = s .numbers; totals = set (s .totals) i v; deques = s .deques; frames = s .frames; pool = s .pool }
+setNumber s i v = record { numbers = set (s .numbers) i v; deques = s .deques; frames = s .frames; pool = s .pool }
 
 setDeques : State → List ℕ → State
-setDeques s ds = record { numbers = s .numbers; totals = s .totals; deques = ds; frames = s .frames; pool = s .pool }
+setDeques s ds = record { numbers = s .numbers; deques = ds; frames = s .frames; pool = s .pool }
 
 setField : State → ℕ → ℕ → ℕ → State
-setField s p f v = record { numbers = s .numbers; totals = s .totals; deques = s .deques; frames = set (s .frames) (recordWords * p + f) v; pool = s .pool }
+setField s p k v = record { numbers = s .numbers; deques = s .deques; frames = setFrame (s .frames) p (recordIn (set (wordsOf (frameAt (s .frames) p)) k v)); pool = s .pool }
 
 setPool : State → List ℕ → State
-setPool s ws = record { numbers = s .numbers; totals = s .totals; deques = s .deques; frames = s .frames; pool = ws }
+setPool s ws = record { numbers = s .numbers; deques = s .deques; frames = s .frames; pool = ws }
 
 changed : State → Change → State
 changed s (workers v) = setNumber s 0 v
 changed s (splitters v) = setNumber s 1 v
 changed s (nodes v) = setNumber s 2 v
 changed s (freeNode v) = setNumber s 3 v
-changed s (freePlace v) = setNumber s 4 v
-changed s (total i v) = setTotal s i v
+changed s (firstPlace v) = setNumber s 4 v
+changed s (places v) = setNumber s 9 v
+changed s (total i v) = setNumber s (headCount + i) v
 changed s (inDeque w v) = setDeques s (setSize (s .deques) w v)
 changed s (atPlace w k v) = setDeques s (setPlace (s .deques) w k v)
 changed s (live p v) = setField s p 0 v
@@ -182,6 +188,8 @@ sounds =
     start but (viewWord 0 0 5 ∷ viewWord 1 0 6 ∷ viewWord 2 0 7 ∷ viewWord 3 0 8 ∷ []) ∷
     -- so are the totals when no frame lives
     ended 5 but (total 0 0 ∷ total 1 none ∷ []) ∷
+    -- a table of one place
+    lone ∷ small 1 ∷
     []
 
 -- ---- one sentence alone is false
@@ -203,6 +211,8 @@ numberRows =
     ("The recorded node count is T(n) .." alone (ended 2 ∷ [])) ∷
     -- the words past the pool read as zeros: node 5 as a free one before node 0
     ("and at most what the lent pool holds." alone (ended 5 but (nodes 6 ∷ freeNode 5 ∷ []) ∷ [])) ∷
+    ("a recorded length not 1 .." alone (small 0 ∷ [])) ∷
+    ("or a table of another length, is unsound." alone (start but (places 7 ∷ []) ∷ start but (places 9 ∷ []) ∷ small 0 but (places 1 ∷ []) ∷ [])) ∷
     []
 
 totalRows : List Row
@@ -214,7 +224,7 @@ frameRows : List Row
 frameRows =
     ("Either no frame lives and all deques are empty, or just one live frame has depth 0, with parent none." alone (
     -- two Mains
-    start but (live 1 1 ∷ parent 1 none ∷ next 1 none ∷ freePlace 2 ∷ inDeque 1 1 ∷ atPlace 1 0 1 ∷ nodeHolders 0 2 ∷ []) ∷
+    start but (live 1 1 ∷ parent 1 none ∷ next 1 none ∷ firstPlace 2 ∷ inDeque 1 1 ∷ atPlace 1 0 1 ∷ nodeHolders 0 2 ∷ []) ∷
     -- Main has a parent
     start but (parent 0 5 ∷ []) ∷
     [])) ∷
@@ -224,7 +234,7 @@ frameRows =
     -- the parent is dead
     stolen but (parent 1 5 ∷ outstanding 0 0 ∷ []) ∷
     -- the parent is past the table, which reads as a dead one: its range alone cannot be wrong
-    stolen but (parent 1 64 ∷ outstanding 0 0 ∷ []) ∷
+    stolen but (parent 1 8 ∷ outstanding 0 0 ∷ []) ∷
     -- not one shallower
     stolen but (depth 1 2 ∷ []) ∷
     [])) ∷
@@ -259,7 +269,7 @@ frameRows =
     -- to a frame that is no sibling, to a free place, past the table, which reads as a dead frame
     twins but (next 2 0 ∷ []) ∷
     twins but (next 2 5 ∷ []) ∷
-    stolen but (next 1 64 ∷ []) ∷
+    stolen but (next 1 8 ∷ []) ∷
     -- a chain of one and beside it a cycle of two
     triplets but (next 1 none ∷ next 3 2 ∷ []) ∷
     -- two name the same
@@ -271,18 +281,18 @@ frameRows =
     ("Deques hold live frames only;" alone (
     start but (inDeque 1 1 ∷ atPlace 1 0 5 ∷ []) ∷
     -- past the table, which reads as a dead frame: the range alone cannot be wrong
-    start but (inDeque 1 1 ∷ atPlace 1 0 64 ∷ []) ∷
+    start but (inDeque 1 1 ∷ atPlace 1 0 8 ∷ []) ∷
     [])) ∷
     ("a worker that does not exist has an empty one;" alone (stolen but (workers 1 ∷ []) ∷ [])) ∷
-    ("deque places past a deque's frames are zero." alone (start but (atPlace 0 1 7 ∷ []) ∷ start but (atPlace 7 63 1 ∷ []) ∷ [])) ∷
-    -- not alone: a length over 64, since 65 places of live frames hold one frame twice (placedOnce)
+    ("deque places past a deque's frames are zero." alone (start but (atPlace 0 1 7 ∷ []) ∷ start but (atPlace 7 255 1 ∷ []) ∷ [])) ∷
+    -- not alone: a length over the table's, since nine places of live frames hold one of eight twice (placedOnce)
     ("Each frame in a deque is a child of the one above it." alone (
     -- 1 and 2 on one deque, both children of Main
     grown but (parent 2 0 ∷ depth 2 1 ∷ next 1 2 ∷ outstanding 1 0 ∷ outstanding 0 2 ∷ []) ∷
     [])) ∷
     ("A frame that is not a top has only the child below it, if any." alone (
     -- a middle frame has a second child, on another deque
-    stacked but (live 3 1 ∷ parent 3 1 ∷ depth 3 2 ∷ next 2 3 ∷ next 3 none ∷ outstanding 1 2 ∷ freePlace 4 ∷ inDeque 1 1 ∷ atPlace 1 0 3 ∷ nodeHolders 0 4 ∷ []) ∷
+    stacked but (live 3 1 ∷ parent 3 1 ∷ depth 3 2 ∷ next 2 3 ∷ next 3 none ∷ outstanding 1 2 ∷ firstPlace 4 ∷ inDeque 1 1 ∷ atPlace 1 0 3 ∷ nodeHolders 0 4 ∷ []) ∷
     -- a bottom frame has one; it is in place 0, the word past the deque's frames
     grown but (parent 1 none ∷ depth 1 0 ∷ depth 2 1 ∷ outstanding 2 1 ∷ parent 0 2 ∷ depth 0 2 ∷ outstanding 0 0 ∷ []) ∷
     [])) ∷
@@ -300,13 +310,13 @@ frameRows =
     start but (viewWord 3 5 1 ∷ []) ∷
     start but (next 5 none ∷ []) ∷
     -- not on the chain
-    start but (freePlace 2 ∷ []) ∷
+    start but (firstPlace 2 ∷ []) ∷
     -- twice
-    start but (parent 63 1 ∷ []) ∷
+    start but (parent 7 1 ∷ []) ∷
     -- into a live place
-    start but (parent 63 0 ∷ []) ∷
+    start but (parent 7 0 ∷ []) ∷
     -- out of the table and back, as the words past it read as zeros
-    ended 5 but (freePlace 1 ∷ parent 63 64 ∷ parent 0 none ∷ []) ∷
+    ended 5 but (firstPlace 1 ∷ parent 7 8 ∷ parent 0 none ∷ []) ∷
     [])) ∷
     []
 
@@ -351,9 +361,9 @@ failing [] = []
 failing (s ∷ ss) = cond (holds s) (failing ss) (words s ∷ failing ss)
 
 failingIn : State → List String
-failingIn s = failing (sentences (numbersIn (s .numbers)) (s .totals) (s .deques) (s .frames) (s .pool))
+failingIn s = failing (sentences (numbersIn (s .numbers)) (totalsIn (s .numbers)) (s .deques) (s .frames) (s .pool))
 
--- ---- the same in fewer steps
+-- ---- the same in fewer steps (crate starred computes with it too)
 
 -- "deque places past a deque's frames are zero": c words, the first in place k, of a deque with n frames
 abbrev restFrom : ℕ → ℕ → ℕ → List ℕ → Bool
@@ -361,8 +371,8 @@ restFrom zero k n xs = true
 restFrom (suc c) k n [] = true
 restFrom (suc c) k n (x ∷ xs) = (ltb k n || eqb x 0) && restFrom c (suc k) n xs
 
-abbrev restQuick : List ℕ → Bool
-restQuick ds = all maxWorkers (λ w. let d : List ℕ = drop (dequeStride * w) ds in leb (getD d 0 0) dequePlaces && restFrom dequePlaces 0 (getD d 0 0) (drop 1 d))
+abbrev pub restQuick : List ℕ → List Frame → Bool
+restQuick ds fs = all maxWorkers (λ w. let d : List ℕ = drop (dequeStride * w) ds in leb (getD d 0 0) (length fs) && restFrom dequePlaces 0 (getD d 0 0) (drop 1 d))
 
 all-first : (n : ℕ) (f : ℕ → Bool) → all (suc n) f ≡ f 0 && all n (λ k. f (suc k))
 all-first zero f = elim (decided (f 0)) [ inl e ↦ rw e refl | inr e ↦ rw e refl ]
@@ -385,10 +395,10 @@ rest-from (suc c) k n (x ∷ xs) =
     later : (j : ℕ) → k + suc j ≡ suc k + j
     later j = omega arith
 
-rest-quick : (ds : List ℕ) → restZero ds ≡ restQuick ds
+pub rest-quick : (ds : List ℕ) (fs : List Frame) → restZero ds fs ≡ restQuick ds fs
 unfolding restZero size place
-rest-quick ds = (λ i. all maxWorkers (λ w. leb (first w i) dequePlaces && all dequePlaces (λ k. ltb k (first w i) || eqb (at w k i) 0)))
-    ∙ (λ i. all maxWorkers (λ w. let d : List ℕ = drop (dequeStride * w) ds in leb (getD d 0 0) dequePlaces && from d i))
+rest-quick ds fs = (λ i. all maxWorkers (λ w. leb (first w i) (length fs) && all dequePlaces (λ k. ltb k (first w i) || eqb (at w k i) 0)))
+    ∙ (λ i. all maxWorkers (λ w. let d : List ℕ = drop (dequeStride * w) ds in leb (getD d 0 0) (length fs) && from d i))
   where
     first : (w : ℕ) → getD ds (dequeStride * w) 0 ≡ getD (drop (dequeStride * w) ds) 0 0
     first w = ap (λ z. getD ds z 0) (omega arith) ∙ sym (getD-drop (dequeStride * w) ds 0 0)
@@ -403,15 +413,15 @@ rest-quick ds = (λ i. all maxWorkers (λ w. leb (first w i) dequePlaces && all 
     from d = (λ i. all dequePlaces (λ k. ltb (zero-plus k i) (getD d 0 0) || eqb (getD (drop 1 d) k 0) 0)) ∙ rest-from dequePlaces 0 (getD d 0 0) (drop 1 d)
 
 -- "Free frame places lie once on theirs, all but the link to the next being zero": the chain followed once, each record read once
-abbrev freeQuick : List ℕ → ℕ → Bool
+abbrev pub freeQuick : List Frame → ℕ → Bool
 freeQuick fs first =
     let c : List ℕ = freePlaces fs first in
-    below places c && all places (λ p.
+    below (length fs) c && all (length fs) (λ p.
     let f : Frame = frameAt fs p in
     (eqb (f .live) 1 && eqb (count p c) 0) ||
     ((eqb (f .live) 0 && (eqb (f .depth) 0 && (eqb (f .outstanding) 0 && (eqb (f .suspended) 0 && (eqb (f .root) 0 && (eqb (f .returning) 0 && (viewZero (f .view) && eqb (f .younger) 0))))))) && eqb (count p c) 1))
 
-free-quick : (fs : List ℕ) (first : ℕ) → placesFree fs first ≡ freeQuick fs first
+pub free-quick : (fs : List Frame) (first : ℕ) → placesFree fs first ≡ freeQuick fs first
 unfolding placesFree
 free-quick fs first = refl
 
@@ -421,15 +431,19 @@ tested k b [] = []
 tested zero b (s ∷ ss) = says (words s) b ∷ ss
 tested (suc k) b (s ∷ ss) = s ∷ tested k b ss
 
+-- with others for the two
+abbrev pub sentencesBy : Bool → Bool → Numbers → List ℕ → List ℕ → List Frame → List ℕ → List Sentence
+sentencesBy rest free s ts ds fs ws = tested 19 rest (tested 22 free (sentences s ts ds fs ws))
+
 abbrev testedBy : Bool → Bool → State → List Sentence
-testedBy rest free s = tested 16 rest (tested 19 free (sentences (numbersIn (s .numbers)) (s .totals) (s .deques) (s .frames) (s .pool)))
+testedBy rest free s = sentencesBy rest free (numbersIn (s .numbers)) (totalsIn (s .numbers)) (s .deques) (s .frames) (s .pool)
 
 quickIn : State → List String
-quickIn s = failing (testedBy (restQuick (s .deques)) (freeQuick (s .frames) (numbersIn (s .numbers) .«free_place»)) s)
+quickIn s = failing (testedBy (restQuick (s .deques) (s .frames)) (freeQuick (s .frames) (numbersIn (s .numbers) .«free_place»)) s)
 
 quick : (s : State) → failingIn s ≡ quickIn s
 unfolding failingIn quickIn
-quick s i = failing (testedBy (rest-quick (s .deques) i) (free-quick (s .frames) (numbersIn (s .numbers) .«free_place») i) s)
+quick s i = failing (testedBy (rest-quick (s .deques) (s .frames) i) (free-quick (s .frames) (numbersIn (s .numbers) .«free_place») i) s)
 
 -- ---- the tables
 
@@ -446,7 +460,7 @@ foundQuick r = map quickIn (r .states)
 at-once : _≡_ {A = List (List String) × List (List (List String)) × List (List (List String)) × List (List (List String)) × List (List (List String))}
     (map quickIn sounds, map foundQuick numberRows, map foundQuick totalRows, map foundQuick frameRows, map foundQuick poolRows)
     (map (λ s. []) sounds, map said numberRows, map said totalRows, map said frameRows, map said poolRows)
-unfolding foundQuick quickIn first rising table start stolen waiting leaving stacked grown twins triplets ended three with setNumber setTotal setDeques setField setPool changed _but_ _alone_ sounds numberRows totalRows frameRows poolRows failing said bottom top pop shiftUp dropTop addChild relinkFrom spawn steal sync initPool initFree initLeaves initInner initLevel setNode height width treeNodes push setSize setPlace size place setFrame frameAt rootsBelow oneMain parentsLive countsRight placedOnce returningRight linksRight chained totalsRight holdLive absentEmpty linked onlyBelow treeAt nodesAt refcount left right value δ count
+unfolding foundQuick quickIn first rising table start stolen waiting leaving stacked grown twins triplets ended three lone small with setNumber setDeques setField setPool changed _but_ _alone_ sounds numberRows totalRows frameRows poolRows failing said bottom top pop shiftUp dropTop addChild relinkFrom spawn steal sync initPool initFree initLeaves initInner initLevel setNode height width treeNodes push setSize setPlace size place setFrame frameAt rootsBelow oneMain parentsLive countsRight placedOnce returningRight linksRight chained totalsRight holdLive absentEmpty linked onlyBelow treeAt nodesAt refcount left right value δ count
 at-once = refl
 
 quickly : (ts : List Row) → map foundQuick ts ≡ map said ts → map found ts ≡ map said ts
@@ -468,11 +482,13 @@ frames-computed = quickly frameRows (ap (λ t. t .3) at-once)
 pools-computed : map found poolRows ≡ map said poolRows
 pools-computed = quickly poolRows (ap (λ t. t .4) at-once)
 
--- the two that need many nodes, 521 (which is T(257)) and 16,385: of the numbers' sentences this one alone is false; the sentences
--- on trees are not computed
+-- those that need many nodes, 521 (which is T(257)) and 16,385, or many places, 257: of the numbers' sentences this one alone is false; the sentences on
+-- trees and frames are not computed
 few : List ℕ → ℕ → List String
-few ks N = failing (numberSentences (numbersIn ks) (replicate (4 * N) 0))
+few ks N = let s = numbersIn ks in failing (numberSentences s (rising (s .places) 1) (replicate (4 * N) 0))
 
-many-computed : (few (2 ∷ 257 ∷ 521 ∷ 0 ∷ 0 ∷ []) 521 ≡ ".. to 256." ∷ []) × (few (2 ∷ 2 ∷ 16385 ∷ 0 ∷ 0 ∷ []) 16385 ≡ ".. to 16,384" ∷ [])
-unfolding few failing height width treeNodes
-many-computed = (refl, refl)
+many-computed : (few (2 ∷ 257 ∷ 521 ∷ 0 ∷ 0 ∷ 0 ∷ 0 ∷ 0 ∷ 0 ∷ 8 ∷ []) 521 ≡ ".. to 256." ∷ [])
+    × (few (2 ∷ 2 ∷ 16385 ∷ 0 ∷ 0 ∷ 0 ∷ 0 ∷ 0 ∷ 0 ∷ 8 ∷ []) 16385 ≡ ".. to 16,384" ∷ [])
+    × (few (2 ∷ 2 ∷ 5 ∷ 0 ∷ 0 ∷ 0 ∷ 0 ∷ 0 ∷ 0 ∷ 257 ∷ []) 5 ≡ ".. to 256," ∷ [])
+unfolding few failing rising height width treeNodes
+many-computed = (refl, refl, refl)

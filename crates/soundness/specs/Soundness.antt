@@ -1,7 +1,6 @@
--- Document 01's paragraph "Soundness", sentence by sentence, R-3's sentence on the word of frames that wait in their return, and R-5's on the totals and
--- the links between siblings, as tests. Definitions only.
--- A state is its numbers (`Numbers`), the words ts of the four totals, the words ds of the 8 deques and the words fs of the frame table (64 places); ws are the
--- lent pool's words.
+-- Document 01's paragraph "Soundness", sentence by sentence, R-3's sentence on the word of frames that wait in their return, R-5's on the totals and the
+-- links between siblings, and R-6's on the length of the frame table, as tests. Definitions only.
+-- A state is its numbers (`Numbers`), the words ts of the four totals, the words ds of the 8 deques and the frame table fs; ws are the lent pool's words.
 use mathlib.Core.Bool.{Bool, true, false, cond, not, _||_, _&&_}
 use mathlib.Core.List.{List, [], _∷_, _++_}
 use Prim.Native.Nat.{ℕ, zero, suc, _+_, _-_, _*_, _^_}
@@ -11,8 +10,9 @@ use lib.Dec.{eqb, leb, ltb}
 use Rattle.words.specs.Basics.{none, sum, all, some, howMany, implies, δ, count, follow, below}
 use Rattle.sizes.specs.Sizes.{height, treeNodes}
 use Rattle.pool.specs.Pool.{refcount, left, right, value, nextFree}
-use Rattle.frames.specs.Widths.{maxWorkers, places, dequePlaces}
+use Rattle.frames.specs.Widths.{maxWorkers, maxPlaces, dequePlaces}
 use Rattle.reducers.specs.declared.View.{View}
+use Rattle.frames.specs.declared.Frame.{Frame}
 use Rattle.frames.specs.Frames.{frameAt}
 use Rattle.frames.specs.Siblings.{younger, chained}
 use Rattle.frames.specs.Deques.{size, place}
@@ -41,8 +41,8 @@ allOf (t ∷ u ∷ us) = holds t && allOf (u ∷ us)
 
 -- ---- numbers
 
-abbrev pub numberSentences : Numbers → List ℕ → List Sentence
-numberSentences s ws =
+abbrev pub numberSentences : Numbers → List Frame → List ℕ → List Sentence
+numberSentences s fs ws =
     says "Workers are 1 .." (leb 1 (s .workers)) ∷
     says ".. to 8" (leb (s .workers) maxWorkers) ∷
     says "n is 1 .." (leb 1 (s .splitters)) ∷
@@ -50,22 +50,26 @@ numberSentences s ws =
     says "The recorded node count is T(n) .." (leb (treeNodes (s .splitters)) (s .nodes)) ∷
     says ".. to 16,384" (leb (s .nodes) 16384) ∷
     says "and at most what the lent pool holds." (leb (4 * s .nodes) (length ws)) ∷
+    -- R-6
+    says "a recorded length not 1 .." (leb 1 (s .places)) ∷
+    says ".. to 256," (leb (s .places) maxPlaces) ∷
+    says "or a table of another length, is unsound." (eqb (length fs) (s .places)) ∷
     []
 
-unfoldable pub numbersSound : Numbers → List ℕ → Bool
-numbersSound s ws = allOf (numberSentences s ws)
+unfoldable pub numbersSound : Numbers → List Frame → List ℕ → Bool
+numbersSound s fs ws = allOf (numberSentences s fs ws)
 
 -- ---- frames and deques: terms
 
-abbrev pub lives : List ℕ → ℕ → Bool
+abbrev pub lives : List Frame → ℕ → Bool
 lives fs p = eqb (frameAt fs p .live) 1
 
 -- c is a live child of the frame at p
-abbrev pub isChild : List ℕ → ℕ → ℕ → Bool
+abbrev pub isChild : List Frame → ℕ → ℕ → Bool
 isChild fs p c = lives fs c && eqb (frameAt fs c .parent) p
 
-abbrev pub children : List ℕ → ℕ → ℕ
-children fs p = howMany places (isChild fs p)
+abbrev pub children : List Frame → ℕ → ℕ
+children fs p = howMany (length fs) (isChild fs p)
 
 -- in how many places of deques the frame at p stands
 abbrev pub inDeques : List ℕ → ℕ → ℕ
@@ -74,91 +78,91 @@ inDeques ds p = sum maxWorkers (λ w. howMany (size ds w) (λ k. eqb (place ds w
 -- ---- frames and deques: the sentences
 
 -- "Either no frame lives and all deques are empty, or just one live frame has depth 0, with parent none."
-unfoldable pub oneMain : List ℕ → List ℕ → Bool
+unfoldable pub oneMain : List ℕ → List Frame → Bool
 oneMain ds fs =
-    (all places (λ p. not (lives fs p)) && all maxWorkers (λ w. eqb (size ds w) 0)) ||
-    (eqb (howMany places (λ p. lives fs p && eqb (frameAt fs p .depth) 0)) 1 &&
-    all places (λ p. implies (lives fs p && eqb (frameAt fs p .depth) 0) (eqb (frameAt fs p .parent) none)))
+    (all (length fs) (λ p. not (lives fs p)) && all maxWorkers (λ w. eqb (size ds w) 0)) ||
+    (eqb (howMany (length fs) (λ p. lives fs p && eqb (frameAt fs p .depth) 0)) 1 &&
+    all (length fs) (λ p. implies (lives fs p && eqb (frameAt fs p .depth) 0) (eqb (frameAt fs p .parent) none)))
 
 -- "Every other live frame has a live parent one shallower."
-unfoldable pub parentsLive : List ℕ → Bool
+unfoldable pub parentsLive : List Frame → Bool
 parentsLive fs =
-    all places (λ p. implies (lives fs p && not (eqb (frameAt fs p .depth) 0))
-    (ltb (frameAt fs p .parent) places && (lives fs (frameAt fs p .parent) && eqb (frameAt fs p .depth) (suc (frameAt fs (frameAt fs p .parent) .depth)))))
+    all (length fs) (λ p. implies (lives fs p && not (eqb (frameAt fs p .depth) 0))
+    (ltb (frameAt fs p .parent) (length fs) && (lives fs (frameAt fs p .parent) && eqb (frameAt fs p .depth) (suc (frameAt fs (frameAt fs p .parent) .depth)))))
 
 -- "Outstanding counts are right."
-unfoldable pub countsRight : List ℕ → Bool
-countsRight fs = all places (λ p. implies (lives fs p) (eqb (frameAt fs p .outstanding) (children fs p)))
+unfoldable pub countsRight : List Frame → Bool
+countsRight fs = all (length fs) (λ p. implies (lives fs p) (eqb (frameAt fs p .outstanding) (children fs p)))
 
 -- "Each live frame is either in just one place of one deque and not suspended, or in none and suspended with a live child."
-unfoldable pub placedOnce : List ℕ → List ℕ → Bool
+unfoldable pub placedOnce : List ℕ → List Frame → Bool
 placedOnce ds fs =
-    all places (λ p. implies (lives fs p)
+    all (length fs) (λ p. implies (lives fs p)
     ((eqb (inDeques ds p) 1 && eqb (frameAt fs p .suspended) 0) ||
     (eqb (inDeques ds p) 0 && (eqb (frameAt fs p .suspended) 1 && ltb 0 (children fs p)))))
 
 -- R-3, "Frame records gain a word for it, last": "1 on a frame waiting so, which is suspended, else 0; anything else there is unsound."
-unfoldable pub returningRight : List ℕ → Bool
+unfoldable pub returningRight : List Frame → Bool
 returningRight fs =
-    all places (λ p. implies (lives fs p) (eqb (frameAt fs p .returning) 0 || (eqb (frameAt fs p .returning) 1 && eqb (frameAt fs p .suspended) 1)))
+    all (length fs) (λ p. implies (lives fs p) (eqb (frameAt fs p .returning) 0 || (eqb (frameAt fs p .returning) 1 && eqb (frameAt fs p .suspended) 1)))
 
 -- R-5: "that these links chain the live children of each frame, each once, Main's being none": from one of them on the links go through as many live children
 -- as there are, and end there, so through each once
-abbrev pub siblingsLinked : List ℕ → ℕ → Bool
-siblingsLinked fs q = eqb (children fs q) 0 || some places (chained (children fs q) fs q)
+abbrev pub siblingsLinked : List Frame → ℕ → Bool
+siblingsLinked fs q = eqb (children fs q) 0 || some (length fs) (chained (children fs q) fs q)
 
-unfoldable pub linksRight : List ℕ → Bool
+unfoldable pub linksRight : List Frame → Bool
 linksRight fs =
-    all places (λ q. implies (lives fs q) (siblingsLinked fs q)) &&
-    all places (λ p. implies (lives fs p && eqb (frameAt fs p .depth) 0) (eqb (younger fs p) none))
+    all (length fs) (λ q. implies (lives fs q) (siblingsLinked fs q)) &&
+    all (length fs) (λ p. implies (lives fs p && eqb (frameAt fs p .depth) 0) (eqb (younger fs p) none))
 
 -- R-5: the totals, "zero while Main lives"; "Soundness asks for those zeros"
-unfoldable pub totalsRight : List ℕ → List ℕ → Bool
-totalsRight ts fs = implies (some places (lives fs)) (all totalCount (λ i. eqb (getD ts i 0) 0))
+unfoldable pub totalsRight : List ℕ → List Frame → Bool
+totalsRight ts fs = implies (some (length fs) (lives fs)) (all totalCount (λ i. eqb (getD ts i 0) 0))
 
 -- "Deques hold live frames only"
-unfoldable pub holdLive : List ℕ → List ℕ → Bool
-holdLive ds fs = all maxWorkers (λ w. all (size ds w) (λ k. ltb (place ds w k) places && lives fs (place ds w k)))
+unfoldable pub holdLive : List ℕ → List Frame → Bool
+holdLive ds fs = all maxWorkers (λ w. all (size ds w) (λ k. ltb (place ds w k) (length fs) && lives fs (place ds w k)))
 
 -- "a worker that does not exist has an empty one"
 unfoldable pub absentEmpty : ℕ → List ℕ → Bool
 absentEmpty workers ds = all maxWorkers (λ w. ltb w workers || eqb (size ds w) 0)
 
--- "deque places past a deque's frames are zero"; a deque has 64 places
-unfoldable pub restZero : List ℕ → Bool
-restZero ds = all maxWorkers (λ w. leb (size ds w) dequePlaces && all dequePlaces (λ k. ltb k (size ds w) || eqb (place ds w k) 0))
+-- "deque places past a deque's frames are zero"; R-6: a deque has at most as many frames as the table has places
+unfoldable pub restZero : List ℕ → List Frame → Bool
+restZero ds fs = all maxWorkers (λ w. leb (size ds w) (length fs) && all dequePlaces (λ k. ltb k (size ds w) || eqb (place ds w k) 0))
 
 -- "Each frame in a deque is a child of the one above it."
-unfoldable pub linked : List ℕ → List ℕ → Bool
+unfoldable pub linked : List ℕ → List Frame → Bool
 linked ds fs = all maxWorkers (λ w. all (size ds w - 1) (λ k. eqb (frameAt fs (place ds w (suc k)) .parent) (place ds w k)))
 
 -- "A frame that is not a top has only the child below it, if any."
-unfoldable pub onlyBelow : List ℕ → List ℕ → Bool
+unfoldable pub onlyBelow : List ℕ → List Frame → Bool
 onlyBelow ds fs =
-    all maxWorkers (λ w. all (size ds w - 1) (λ k. all places (λ c. implies (isChild fs (place ds w (suc k)) c) (ltb (suc (suc k)) (size ds w) && eqb c (place ds w (suc (suc k)))))))
+    all maxWorkers (λ w. all (size ds w - 1) (λ k. all (length fs) (λ c. implies (isChild fs (place ds w (suc k)) c) (ltb (suc (suc k)) (size ds w) && eqb c (place ds w (suc (suc k)))))))
 
--- "Free frame places lie once on theirs, all but the link to the next being zero.", R-3's word and R-5's too. One step more than places passes
--- its end
-abbrev pub freePlaces : List ℕ → ℕ → List ℕ
-freePlaces fs first = follow (suc places) (λ p. frameAt fs p .parent) first
+-- "Free frame places lie once on theirs, all but the link to the next being zero.", R-3's word and R-5's too. One step more than there are
+-- places passes its end
+abbrev pub freePlaces : List Frame → ℕ → List ℕ
+freePlaces fs first = follow (suc (length fs)) (λ p. frameAt fs p .parent) first
 
 abbrev pub viewZero : View → Bool
 viewZero v = eqb (v .sum .value) 0 && (eqb (v .min .value) 0 && (eqb (v .affine .multiplier) 0 && eqb (v .affine .addend) 0))
 
-abbrev pub placeFree : List ℕ → ℕ → Bool
+abbrev pub placeFree : List Frame → ℕ → Bool
 placeFree fs p =
     eqb (frameAt fs p .live) 0 &&
     (eqb (frameAt fs p .depth) 0 &&
     (eqb (frameAt fs p .outstanding) 0 &&
     (eqb (frameAt fs p .suspended) 0 && (eqb (frameAt fs p .root) 0 && (eqb (frameAt fs p .returning) 0 && (viewZero (frameAt fs p .view) && eqb (younger fs p) 0))))))
 
-unfoldable pub placesFree : List ℕ → ℕ → Bool
+unfoldable pub placesFree : List Frame → ℕ → Bool
 placesFree fs first =
-    below places (freePlaces fs first) &&
-    all places (λ p. (lives fs p && eqb (count p (freePlaces fs first)) 0) || (placeFree fs p && eqb (count p (freePlaces fs first)) 1))
+    below (length fs) (freePlaces fs first) &&
+    all (length fs) (λ p. (lives fs p && eqb (count p (freePlaces fs first)) 0) || (placeFree fs p && eqb (count p (freePlaces fs first)) 1))
 
 -- frames and deques, all of it; `first` is the first free place
-abbrev pub frameSentences : ℕ → ℕ → List ℕ → List ℕ → List Sentence
+abbrev pub frameSentences : ℕ → ℕ → List ℕ → List Frame → List Sentence
 frameSentences workers first ds fs =
     says "Either no frame lives and all deques are empty, or just one live frame has depth 0, with parent none." (oneMain ds fs) ∷
     says "Every other live frame has a live parent one shallower." (parentsLive fs) ∷
@@ -168,13 +172,13 @@ frameSentences workers first ds fs =
     says "these links chain the live children of each frame, each once, Main's being none" (linksRight fs) ∷
     says "Deques hold live frames only;" (holdLive ds fs) ∷
     says "a worker that does not exist has an empty one;" (absentEmpty workers ds) ∷
-    says "deque places past a deque's frames are zero." (restZero ds) ∷
+    says "deque places past a deque's frames are zero." (restZero ds fs) ∷
     says "Each frame in a deque is a child of the one above it." (linked ds fs) ∷
     says "A frame that is not a top has only the child below it, if any." (onlyBelow ds fs) ∷
     says "Free frame places lie once on theirs, all but the link to the next being zero." (placesFree fs first) ∷
     []
 
-unfoldable pub framesSound : ℕ → ℕ → List ℕ → List ℕ → Bool
+unfoldable pub framesSound : ℕ → ℕ → List ℕ → List Frame → Bool
 framesSound workers first ds fs = allOf (frameSentences workers first ds fs)
 
 -- ---- trees: n splitters, N recorded nodes, the first free node `first`, and the roots rs of the live frames
@@ -241,34 +245,34 @@ poolSound n N ws first rs = allOf (poolSentences n N ws first rs)
 -- ---- the whole
 
 -- the roots of the live frames at the places below c
-unfoldable pub rootsBelow : List ℕ → ℕ → List ℕ
+unfoldable pub rootsBelow : List Frame → ℕ → List ℕ
 rootsBelow fs zero = []
 rootsBelow fs (suc c) = rootsBelow fs c ++ cond (lives fs c) (frameAt fs c .root ∷ []) []
 
-abbrev pub liveRoots : List ℕ → List ℕ
-liveRoots fs = rootsBelow fs places
+abbrev pub liveRoots : List Frame → List ℕ
+liveRoots fs = rootsBelow fs (length fs)
 
 -- R-5's sentence on the totals
-abbrev pub totalSentences : List ℕ → List ℕ → List Sentence
+abbrev pub totalSentences : List ℕ → List Frame → List Sentence
 totalSentences ts fs = says "zero while Main lives" (totalsRight ts fs) ∷ []
 
-abbrev pub sentences : Numbers → List ℕ → List ℕ → List ℕ → List ℕ → List Sentence
+abbrev pub sentences : Numbers → List ℕ → List ℕ → List Frame → List ℕ → List Sentence
 sentences s ts ds fs ws =
-    numberSentences s ws ++
+    numberSentences s fs ws ++
     (totalSentences ts fs ++
     (frameSentences (s .workers) (s .«free_place») ds fs ++
     poolSentences (s .splitters) (s .nodes) ws (s .«free_node») (liveRoots fs)))
 
-abbrev pub soundParts : Numbers → List ℕ → List ℕ → List ℕ → List ℕ → List Sentence
+abbrev pub soundParts : Numbers → List ℕ → List ℕ → List Frame → List ℕ → List Sentence
 soundParts s ts ds fs ws =
-    says "numbers" (numbersSound s ws) ∷
+    says "numbers" (numbersSound s fs ws) ∷
     says "totals" (totalsRight ts fs) ∷
     says "frames and deques" (framesSound (s .workers) (s .«free_place») ds fs) ∷
     says "trees" (poolSound (s .splitters) (s .nodes) ws (s .«free_node») (liveRoots fs)) ∷
     []
 
 -- "State and pool are sound if all of this is true.": the four parts, which are all the sentences (Theory.Sentences.sound-is-all)
-unfoldable pub sound : Numbers → List ℕ → List ℕ → List ℕ → List ℕ → Bool
+unfoldable pub sound : Numbers → List ℕ → List ℕ → List Frame → List ℕ → Bool
 sound s ts ds fs ws = allOf (soundParts s ts ds fs ws)
 
 -- the free nodes, counted on the chain
@@ -278,7 +282,7 @@ freeCount s ws = length (freeNodes (s .nodes) ws (s .«free_node»))
 -- ---- the check's answer, and what it leaves in the work slice
 
 -- refusal 5: "The work slice has fewer words than the recorded node count."
-unfoldable pub checked : Numbers → List ℕ → List ℕ → List ℕ → List ℕ → List ℕ → Checked
+unfoldable pub checked : Numbers → List ℕ → List ℕ → List Frame → List ℕ → List ℕ → Checked
 checked s ts ds fs ws work =
     cond (leb (s .nodes) (length work)) (cond (sound s ts ds fs ws) (Sound (freeCount s ws)) Unsound) NoRoom
 

@@ -9,6 +9,8 @@ pub struct Numbers {
     pub free_node: u32,
     // the first free frame place, or none
     pub free_place: u32,
+    // how many places the frame table has (R-6)
+    pub places: u32,
 }
 
 // What the check finds.

@@ -7,12 +7,14 @@ use Prim.Native.Nat.{ℕ, zero, suc, _-_, _≤_, _<_}
 use native.Mathlib.Omega.{arith}
 use native.Mathlib.Decide.{ℕ-discrete}
 use lib.Dec.{ltb}
+use lib.ListN.{length}
 use Rattle.words.specs.Basics.{howMany}
 use Rattle.words.specs.Tests.{decided, true≢false, lt-of}
 use Rattle.words.specs.Counting.{howMany-zero}
 use Rattle.words.specs.Tallies.{howMany-pos, howMany-unique}
+use Rattle.frames.specs.declared.Frame.{Frame}
 use Rattle.frames.specs.Frames.{frameAt}
-use Rattle.frames.specs.Widths.{maxWorkers, places}
+use Rattle.frames.specs.Widths.{maxWorkers, maxPlaces}
 use Rattle.frames.specs.Deques.{size, place}
 use Rattle.soundness.specs.Soundness.{isChild, children, freePlaces}
 use Rattle.soundness.specs.Theory.Sentences.{Lives, NoFrame, OnlyMain, FramesFacts, EachPlace, at-child, main-is, only-main, places-of}
@@ -23,17 +25,17 @@ use Rattle.frame_check.specs.Theory.Links.{to-siblings, to-main-link}
 none-of : (m : ℕ) → m ≤ 1 → m ≢ 1 → 0 < m → ⊥
 none-of m a b c = omega arith
 
-module _ (workers first : ℕ) (ds fs : List ℕ) (s : Passes workers first ds fs) where
-  live : (p : ℕ) → p < places → Lives fs p → LiveAt ds fs p
+module _ (workers first : ℕ) (ds : List ℕ) (fs : List Frame) (few : length fs ≤ maxPlaces) (s : Passes workers first ds fs) where
+  live : (p : ℕ) → p < length fs → Lives fs p → LiveAt ds fs p
   live = s .live
 
-  counts : (p : ℕ) → p < places → Lives fs p → frameAt fs p .outstanding ≡ children fs p
+  counts : (p : ℕ) → p < length fs → Lives fs p → frameAt fs p .outstanding ≡ children fs p
   counts p b l = live p b l .1 .0
 
-  named : (p : ℕ) → p < places → Lives fs p → Younger fs p
+  named : (p : ℕ) → p < length fs → Lives fs p → Younger fs p
   named p b l = live p b l .1 .1 .1 .1 .1
 
-  held : (w : ℕ) → w < maxWorkers → (k : ℕ) → k < size ds w → (place ds w k < places) × Lives fs (place ds w k)
+  held : (w : ℕ) → w < maxWorkers → (k : ℕ) → k < size ds w → (place ds w k < length fs) × Lives fs (place ds w k)
   held w b k c = s .on w b k c .0
 
   -- below the top
@@ -48,14 +50,14 @@ module _ (workers first : ℕ) (ds fs : List ℕ) (s : Passes workers first ds f
       back = omega arith
 
   -- a live frame's ancestors lead to a Main
-  main-above : (d p : ℕ) → p < places → Lives fs p → frameAt fs p .depth ≡ d → 0 < mains fs
-  main-above zero p b l e = howMany-pos places p (mainAt fs) b (main-is ds fs p .test (l, e))
+  main-above : (d p : ℕ) → p < length fs → Lives fs p → frameAt fs p .depth ≡ d → 0 < mains fs
+  main-above zero p b l e = howMany-pos (length fs) p (mainAt fs) b (main-is ds fs p .test (l, e))
   main-above (suc d) p b l e =
       let h = live p b l .1 .1 .0 .1 (λ z. omega arith) in
       main-above d (frameAt fs p .parent) (h .0) (h .1) (omega (arith, h .2))
 
   -- where there is not one Main, no frame lives and the deques are empty
-  dead : mains fs ≢ 1 → (p : ℕ) → p < places → Lives fs p → ⊥
+  dead : mains fs ≢ 1 → (p : ℕ) → p < length fs → Lives fs p → ⊥
   dead e p b l = none-of (mains fs) (s .one) e (main-above (frameAt fs p .depth) p b l refl)
 
   empty : mains fs ≢ 1 → (w : ℕ) → w < maxWorkers → size ds w ≡ 0
@@ -71,7 +73,7 @@ module _ (workers first : ℕ) (ds fs : List ℕ) (s : Passes workers first ds f
   ]
 
   -- the children of a frame below the top are counted: one if there is a frame below it, else none
-  only-below : (w : ℕ) → w < maxWorkers → (k : ℕ) → suc k < size ds w → (c : ℕ) → c < places → Lives fs c → frameAt fs c .parent ≡ place ds w (suc k)
+  only-below : (w : ℕ) → w < maxWorkers → (k : ℕ) → suc k < size ds w → (c : ℕ) → c < length fs → Lives fs c → frameAt fs c .parent ≡ place ds w (suc k)
       → (suc (suc k) < size ds w) × (c ≡ place ds w (suc (suc k)))
   only-below w b k l c d a e =
       let q = place ds w (suc k) in
@@ -81,12 +83,12 @@ module _ (workers first : ℕ) (ds fs : List ℕ) (s : Passes workers first ds f
       elim (decided (ltb (suc (suc k)) (size ds w))) [
         | inl m ↦
             (let r = held w b (suc (suc k)) (lt-of m) in
-            let one : howMany places (isChild fs q) ≡ 1 = n ∙ ap (λ z. cond z 1 0) m in
-            (lt-of m, howMany-unique places c (place ds w (suc (suc k))) (isChild fs q) (omega (arith, one)) d (r .0) t (at-child fs q (place ds w (suc (suc k))) (r .1) (inner w b (suc k) (lt-of m) .0))))
-        | inr m ↦ absurd (true≢false (sym t ∙ howMany-zero places (isChild fs q) (n ∙ ap (λ z. cond z 1 0) m) c d))
+            let one : howMany (length fs) (isChild fs q) ≡ 1 = n ∙ ap (λ z. cond z 1 0) m in
+            (lt-of m, howMany-unique (length fs) c (place ds w (suc (suc k))) (isChild fs q) (omega (arith, one)) d (r .0) t (at-child fs q (place ds w (suc (suc k))) (r .1) (inner w b (suc k) (lt-of m) .0))))
+        | inr m ↦ absurd (true≢false (sym t ∙ howMany-zero (length fs) (isChild fs q) (n ∙ ap (λ z. cond z 1 0) m) c d))
       ]
 
-  each-place : (p : ℕ) → p < places → EachPlace fs first (freePlaces fs first) p
+  each-place : (p : ℕ) → p < length fs → EachPlace fs first (freePlaces fs first) p
   each-place p b = elim (ℕ-discrete (frameAt fs p .live) 1) [
     | yes l ↦ inl (l, s .chained .off p b l)
     | no l ↦ inr (s .chained .empty p b l, s .chained .once p b l)
@@ -100,8 +102,8 @@ module _ (workers first : ℕ) (ds fs : List ℕ) (s : Passes workers first ds f
         outstanding = counts;
         placed = λ p b l. live p b l .1 .1 .1 .0;
         returning = λ p b l. live p b l .1 .1 .1 .1 .0;
-        siblings = λ q b l. to-siblings fs counts named q b l (live q b l .0);
-        main-link = λ p b l. to-main-link fs p (named p b l);
+        siblings = λ q b l. to-siblings fs few counts named q b l (live q b l .0);
+        main-link = λ p b l. to-main-link fs few p (named p b l);
         hold-live = held;
         absent = λ w b. s .fits w b .1 .0;
         within = λ w b. s .fits w b .0;

@@ -16,7 +16,7 @@ use Rattle.words.specs.Loops.{count-sum}
 use Rattle.words.specs.Followed.{Listed, listed-all, chain-listed, listed-chain}
 use Rattle.frames.specs.declared.Frame.{Frame}
 use Rattle.frames.specs.Frames.{frameAt}
-use Rattle.frames.specs.Widths.{places}
+use Rattle.frames.specs.Widths.{maxPlaces}
 use Rattle.soundness.specs.Soundness.{freePlaces}
 use Rattle.soundness.specs.Theory.Is.{Is}
 use Rattle.soundness.specs.Theory.Sentences.{Lives, FreeAt, free-is}
@@ -44,36 +44,36 @@ minus-le n l = omega arith
 
 -- ---- a chain that ends
 
-abbrev emptyAt : List ℕ → ℕ → Bool
+abbrev emptyAt : List Frame → ℕ → Bool
 emptyAt fs p = freeSound (frameAt fs p)
 
 -- xs is a list of c free places, each there once
-abbrev Frees : List ℕ → ℕ → List ℕ → Type 0
-Frees fs c xs = Listed places (emptyAt fs) c xs
+abbrev Frees : List Frame → ℕ → List ℕ → Type 0
+Frees fs c xs = Listed (length fs) (emptyAt fs) c xs
 
-module _ (fs : List ℕ) where
+module _ (fs : List Frame) (few : length fs ≤ maxPlaces) where
   chain-sound : (c f a : ℕ) → c ≤ f → chainFrom fs c a ≡ true → Frees fs c (follow (suc f) (next fs) a)
   unfolding chainFrom
-  chain-sound = chain-listed places (next fs) (emptyAt fs) (chainFrom fs) (omega arith) (λ a. refl) (λ c a. refl)
+  chain-sound = chain-listed (length fs) (next fs) (emptyAt fs) (chainFrom fs) (omega arith) (λ a. refl) (λ c a. refl)
 
   chain-complete : (c f a : ℕ) → c ≤ f → Frees fs c (follow (suc f) (next fs) a) → chainFrom fs c a ≡ true
   unfolding chainFrom
-  chain-complete = listed-chain places (next fs) (emptyAt fs) (chainFrom fs) (omega arith) (λ a. refl) (λ c a. refl)
+  chain-complete = listed-chain (length fs) (next fs) (emptyAt fs) (chainFrom fs) (omega arith) (λ a. refl) (λ c a. refl)
 
 -- ---- and the places where no frame lives
 
 -- the chain xs of the definition has each place where no frame lives once
-pub record FreeChain (fs xs : List ℕ) : Type 0 where
-  pub within : below places xs ≡ true
-  pub off : (x : ℕ) → x < places → Lives fs x → count x xs ≡ 0
-  pub once : (x : ℕ) → x < places → (Lives fs x → ⊥) → count x xs ≡ 1
-  pub empty : (x : ℕ) → x < places → (Lives fs x → ⊥) → FreeAt fs x
+pub record FreeChain (fs : List Frame) (xs : List ℕ) : Type 0 where
+  pub within : below (length fs) xs ≡ true
+  pub off : (x : ℕ) → x < length fs → Lives fs x → count x xs ≡ 0
+  pub once : (x : ℕ) → x < length fs → (Lives fs x → ⊥) → count x xs ≡ 1
+  pub empty : (x : ℕ) → x < length fs → (Lives fs x → ⊥) → FreeAt fs x
 
 -- no frame lives in a free place
-pub free-dead : (fs : List ℕ) (x : ℕ) → FreeAt fs x → Lives fs x → ⊥
+pub free-dead : (fs : List Frame) (x : ℕ) → FreeAt fs x → Lives fs x → ⊥
 free-dead fs x f l = (let z = ap (λ (g : Frame). g .live) (f .1) in omega (arith, l, z))
 
-module _ (fs xs : List ℕ) where
+module _ (fs : List Frame) (xs : List ℕ) where
   -- the count of a place: none if a frame lives there, else one
   vacancy : ℕ → ℕ
   vacancy = out (liveAt fs)
@@ -86,12 +86,12 @@ module _ (fs xs : List ℕ) where
   unfolding vacancy
   a-vacancy x l = rw (ne-eqb (frameAt fs x .live) 1 l)
 
-  vacancies : lives fs + sum places vacancy ≡ places
+  vacancies : lives fs + sum (length fs) vacancy ≡ length fs
   unfolding vacancy
-  vacancies = sum-out places (liveAt fs)
+  vacancies = sum-out (length fs) (liveAt fs)
 
   -- as many different ones as there are: each of them
-  chained : Frees fs (places - lives fs) xs → FreeChain fs xs
+  chained : Frees fs (length fs - lives fs) xs → FreeChain fs xs
   chained v = record {
     within = v .within;
     off = λ x b l. each x b ∙ no-vacancy x l;
@@ -99,24 +99,24 @@ module _ (fs xs : List ℕ) where
     empty = λ x b l. free-is fs x .fact (v .passes x b (omega (arith, each x b, a-vacancy x l)));
   }
     where
-      each : (x : ℕ) → x < places → count x xs ≡ vacancy x
-      each = listed-all places (emptyAt fs) (places - lives fs) xs vacancy (λ x t. a-vacancy x (free-dead fs x (free-is fs x .fact t))) (enough places (lives fs) (sum places vacancy) vacancies) v
+      each : (x : ℕ) → x < length fs → count x xs ≡ vacancy x
+      each = listed-all (length fs) (emptyAt fs) (length fs - lives fs) xs vacancy (λ x t. a-vacancy x (free-dead fs x (free-is fs x .fact t))) (enough (length fs) (lives fs) (sum (length fs) vacancy) vacancies) v
 
-  frees : FreeChain fs xs → Frees fs (places - lives fs) xs
+  frees : FreeChain fs xs → Frees fs (length fs - lives fs) xs
   frees p = record {
     within = p .within;
-    size = long-as places (lives fs) (sum places vacancy) (sum places (λ i. count i xs)) (length xs) vacancies (count-sum places xs (p .within)) (sum-cong places (λ i. count i xs) vacancy each);
+    size = long-as (length fs) (lives fs) (sum (length fs) vacancy) (sum (length fs) (λ i. count i xs)) (length xs) vacancies (count-sum (length fs) xs (p .within)) (sum-cong (length fs) (λ i. count i xs) vacancy each);
     passes = λ x b o. free-is fs x .test (elim (ℕ-discrete (frameAt fs x .live) 1) [ yes l ↦ absurd (omega (arith, p .off x b l)) | no l ↦ p .empty x b l ]);
     once = λ x b. elim (ℕ-discrete (frameAt fs x .live) 1) [ yes l ↦ omega (arith, p .off x b l) | no l ↦ omega (arith, p .once x b l) ];
   }
     where
-      each : (x : ℕ) → x < places → count x xs ≡ vacancy x
+      each : (x : ℕ) → x < length fs → count x xs ≡ vacancy x
       each x b = elim (ℕ-discrete (frameAt fs x .live) 1) [ yes l ↦ p .off x b l ∙ sym (no-vacancy x l) | no l ↦ p .once x b l ∙ sym (a-vacancy x l) ]
 
-pub chain-is : (fs : List ℕ) (first : ℕ) → Is (chainFrom fs (places - lives fs) first) (FreeChain fs (freePlaces fs first))
-chain-is fs first =
-    let c = minus-le places (lives fs) in
+pub chain-is : (fs : List Frame) (first : ℕ) → length fs ≤ maxPlaces → Is (chainFrom fs (length fs - lives fs) first) (FreeChain fs (freePlaces fs first))
+chain-is fs first few =
+    let c = minus-le (length fs) (lives fs) in
     record {
-      fact = λ e. chained fs (freePlaces fs first) (chain-sound fs (places - lives fs) places first c e);
-      test = λ p. chain-complete fs (places - lives fs) places first c (frees fs (freePlaces fs first) p);
+      fact = λ e. chained fs (freePlaces fs first) (chain-sound fs few (length fs - lives fs) (length fs) first c e);
+      test = λ p. chain-complete fs few (length fs - lives fs) (length fs) first c (frees fs (freePlaces fs first) p);
     }

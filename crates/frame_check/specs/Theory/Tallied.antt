@@ -12,7 +12,7 @@ use borrow.Author.Tests.{eqb-true, eq-eqb, ne-eqb}
 use Rattle.words.specs.Basics.{none, plus, sum, howMany}
 use Rattle.words.specs.Tests.{decided, true≢false}
 use Rattle.frames.specs.declared.Frame.{Frame}
-use Rattle.frames.specs.Widths.{places}
+use Rattle.frames.specs.Widths.{maxPlaces}
 use Rattle.frames.specs.Frames.{frameAt}
 use Rattle.frames.specs.Siblings.{liveChild, eldestTo}
 use Rattle.frames.specs.Deques.{size, place}
@@ -82,7 +82,7 @@ tallyDeques-at (suc n) ds ts p b w =
 
 -- ---- children: how many, and what is left of their places less those that they name
 
-child-counted : (f : Frame) (q : ℕ) → q < places → eqb (childAt f) q ≡ eqb (f .live) 1 && eqb (f .parent) q
+child-counted : (f : Frame) (q : ℕ) → q < maxPlaces → eqb (childAt f) q ≡ eqb (f .live) 1 && eqb (f .parent) q
 child-counted f q b = elim (decided (eqb (f .live) 1)) [ inl e ↦ rw e | inr e ↦ rw e (ne-eqb none q (λ d. omega arith)) ]
 
 -- a number in a word counts in steps as the number itself does
@@ -111,10 +111,10 @@ child-more h e c z d =
 child-none : {t : ℕ} (h e : ℕ) → t ≡ (h + linkStep * suc e) % 2 ^ 32 → t ≡ (h + 0 + linkStep * suc e) % 2 ^ 32
 child-none h e d = omega arith
 
-pub children-at : (n : ℕ) (fs : List ℕ) (q : ℕ) → q < places
+pub children-at : (n : ℕ) (fs : List Frame) (q : ℕ) → q < maxPlaces
     → getD (tally (stepIn fs) n (childIn fs) zeros) q 0 ≡ (howMany n (liveChild fs q) + linkStep * suc (eldestTo n fs q)) % 2 ^ 32
 unfolding tally eldestTo
-children-at zero fs q b = getD-replicate places q 0 0 b
+children-at zero fs q b = getD-replicate maxPlaces q 0 0 b
 children-at (suc n) fs q b =
     let us = tally (stepIn fs) n (childIn fs) zeros in
     let r = children-at n fs q b in

@@ -14,6 +14,8 @@ use Rattle.words.specs.Loops.{count-sum}
 use Rattle.words.specs.Tests.{decided, both, lt-of, ge-of, true≢false}
 use Rattle.sizes.specs.Sizes.{height}
 use Rattle.pool.specs.Pool.{refcount}
+use Rattle.frames.specs.declared.Frame.{Frame}
+use Rattle.frames.specs.Widths.{maxPlaces}
 use Rattle.soundness.specs.Soundness.{treesAt, reached, isReached, holders, isFree, freeNodes, nodeSound, poolSound, liveRoots, cleared}
 use Rattle.pool_check.specs.declared.PoolChecked.the-variants.{Bad, Good}
 use Rattle.pool_check.specs.Answer.{inBounds, poolChecked}
@@ -112,28 +114,28 @@ no-trees : (n N : ℕ) (ws rs : List ℕ) (first : ℕ) → treesAt n N ws rs �
 unfolding poolSound
 no-trees n N ws rs first t = rw t
 
-pub run-keeps : (n N first : ℕ) (fs ws w : List ℕ) → Keeps N w (runCheck n N first fs ws w .0)
+pub run-keeps : (n N first : ℕ) (fs : List Frame) (ws w : List ℕ) → Keeps N w (runCheck n N first fs ws w .0)
 run-keeps n N first fs ws w = elim (decided (inBounds n N ws w)) [
-  | inl e ↦ elim (decided (visitPlaces n (height n) N fs ws 64 w .1)) [
-    | inl t ↦ rw (run-on n N first fs ws w e t) (places-keeps n N fs ws 64 w)
-    | inr t ↦ rw (run-off n N first fs ws w e t) (places-keeps n N fs ws 64 w)
+  | inl e ↦ elim (decided (visitPlaces n (height n) N fs ws (length fs) w .1)) [
+    | inl t ↦ rw (run-on n N first fs ws w e t) (places-keeps n N fs ws (length fs) w)
+    | inr t ↦ rw (run-off n N first fs ws w e t) (places-keeps n N fs ws (length fs) w)
   ]
   | inr e ↦ rw (run-out n N first fs ws w e) keeps-refl
 ]
 
-pub run-answer : (n N first : ℕ) (fs ws w : List ℕ) → (N ≤ length w → (x : ℕ) → x < N → getD w x 0 ≡ 0) → runCheck n N first fs ws w .1 ≡ poolChecked n N first fs ws w
+pub run-answer : (n N first : ℕ) (fs : List Frame) (ws w : List ℕ) → length fs ≤ maxPlaces → (N ≤ length w → (x : ℕ) → x < N → getD w x 0 ≡ 0) → runCheck n N first fs ws w .1 ≡ poolChecked n N first fs ws w
 unfolding poolChecked
-run-answer n N first fs ws w zeros = elim (decided (inBounds n N ws w)) [
+run-answer n N first fs ws w table zeros = elim (decided (inBounds n N ws w)) [
   | inl e ↦ (
       let p = both (leb n 256) _ e in
       let q = both (leb N 16384) _ (p .1) in
       let small : n ≤ 256 = leb-true n 256 (p .0) in
       let few : N ≤ 16384 = leb-true N 16384 (q .0) in
       let long : N ≤ length w = leb-true N (length w) (both (leb (4 * N) (length ws)) _ (q .1) .1) in
-      let is : visitPlaces n (height n) N fs ws 64 w .1 ≡ treesAt n N ws (liveRoots fs) = places-tree n N fs ws w small few long (zeros long) in
+      let is : visitPlaces n (height n) N fs ws (length fs) w .1 ≡ treesAt n N ws (liveRoots fs) = places-tree n N fs ws w table small few long (zeros long) in
       elim (decided (treesAt n N ws (liveRoots fs))) [
         | inl t ↦ rw (e, run-on n N first fs ws w e (is ∙ t))
-            (settle-answer n N ws (liveRoots fs) (visitPlaces n (height n) N fs ws 64 w .0) few (places-tallied n N fs ws w small few long (zeros long) t) t first)
+            (settle-answer n N ws (liveRoots fs) (visitPlaces n (height n) N fs ws (length fs) w .0) few (places-tallied n N fs ws w table small few long (zeros long) t) t first)
         | inr t ↦ rw (e, run-off n N first fs ws w e (is ∙ t), no-trees n N ws (liveRoots fs) first t)
       ])
   | inr e ↦ rw (run-out n N first fs ws w e, e)
@@ -141,11 +143,11 @@ run-answer n N first fs ws w zeros = elim (decided (inBounds n N ws w)) [
 
 -- ---- from any work slice
 
-pub check-answer : (n N first : ℕ) (fs ws w : List ℕ) → runCheck n N first fs ws (cleared N w) .1 ≡ poolChecked n N first fs ws w
+pub check-answer : (n N first : ℕ) (fs : List Frame) (ws w : List ℕ) → length fs ≤ maxPlaces → runCheck n N first fs ws (cleared N w) .1 ≡ poolChecked n N first fs ws w
 unfolding poolChecked
-check-answer n N first fs ws w = run-answer n N first fs ws (cleared N w) (λ h x b. clear-zeros N w x (omega (arith, clear-keeps N w .size)) b) ∙ rw (clear-keeps N w .size)
+check-answer n N first fs ws w table = run-answer n N first fs ws (cleared N w) table (λ h x b. clear-zeros N w x (omega (arith, clear-keeps N w .size)) b) ∙ rw (clear-keeps N w .size)
 
-pub check-work : (n N first : ℕ) (fs ws w : List ℕ) → cleared N (runCheck n N first fs ws (cleared N w) .0) ≡ cleared N w
+pub check-work : (n N first : ℕ) (fs : List Frame) (ws w : List ℕ) → cleared N (runCheck n N first fs ws (cleared N w) .0) ≡ cleared N w
 check-work n N first fs ws w = elim (decided (leb N (length w))) [
   | inl e ↦ clear-same N w (runCheck n N first fs ws (cleared N w) .0) (leb-true N (length w) e) (keeps-trans (clear-keeps N w) (run-keeps n N first fs ws (cleared N w)))
   | inr e ↦ rw (clear-no N w e, run-out n N first fs ws w (out e)) (clear-no N w e)

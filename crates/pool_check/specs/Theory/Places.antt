@@ -13,6 +13,8 @@ use Rattle.words.specs.Tests.{decided, both, ltb-of, true≢false}
 use Rattle.sizes.specs.Sizes.{height}
 use Rattle.sizes.specs.Heights.{height-covers, height-le}
 use Rattle.sizes.specs.Leaves.{leaves, leaves-top}
+use Rattle.frames.specs.declared.Frame.{Frame}
+use Rattle.frames.specs.Widths.{maxPlaces}
 use Rattle.frames.specs.Frames.{frameAt}
 use Rattle.soundness.specs.Soundness.{lives, treeAt, treesAt, nodesAt, reached, isReached, holders, rootsBelow, liveRoots}
 use Rattle.pool_check.specs.Algorithm.{mark, links, visitPlace, visitPlaces}
@@ -34,16 +36,16 @@ count-reached n ws (r ∷ rs) ss x =
     omega (arith, count-append x (nodesAt n ws (height n) 0 r) (reached n ws (rs ++ ss)), count-append x (nodesAt n ws (height n) 0 r) (reached n ws rs), count-reached n ws rs ss x)
 
 -- the root of the frame at place p, if it lives
-abbrev pub rootAt : List ℕ → ℕ → List ℕ
+abbrev pub rootAt : List Frame → ℕ → List ℕ
 rootAt fs p = cond (lives fs p) (frameAt fs p .root ∷ []) []
 
-count-root : (fs : List ℕ) (p x : ℕ) → count x (rootAt fs p) ≤ 1
+count-root : (fs : List Frame) (p x : ℕ) → count x (rootAt fs p) ≤ 1
 count-root fs p x = elim (decided (lives fs p)) [
   | inl e ↦ rw e (omega (arith, count-cons x (frameAt fs p .root) [], count-nil x, δ-le x (frameAt fs p .root)))
   | inr e ↦ rw e (omega (arith, count-nil x))
 ]
 
-pub count-roots : (fs : List ℕ) (c x : ℕ) → count x (rootsBelow fs c) ≤ c
+pub count-roots : (fs : List Frame) (c x : ℕ) → count x (rootsBelow fs c) ≤ c
 unfolding rootsBelow
 count-roots fs zero x = omega (arith, count-nil x)
 count-roots fs (suc c) x = omega (arith, count-roots fs c x, count-append x (rootsBelow fs c) (rootAt fs c), count-root fs c x)
@@ -84,7 +86,7 @@ shown-append n N ws rs ss w w' w'' p q = record {
 
 -- ---- the places
 
-module _ (n N : ℕ) (fs ws : List ℕ) where
+module _ (n N : ℕ) (fs : List Frame) (ws : List ℕ) where
   -- one place, and those below c
   abbrev place : ℕ → List ℕ → List ℕ × Bool
   place = visitPlace n (height n) N fs ws
@@ -121,7 +123,7 @@ module _ (n N : ℕ) (fs ws : List ℕ) where
 
     -- ---- visits that succeed
 
-    place-shows : (p : ℕ) (w : List ℕ) → N ≤ length w → ((x : ℕ) → x < N → links w x ≤ 63 + linksTo N ws w x) → Settled n N ws (suc (height n)) w
+    place-shows : (p : ℕ) (w : List ℕ) → N ≤ length w → ((x : ℕ) → x < N → links w x < maxPlaces + linksTo N ws w x) → Settled n N ws (suc (height n)) w
         → place p w .1 ≡ true → Shown n N ws (rootAt fs p) w (place p w .0)
     place-shows p w r h S = elim (decided (lives fs p)) [
       | inl e ↦
@@ -136,14 +138,14 @@ module _ (n N : ℕ) (fs ws : List ℕ) where
       | inr e ↦ rw (place-free n (height n) N fs ws p w e, e) (λ t. record { trees = refl; adds = adds-nil n N ws w; settled = S })
     ]
 
-    places-shows : (c : ℕ) (w : List ℕ) → c ≤ 64 → N ≤ length w → ((x : ℕ) → x < N → getD w x 0 ≡ 0) → places c w .1 ≡ true → Shown n N ws (rootsBelow fs c) w (places c w .0)
+    places-shows : (c : ℕ) (w : List ℕ) → c ≤ maxPlaces → N ≤ length w → ((x : ℕ) → x < N → getD w x 0 ≡ 0) → places c w .1 ≡ true → Shown n N ws (rootsBelow fs c) w (places c w .0)
     unfolding visitPlaces rootsBelow
     places-shows zero w m r z t = record { trees = refl; adds = adds-nil n N ws w; settled = λ x l' k' b f lt one e. absurd (omega (arith, z x b)) }
     places-shows (suc c) w m r z t = elim (decided (places c w .1)) [
       | inl e ↦ (
           let w₁ = places c w .0 in
           let P = places-shows c w (omega arith) r z e in
-          let room : (x : ℕ) → x < N → links w₁ x ≤ 63 + linksTo N ws w₁ x = λ x b. omega (arith, P .adds .counts x b, z x b, count-roots fs c x) in
+          let room : (x : ℕ) → x < N → links w₁ x < maxPlaces + linksTo N ws w₁ x = λ x b. omega (arith, P .adds .counts x b, z x b, count-roots fs c x) in
           rw e (shown-append n N ws (rootsBelow fs c) (rootAt fs c) w w₁ _ P (place-shows c w₁ (omega (arith, places-keeps c w .size)) room (P .settled) (rw e at t))))
       | inr e ↦ absurd (true≢false (sym (rw e at t)))
     ]
@@ -194,19 +196,19 @@ module _ (n N : ℕ) (ws rs w w' : List ℕ) (zeros : (x : ℕ) → x < N → ge
   tallied : Tallied n N ws rs w'
   tallied = record { marks = all-marks; counts = λ x b. omega (arith, p .counts x b, zeros x b, none-before x, reached-links x) }
 
-module _ (n N : ℕ) (fs ws w : List ℕ) (small : n ≤ 256) (few : N ≤ 16384) (r : N ≤ length w) (z : (x : ℕ) → x < N → getD w x 0 ≡ 0) where
-  succeeds : treesAt n N ws (liveRoots fs) ≡ true → visitPlaces n (height n) N fs ws 64 w .1 ≡ true
-  succeeds t = places-succeeds n N fs ws small few 64 w r (λ x b m. absurd (omega (arith, z x b))) t .0
+module _ (n N : ℕ) (fs : List Frame) (ws w : List ℕ) (table : length fs ≤ maxPlaces) (small : n ≤ 256) (few : N ≤ 16384) (r : N ≤ length w) (z : (x : ℕ) → x < N → getD w x 0 ≡ 0) where
+  succeeds : treesAt n N ws (liveRoots fs) ≡ true → visitPlaces n (height n) N fs ws (length fs) w .1 ≡ true
+  succeeds t = places-succeeds n N fs ws small few (length fs) w r (λ x b m. absurd (omega (arith, z x b))) t .0
 
-  shows : visitPlaces n (height n) N fs ws 64 w .1 ≡ true → Shown n N ws (liveRoots fs) w (visitPlaces n (height n) N fs ws 64 w .0)
-  shows t = places-shows n N fs ws small few 64 w (omega arith) r z t
+  shows : visitPlaces n (height n) N fs ws (length fs) w .1 ≡ true → Shown n N ws (liveRoots fs) w (visitPlaces n (height n) N fs ws (length fs) w .0)
+  shows t = places-shows n N fs ws small few (length fs) w table r z t
 
   -- the visits succeed if and only if they are of trees
-  pub places-tree : visitPlaces n (height n) N fs ws 64 w .1 ≡ treesAt n N ws (liveRoots fs)
-  places-tree = elim (decided (visitPlaces n (height n) N fs ws 64 w .1)) [
+  pub places-tree : visitPlaces n (height n) N fs ws (length fs) w .1 ≡ treesAt n N ws (liveRoots fs)
+  places-tree = elim (decided (visitPlaces n (height n) N fs ws (length fs) w .1)) [
     | inl e ↦ e ∙ sym (shows e .trees)
     | inr e ↦ elim (decided (treesAt n N ws (liveRoots fs))) [ inl t ↦ succeeds t ∙ sym t | inr t ↦ e ∙ sym t ]
   ]
 
-  pub places-tallied : treesAt n N ws (liveRoots fs) ≡ true → Tallied n N ws (liveRoots fs) (visitPlaces n (height n) N fs ws 64 w .0)
-  places-tallied t = tallied n N ws (liveRoots fs) w (visitPlaces n (height n) N fs ws 64 w .0) z (shows (succeeds t) .adds)
+  pub places-tallied : treesAt n N ws (liveRoots fs) ≡ true → Tallied n N ws (liveRoots fs) (visitPlaces n (height n) N fs ws (length fs) w .0)
+  places-tallied t = tallied n N ws (liveRoots fs) w (visitPlaces n (height n) N fs ws (length fs) w .0) z (shows (succeeds t) .adds)

@@ -13,6 +13,7 @@ use Rattle.words.specs.Basics.{none, δ, count}
 use Rattle.words.specs.Counting.{δ-other, count-nil, count-cons, count-append}
 use Rattle.words.specs.Tests.{decided, both, true≢false}
 use Rattle.pool.specs.Pool.{left, right}
+use Rattle.frames.specs.Widths.{maxPlaces}
 use Rattle.pool_check.specs.Algorithm.{mark, links, stamp, shaped, stamped, linked, visit, below}
 use Rattle.pool_check.specs.Theory.Ways.{onLeft, visit-off, visit-again, visit-shapeless, visit-below, below-left, below-end, below-right, visit-keeps}
 use Rattle.pool_check.specs.Theory.Shape.{tree, nodes, leaf-tree, end-tree, inner-tree, leaf-nodes, end-nodes, inner-nodes, Fits, fits-left, fits-right}
@@ -27,9 +28,9 @@ pub record Adds (N : ℕ) (ws : List ℕ) (i : ℕ) (xs w w' : List ℕ) : Type 
   pub marks : (x : ℕ) → x < N → mark w' x ≡ min 1 (mark w x + count x xs)
   pub counts : (x : ℕ) → x < N → links w' x + linksTo N ws w x ≡ links w x + δ x i + linksTo N ws w' x
 
--- the links counted, the one to i among them, are links of visited nodes or of the at most 64 roots
+-- the links counted, the one to i among them, are links of visited nodes or of roots, of which there are as many as places at most
 abbrev pub Room : ℕ → List ℕ → ℕ → List ℕ → Type 0
-Room N ws i w = (x : ℕ) → x < N → links w x + δ x i ≤ 64 + linksTo N ws w x
+Room N ws i w = (x : ℕ) → x < N → links w x + δ x i ≤ maxPlaces + linksTo N ws w x
 
 -- the stamps of level l and above stay
 abbrev Stays : ℕ → ℕ → List ℕ → List ℕ → Type 0

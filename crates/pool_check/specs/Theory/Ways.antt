@@ -13,10 +13,11 @@ use lib.Seq.{drop-set-lt}
 use Rattle.words.specs.Basics.{none, plus, all}
 use Rattle.words.specs.Tests.{decided, ltb-of, nltb-of}
 use Rattle.sizes.specs.Sizes.{height}
+use Rattle.frames.specs.declared.Frame.{Frame}
 use Rattle.frames.specs.Frames.{frameAt}
 use Rattle.soundness.specs.Soundness.{lives}
 use Rattle.pool.specs.Pool.{left, right}
-use Rattle.pool_check.specs.Algorithm.{stamp, shaped, stamped, linked, meet, visit, below, visitPlace, visitPlaces, nodeRight, unvisited, chainFrom, settle, runCheck}
+use Rattle.pool_check.specs.Algorithm.{stamp, shaped, stamped, linked, meet, visit, below, rootVisited, visitPlace, visitPlaces, nodeRight, unvisited, chainFrom, settle, runCheck}
 use Rattle.pool_check.specs.Answer.{inBounds}
 use Rattle.pool_check.specs.declared.PoolChecked.the-variants.{Bad, Good}
 
@@ -66,14 +67,14 @@ module _ (N : ℕ) (ws : List ℕ) (l k i : ℕ) (w : List ℕ) where
   unfolding below
   below-right t e = rw (t, ne-eqb (k - 2 ^ l) 0 e)
 
-module _ (n h N : ℕ) (fs ws : List ℕ) (p : ℕ) (w : List ℕ) where
+module _ (n h N : ℕ) (fs : List Frame) (ws : List ℕ) (p : ℕ) (w : List ℕ) where
   pub place-live : lives fs p ≡ true → visitPlace n h N fs ws p w ≡ visit N ws h n (frameAt fs p .root) w
   unfolding visitPlace
-  place-live e = rw (e, visitPlace)
+  place-live e = rw (e, visitPlace, rootVisited)
 
   pub place-free : lives fs p ≡ false → visitPlace n h N fs ws p w ≡ (w, true)
   unfolding visitPlace
-  place-free e = rw (e, visitPlace)
+  place-free e = rw (e, visitPlace, rootVisited)
 
 module _ (N : ℕ) (ws : List ℕ) (first : ℕ) (w : List ℕ) where
   pub settle-off : all N (nodeRight ws w) ≡ false → settle N ws first w ≡ Bad
@@ -84,16 +85,16 @@ module _ (N : ℕ) (ws : List ℕ) (first : ℕ) (w : List ℕ) where
   unfolding settle
   settle-on e = rw e
 
-module _ (n N first : ℕ) (fs ws w : List ℕ) where
+module _ (n N first : ℕ) (fs : List Frame) (ws w : List ℕ) where
   pub run-out : inBounds n N ws w ≡ false → runCheck n N first fs ws w ≡ (w, Bad)
   unfolding runCheck
   run-out e = rw (e, runCheck)
 
-  pub run-off : inBounds n N ws w ≡ true → visitPlaces n (height n) N fs ws 64 w .1 ≡ false → runCheck n N first fs ws w ≡ (visitPlaces n (height n) N fs ws 64 w .0, Bad)
+  pub run-off : inBounds n N ws w ≡ true → visitPlaces n (height n) N fs ws (length fs) w .1 ≡ false → runCheck n N first fs ws w ≡ (visitPlaces n (height n) N fs ws (length fs) w .0, Bad)
   unfolding runCheck
   run-off e t = rw (e, t, runCheck)
 
-  pub run-on : inBounds n N ws w ≡ true → visitPlaces n (height n) N fs ws 64 w .1 ≡ true → runCheck n N first fs ws w ≡ (visitPlaces n (height n) N fs ws 64 w .0, settle N ws first (visitPlaces n (height n) N fs ws 64 w .0))
+  pub run-on : inBounds n N ws w ≡ true → visitPlaces n (height n) N fs ws (length fs) w .1 ≡ true → runCheck n N first fs ws w ≡ (visitPlaces n (height n) N fs ws (length fs) w .0, settle N ws first (visitPlaces n (height n) N fs ws (length fs) w .0))
   unfolding runCheck
   run-on e t = rw (e, t, runCheck)
 

@@ -13,7 +13,7 @@ returns : tie.Need-returns
 returns c =
     let s = c .before in
     let a = start-of s .args in
-    fits-over (a .workers) (a .deques .now) (a .w) (s .size-at .ensures) (c .if1 .taken)
+    fits-over (a .workers) (a .places) (a .deques .now) (a .w) (s .size-at .ensures) (c .if1 .taken)
 
 rest-zero-requires : tie.Need-rest-zero-requires
 rest-zero-requires c κs = search needs
@@ -23,7 +23,7 @@ returns-2 c =
     let t = c .before in
     let s = t .before in
     let a = start-of s .args in
-    fits-within (a .workers) (a .deques .now) (a .w) (s .size-at .ensures) (t .if1 .left) (c .rest-zero .ensures)
+    fits-within (a .workers) (a .places) (a .deques .now) (a .w) (s .size-at .ensures) (t .if1 .left) (c .rest-zero .ensures)
 
 pub deque-fits-spec : {M : Type 1} → statement M
 deque-fits-spec = tie.close (tie.spec size-at-requires returns rest-zero-requires returns-2)

@@ -11,10 +11,10 @@ use Rattle.frame_check.proofs.deques.deques_fit.Statement.{statement}
 use Rattle.frame_check.proofs.deques.deques_fit.Tie as tie
 
 abbrev Inv-loop : tie.InvT-loop
-Inv-loop workers deques sound₀ w₀ sound w = (sound ≡ all w (dequeFits workers deques)) × (w ≤ maxWorkers)
+Inv-loop workers places deques sound₀ w₀ sound w = (sound ≡ all w (dequeFits workers places deques)) × (w ≤ maxWorkers)
 
 abbrev μ-loop : tie.MeasureT-loop
-μ-loop workers deques sound₀ w₀ sound w = maxWorkers - w
+μ-loop workers places deques sound₀ w₀ sound w = maxWorkers - w
 
 loop-holds : tie.Need-loop-holds Inv-loop μ-loop
 loop-holds c = (refl, omega arith)
@@ -32,13 +32,13 @@ loop-again : tie.Need-loop-again Inv-loop μ-loop
 loop-again c =
     let a = c .before .before .before .before .args in
     let l = c .before .before .loop in
-    (all-turn (l .w) (dequeFits (a .workers) (a .deques .now)) (l .inv .0) (c .deque-fits .ensures), omega arith)
+    (all-turn (l .w) (dequeFits (a .workers) (a .places) (a .deques .now)) (l .inv .0) (c .deque-fits .ensures), omega arith)
 
 returns : tie.Need-returns Inv-loop μ-loop
 returns c =
     let a = c .before .before .before .args in
     let l = c .before .loop in
-    at-end (λ k. all k (dequeFits (a .workers) (a .deques .now))) (l .inv .1) (c .loop-test .left) (l .inv .0)
+    at-end (λ k. all k (dequeFits (a .workers) (a .places) (a .deques .now))) (l .inv .1) (c .loop-test .left) (l .inv .0)
 
 pub deques-fit-spec : {M : Type 1} → statement M
 deques-fit-spec =
