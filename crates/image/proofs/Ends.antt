@@ -5,26 +5,28 @@ use mathlib.Core.Bool.{Bool, true, false, not}
 use mathlib.Core.List.{List, [], _∷_, _++_, append-assoc, append-nil}
 use Prim.Native.Nat.{ℕ, zero, suc, _+_, _-_, _*_, _/_, _%_, _<_, _≤_}
 use native.Mathlib.Omega.{arith}
-use lib.ListN.{length, getD, take, drop, replicate, length-append, length-set, length-drop, length-replicate, drop-of-length-le}
+use lib.ListN.{length, getD, take, drop, replicate, length-append, length-drop, length-replicate, drop-of-length-le}
 use lib.Seq.{sets, sets-eq, take-all, drop-at, length-take-le, drop-append-add, drop-drop, drop-cons, take-nil}
 use lib.Dec.{ltb}
 use borrow.Author.Tests.{ltb-true, ltb-false}
 use Rattle.words.specs.Basics.{plus}
 use Rattle.words.specs.Tests.{decided}
-use Rattle.frames.specs.Widths.{frameWords, dequeWords}
+use Rattle.frames.specs.declared.Frame.{Frame}
+use Rattle.frames.specs.Widths.{recordWords}
 use Rattle.soundness.specs.Numbers.{numberCount}
 use Rattle.image.specs.declared.ImageCheck.the-variants.{WrongLength, WrongCheck, Good}
-use Rattle.image.specs.Widths.{nodeWords, stateWords, wordsFor, version}
-use Rattle.image.specs.Image.{nodeCount, versioned, imageWords, wordBytes, bytesOf, wordsOf, wordAt, check, blocksFor, filled, imageOf, imageBlocks, imageBytes, firstIn, nodesIn, wordsCalled, blocksCalled, wrongLength, dataOf, checksHold, allZero, restOf, wrongCheck, imageCheck, wordsIn, unversioned, numberWordsIn, poolIn, Lengths, stored, IsRead}
-use Rattle.image.specs.Inner.{placeOf, sumBefore, withCheck, putWords, readWords}
+use Rattle.image.specs.Widths.{nodeWords, dequesWords, stateWords, wordsFor, version, versionStep}
+use Rattle.image.specs.Image.{nodeCount, placeCount, versioned, dequesFor, tableWords, imageWords, wordBytes, bytesOf, wordsOf, wordAt, check, blocksFor, filled, imageOf, imageBlocks, imageBytes, firstIn, nodesIn, placesIn, wordsCalled, blocksCalled, wrongLength, dataOf, checksHold, allZero, restOf, wrongCheck, imageCheck, wordsIn, unversioned, numberWordsIn, poolIn, Lengths, stored}
+use Rattle.image.specs.Inner.{placeOf, sumBefore, withCheck, putWords, lastWords, readWords}
 use Rattle.image.specs.Theory.Version.{Readable}
 use Rattle.image.specs.Theory.Bytes.{bytes-zeros, length-words, at-words}
 use Rattle.image.specs.Theory.Blocks.{word-drop, word-take, word-front, length-data}
+use Rattle.image.specs.Theory.Parts.{length-table}
 use Rattle.image.specs.Theory.Check.{check-word, check-zeros}
 use Rattle.image.specs.Theory.Refused.{right-length, when-17}
 use Rattle.image.specs.Theory.Round.{length-filled, blocks-enough, blocks-needed, good-length, part-length, length-pool}
 use Rattle.image.specs.Theory.Written.{length-state, length-image-words, length-image, image-blocks}
-use Rattle.image.proofs.Stores.{put-append, put-run, put-last, put-blocks, sum-after, sum-block, sum-word, sum-none}
+use Rattle.image.proofs.Stores.{put-append, put-next, put-run, put-last, put-blocks, sum-after, sum-block, sum-word, sum-none}
 
 -- ---- saving
 
@@ -55,16 +57,6 @@ module _ (xs t u : List ℕ) (i n at before s : ℕ) (l : length xs ≡ n) (fits
       ∙ ap (λ (q : List ℕ). sets q (512 * (i / 127) + 508) (wordBytes (check (take 508 (drop (512 * (i / 127)) (sets t (placeOf i) (bytesOf xs))))))) laid
       ∙ sym (put-last xs t i (omega arith))
 
--- words stored after words
-put-next : (t u v xs ys : List ℕ) (k : ℕ) → u ≡ putWords t 0 xs → length xs ≡ k → v ≡ putWords u k ys → v ≡ putWords t 0 (xs ++ ys)
-put-next t u v xs ys k e l d =
-    let z : k ≡ 0 + length xs = omega arith in
-    d ∙ ap₂ (λ (q : List ℕ) (m : ℕ). putWords q m ys) e z ∙ sym (put-append xs ys t 0)
-
--- a whole part
-whole : (t u xs : List ℕ) (i k : ℕ) → length xs ≡ k → u ≡ putWords t i (take k xs) → u ≡ putWords t i xs
-whole t u xs i k l e = e ∙ ap (putWords t i) (take-all k xs (omega arith))
-
 -- the first number with the version
 pub first-stored : (ns t u : List ℕ) (w : ℕ) → 512 ≤ length t → w ≡ plus (getD ns 0 0) version → u ≡ sets t 0 (wordBytes w) → (u ≡ putWords t 0 (w ∷ [])) × (w ≡ sumBefore u 1)
 unfolding bytesOf
@@ -75,11 +67,11 @@ first-stored ns t u w h ew eu =
     run-open (w ∷ []) t u 0 1 0 0 w refl (omega arith) refl (sym z) eu s (omega arith)
 
 -- then the others
-pub numbers-stored : (ns t u v : List ℕ) (w : ℕ) → length ns ≡ numberCount → w ≡ plus (getD ns 0 0) version → u ≡ putWords t 0 (w ∷ []) → v ≡ putWords u 1 (take 8 (drop 1 ns))
+pub numbers-stored : (ns t u v : List ℕ) (w : ℕ) → length ns ≡ numberCount → w ≡ plus (getD ns 0 0) version → u ≡ putWords t 0 (w ∷ []) → v ≡ putWords u 1 (take 9 (drop 1 ns))
     → v ≡ putWords t 0 (versioned ns)
 numbers-stored [] t u v w l e eu ev = absurd (omega arith)
 numbers-stored (x ∷ xs) t u v w l e eu ev =
-    ev ∙ ap₂ (λ (p q : List ℕ). putWords p 1 q) eu (take-all 8 xs (omega arith)) ∙ sym (put-append (w ∷ []) xs t 0) ∙ ap (λ (y : ℕ). putWords t 0 (y ∷ xs)) e
+    ev ∙ ap₂ (λ (p q : List ℕ). putWords p 1 q) eu (take-all 9 xs (omega arith)) ∙ sym (put-append (w ∷ []) xs t 0) ∙ ap (λ (y : ℕ). putWords t 0 (y ∷ xs)) e
 
 -- zeros up to the end of the last block
 module _ (t : List ℕ) (w b s : ℕ) (eb : b ≡ blocksFor w) (fits : 512 * b ≤ length t) (es : s ≡ sumBefore t w) where
@@ -99,29 +91,36 @@ module _ (t : List ℕ) (w b s : ℕ) (eb : b ≡ blocksFor w) (fits : 512 * b �
       let here : 512 * b - 4 ≡ 512 * (w / 127) + 508 = omega (arith, blocks-enough w, blocks-needed w) in
       run-full zs t u w m p s s l (omega arith) ep es (eu ∙ ap (sets t p) (sym (bytes-zeros m))) s′ v (512 * b - 4) full here ev
 
-module _ (ns ds fs ws : List ℕ) (has : Lengths ns ds fs) (room : nodeWords * nodeCount ns ≤ length ws) where
-  abbrev nodes : List ℕ
-  nodes = take (nodeWords * nodeCount ns) ws
+-- the nodes, then those zeros
+pub after-stored : (t u v ws : List ℕ) (k n s b : ℕ) → s ≡ stateWords k → nodeWords * n ≤ length ws → b ≡ blocksFor (s + nodeWords * n) → u ≡ putWords t s (take (nodeWords * n) ws)
+    → v ≡ putWords u (s + nodeWords * n) (replicate (127 * b - (s + nodeWords * n)) 0) → v ≡ putWords t (stateWords k) (lastWords k n ws)
+after-stored t u v ws k n s b es room eb eu ev =
+    let xs : List ℕ = take (nodeWords * n) ws in
+    let e : s + nodeWords * n ≡ wordsFor k n = ap (λ (m : ℕ). m + nodeWords * n) es in
+    put-next t u v xs (replicate (127 * b - (s + nodeWords * n)) 0) s (s + nodeWords * n) eu (omega (arith, length-take-le (nodeWords * n) ws room)) ev
+    ∙ ap (λ (m : ℕ). putWords t m (xs ++ replicate (127 * b - (s + nodeWords * n)) 0)) es
+    ∙ ap₂ (λ (x y : ℕ). putWords t (stateWords k) (xs ++ replicate (127 * x - y) 0)) (eb ∙ ap blocksFor e) e
 
-  -- the parts, then the zeros
-  pub image-stored : (t t₁ t₂ t₃ t₄ t₅ : List ℕ) (b : ℕ) → b ≡ imageBlocks (nodeCount ns) → imageBytes (nodeCount ns) ≤ length t → t₁ ≡ putWords t 0 (versioned ns) → t₂ ≡ putWords t₁ numberCount (take dequeWords ds)
-      → t₃ ≡ putWords t₂ (numberCount + dequeWords) (take frameWords fs) → t₄ ≡ putWords t₃ stateWords nodes → t₅ ≡ putWords t₄ (wordsFor (nodeCount ns)) (replicate (127 * b - wordsFor (nodeCount ns)) 0)
-      → t₅ ≡ stored (imageOf ns ds fs ws) t
-  image-stored t t₁ t₂ t₃ t₄ t₅ b eb fits e₁ e₂ e₃ e₄ e₅ =
-      let w : ℕ = wordsFor (nodeCount ns) in
-      let n : ℕ = imageBlocks (nodeCount ns) in
-      let vs : List ℕ = versioned ns in
-      let W : List ℕ = filled n (imageWords ns ds fs ws) in
-      let l₁ : length vs ≡ numberCount = length-set ns 0 _ ∙ has .numbers in
-      let l₂ : length (vs ++ ds) ≡ numberCount + dequeWords = omega (arith, length-append vs ds, has .deques) in
-      let l₄ : length (imageWords ns ds fs ws) ≡ w = length-image-words ns ds fs ws has room in
-      let d₂ : t₂ ≡ putWords t 0 (vs ++ ds) = put-next t t₁ t₂ vs ds numberCount e₁ l₁ (whole t₁ t₂ ds numberCount dequeWords (has .deques) e₂) in
-      let d₃ : t₃ ≡ putWords t 0 (vs ++ ds ++ fs) = put-next t t₂ t₃ (vs ++ ds) fs (numberCount + dequeWords) d₂ l₂ (whole t₂ t₃ fs (numberCount + dequeWords) frameWords (has .frames) e₃) in
-      let d₄ : t₄ ≡ putWords t 0 (imageWords ns ds fs ws) = put-next t t₃ t₄ (vs ++ ds ++ fs) nodes stateWords d₃ (length-state ns ds fs ws has room) e₄ in
-      let d₅ : t₅ ≡ putWords t 0 W =
-      put-next t t₄ t₅ (imageWords ns ds fs ws) (replicate (127 * b - w) 0) w d₄ l₄ e₅ ∙ ap₂ (λ (x y : ℕ). putWords t 0 (imageWords ns ds fs ws ++ replicate (127 * x - y) 0)) eb (sym l₄) in
-      let l : length W ≡ 127 * n = length-filled n (imageWords ns ds fs ws) (omega (arith, l₄, blocks-enough w)) in
-      d₅ ∙ put-blocks n W t l fits ∙ ap₂ (λ (x : List ℕ) (k : ℕ). x ++ drop k t) (sym (image-blocks ns ds fs ws has room)) (sym (length-image ns ds fs ws has room))
+-- what stands before the table, the table, what stands after it: the image
+pub image-stored : (ns ds : List ℕ) (fs : List Frame) (ws t t₁ t₂ t₃ : List ℕ) → Lengths ns ds fs → nodeWords * nodeCount ns ≤ length ws → imageBytes (placeCount ns) (nodeCount ns) ≤ length t
+    → t₁ ≡ putWords t 0 (versioned ns ++ dequesFor (placeCount ns) ds) → t₂ ≡ putWords t₁ (numberCount + dequesWords (placeCount ns)) (tableWords fs)
+    → t₃ ≡ putWords t₂ (stateWords (placeCount ns)) (lastWords (placeCount ns) (nodeCount ns) ws) → t₃ ≡ stored (imageOf ns ds fs ws) t
+image-stored ns ds fs ws t t₁ t₂ t₃ has room fits e₁ e₂ e₃ =
+    let k : ℕ = placeCount ns in
+    let n : ℕ = imageBlocks k (nodeCount ns) in
+    let front : List ℕ = versioned ns ++ dequesFor k ds in
+    let nodes : List ℕ = take (nodeWords * nodeCount ns) ws in
+    let rest : ℕ → List ℕ = λ w. replicate (127 * n - w) 0 in
+    let w : ℕ = wordsFor k (nodeCount ns) in
+    let ls : length (front ++ tableWords fs) ≡ stateWords k = length-state ns ds fs ws has room in
+    let lt : length (tableWords fs) ≡ recordWords * k = length-table fs ∙ ap (λ (m : ℕ). recordWords * m) (has .frames) in
+    let lw : length (imageWords ns ds fs ws) ≡ w = length-image-words ns ds fs ws has room in
+    let d₂ : t₂ ≡ putWords t 0 (front ++ tableWords fs) = put-next t t₁ t₂ front (tableWords fs) 0 (numberCount + dequesWords k) e₁ (omega (arith, ls, lt, length-append front (tableWords fs))) e₂ in
+    let d₃ : t₃ ≡ putWords t 0 (filled n (imageWords ns ds fs ws)) =
+    put-next t t₂ t₃ (front ++ tableWords fs) (nodes ++ rest w) 0 (stateWords k) d₂ (omega (arith, ls)) e₃
+    ∙ ap (putWords t 0) (sym (append-assoc (front ++ tableWords fs) nodes (rest w)) ∙ ap (λ (m : ℕ). imageWords ns ds fs ws ++ rest m) (sym lw)) in
+    let l : length (filled n (imageWords ns ds fs ws)) ≡ 127 * n = length-filled n (imageWords ns ds fs ws) (omega (arith, lw, blocks-enough w)) in
+    d₃ ∙ put-blocks n (filled n (imageWords ns ds fs ws)) t l fits ∙ ap₂ (λ (x : List ℕ) (m : ℕ). x ++ drop m t) (sym (image-blocks ns ds fs ws has room)) (sym (length-image ns ds fs ws has room))
 
 -- ---- 17 and 18
 
@@ -130,6 +129,9 @@ number-at image i l b = sym (at-words 127 (take 508 image) (length-take-le 508 i
 
 pub first-at : (image : List ℕ) → 512 ≤ length image → wordAt image 0 ≡ firstIn image
 first-at image l = number-at image 0 l (omega arith)
+
+pub places-at : (image : List ℕ) → 512 ≤ length image → wordAt image 36 ≡ placesIn image
+places-at image l = number-at image 9 l (omega arith)
 
 pub nodes-at : (image : List ℕ) → 512 ≤ length image → wordAt image 8 ≡ nodesIn image
 nodes-at image l = number-at image 2 l (omega arith)
@@ -181,10 +183,10 @@ module _ (image : List ℕ) where
   pub too-short : length image < 512 → WrongLength ≡ imageCheck image
   too-short h = sym (when-17 image .1 (inl h))
 
-  pub form-before : (w : ℕ) → w ≡ firstIn image → w < 512 → WrongLength ≡ imageCheck image
+  pub form-before : (w : ℕ) → w ≡ firstIn image → w < version → WrongLength ≡ imageCheck image
   form-before w e h = sym (when-17 image .1 (inr (inl (omega arith))))
 
-  pub form-after : (w : ℕ) → w ≡ firstIn image → 768 ≤ w → WrongLength ≡ imageCheck image
+  pub form-after : (w : ℕ) → w ≡ firstIn image → version + versionStep ≤ w → WrongLength ≡ imageCheck image
   form-after w e h = sym (when-17 image .1 (inr (inr (inl (omega arith)))))
 
   pub other-length : (b : ℕ) → b ≡ blocksCalled image → length image ≢ 512 * b → WrongLength ≡ imageCheck image
@@ -240,7 +242,7 @@ front-stored : (t u xs : List ℕ) → length xs ≤ length t → u ≡ sets t 0
 front-stored t u xs h e = let z : 0 + length xs ≡ length xs = omega arith in e ∙ sets-eq xs t 0 (omega arith) ∙ ap (λ (k : ℕ). xs ++ drop k t) z
 
 -- a part of just this length
-all-stored : (t u xs : List ℕ) → length xs ≡ length t → u ≡ sets t 0 xs → u ≡ xs
+pub all-stored : (t u xs : List ℕ) → length xs ≡ length t → u ≡ sets t 0 xs → u ≡ xs
 all-stored t u xs l e =
     let z : drop (length xs) t ≡ [] = drop-of-length-le t {i = length xs} (omega arith) in
     front-stored t u xs (omega arith) e ∙ ap (λ (q : List ℕ). xs ++ q) z ∙ append-nil xs
@@ -250,7 +252,7 @@ module _ (image : List ℕ) (good : imageCheck image ≡ Good) where
   pub fits : (i k : ℕ) → i + k ≤ wordsCalled image → 512 * blocksFor (i + k) ≤ length image
   fits i k h = omega (arith, good-length image good)
 
-  these : (k i : ℕ) → i + k ≤ wordsCalled image → readWords k image i ≡ take k (drop i (wordsIn image))
+  pub these : (k i : ℕ) → i + k ≤ wordsCalled image → readWords k image i ≡ take k (drop i (wordsIn image))
   these k i b = words-data k (blocksCalled image) image i (omega (arith, blocks-enough (wordsCalled image))) (omega (arith, good-length image good))
 
   -- a part that has just this length
@@ -263,15 +265,8 @@ module _ (image : List ℕ) (good : imageCheck image ≡ Good) where
   pub numbers-read : (ns u v : List ℕ) → length ns ≡ numberCount → u ≡ sets ns 0 (readWords numberCount image 0) → v ≡ unversioned u → v ≡ numberWordsIn image
   numbers-read ns u v l e d = d ∙ ap unversioned (all-of ns u numberCount 0 (omega arith) l e)
 
-  pub parts-read : (ds fs ws ns' ds' fs' ws' : List ℕ) (k : ℕ) → k ≡ nodesIn image → length ds ≡ dequeWords → length fs ≡ frameWords → nodeWords * nodesIn image ≤ length ws
-      → ns' ≡ numberWordsIn image → ds' ≡ sets ds 0 (readWords dequeWords image numberCount) → fs' ≡ sets fs 0 (readWords frameWords image (numberCount + dequeWords))
-      → ws' ≡ sets ws 0 (readWords (nodeWords * k) image stateWords) → IsRead image ns' ds' fs' ws ws'
-  parts-read ds fs ws ns' ds' fs' ws' k e ld lf room en ed ef ew =
-      let lp : length (poolIn image) ≤ length ws = omega (arith, length-pool image good) in
-      record {
-        numbers = en;
-        deques = all-of ds ds' dequeWords numberCount (omega arith) ld ed;
-        frames = all-of fs fs' frameWords (numberCount + dequeWords) (omega arith) lf ef;
-        pool = front-stored ws ws' (poolIn image) lp
-            (ew ∙ ap (λ (a : ℕ). sets ws 0 (readWords (nodeWords * a) image stateWords)) e ∙ ap (sets ws 0) (these (nodeWords * nodesIn image) stateWords (omega arith)));
-      }
+  -- the nodes, in the front of a pool that holds them
+  pub nodes-read : (ws u : List ℕ) (i n : ℕ) → i ≡ stateWords (placesIn image) → n ≡ nodesIn image → nodeWords * nodesIn image ≤ length ws → u ≡ sets ws 0 (readWords (nodeWords * n) image i) → u ≡ stored (poolIn image) ws
+  nodes-read ws u i n ei en room e =
+      front-stored ws u (poolIn image) (omega (arith, length-pool image good))
+      (e ∙ ap₂ (λ (a b : ℕ). sets ws 0 (readWords (nodeWords * a) image b)) en ei ∙ ap (sets ws 0) (these (nodeWords * nodesIn image) (stateWords (placesIn image)) (omega arith)))

@@ -23,6 +23,10 @@ put-append (x ∷ xs) ys t i =
     let u : List ℕ = afterWord (sets t (placeOf i) (wordBytes x)) i in
     put-append xs ys u (suc i) ∙ ap (λ (k : ℕ). putWords (putWords u (suc i) xs) k ys) e
 
+-- words stored after words
+pub put-next : (t u v xs ys : List ℕ) (i k : ℕ) → u ≡ putWords t i xs → k ≡ i + length xs → v ≡ putWords u k ys → v ≡ putWords t i (xs ++ ys)
+put-next t u v xs ys i k e l d = d ∙ ap₂ (λ (q : List ℕ) (m : ℕ). putWords q m ys) e l ∙ sym (put-append xs ys t i)
+
 within : (t : List ℕ) (i : ℕ) → i % 127 < 126 → afterWord t i ≡ t
 unfolding afterWord
 within t i h = rw (ne-eqb (i % 127) 126 (λ e. omega arith))

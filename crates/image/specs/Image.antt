@@ -1,19 +1,22 @@
--- Document 02's R-1, as R-3 and R-5 change it: a state and a pool as blocks of bytes, what an image is refused for, and what an accepted one says.
+-- Document 02's R-1, as R-3, R-5 and R-6 change it: a state and a pool as blocks of bytes, what an image is refused for, and what an accepted one says.
 -- Definitions only.
--- A state is lent in three parts: the words ns of its numbers, ds of its deques and fs of its frame records. ws are the pool's words.
+-- A state is lent in three parts: the words ns of its numbers and ds of its deques, and fs, its frame table. ws are the pool's words.
 use mathlib.Core.Path.{_≡_}
 use mathlib.Core.Bool.{Bool, true, cond, not, _||_, _&&_}
 use mathlib.Core.List.{List, [], _∷_, _++_}
-use Prim.Native.Nat.{ℕ, zero, suc, _+_, _-_, _*_, _/_, _%_, _^_}
+use Prim.Native.Nat.{ℕ, zero, suc, _+_, _-_, _*_, _/_, _%_, _^_, _<_, _≤_}
 use lib.ListN.{length, getD, take, drop, set, replicate}
 use lib.Dec.{eqb, ltb}
 use Rattle.words.specs.Basics.{plus, sum}
 use Rattle.model.specs.Record.{little}
-use Rattle.frames.specs.Widths.{frameWords, dequeWords}
+use Rattle.frames.specs.declared.Frame.{Frame}
+use Rattle.frames.specs.Widths.{maxWorkers, maxPlaces, recordWords, dequePlaces, dequeStride, dequeWords}
+use Rattle.frames.specs.Frames.{wordsOf as wordsOfRecord, recordIn}
+use Rattle.frames.specs.Deques.{place}
 use Rattle.soundness.specs.Numbers.{numberCount, numbersIn}
 use Rattle.image.specs.declared.ImageCheck.{ImageCheck}
 use Rattle.image.specs.declared.ImageCheck.the-variants.{WrongLength, WrongCheck, Good}
-use Rattle.image.specs.Widths.{nodeWords, blockBytes, dataBytes, dataWords, stateWords, wordsFor, version, versionStep}
+use Rattle.image.specs.Widths.{nodeWords, blockBytes, dataBytes, dataWords, dequesWords, stateWords, wordsFor, version, versionStep}
 
 -- ---- the words of an image
 
@@ -21,14 +24,33 @@ use Rattle.image.specs.Widths.{nodeWords, blockBytes, dataBytes, dataWor
 abbrev pub nodeCount : List ℕ → ℕ
 nodeCount ns = numbersIn ns .nodes
 
+-- R-6: "Its length": the places of the frame table that they record
+abbrev pub placeCount : List ℕ → ℕ
+placeCount ns = numbersIn ns .places
+
 -- R-3: "The first word of an image has 256 added .. Each later change of the image adds 256 again"
 abbrev pub versioned : List ℕ → List ℕ
 versioned ns = set ns 0 (plus (getD ns 0 0) version)
 
+-- n workers' deques, each with its length and the first k of its lent places
+unfoldable pub dequesOf : ℕ → ℕ → List ℕ → List ℕ
+dequesOf zero k ds = []
+dequesOf (suc n) k ds = take (1 + k) ds ++ dequesOf n k (drop dequeStride ds)
+
+-- "for each of 8 workers its deque length and .. places for its frames from the top", by R-6 k of them
+abbrev pub dequesFor : ℕ → List ℕ → List ℕ
+dequesFor k ds = dequesOf maxWorkers k ds
+
+-- "frame records of ..": the words of one after those of the other
+unfoldable pub tableWords : List Frame → List ℕ
+tableWords [] = []
+tableWords (f ∷ fs) = wordsOfRecord f ++ tableWords fs
+
 -- "workers, splitters, nodes, first free node, first free frame place", by R-5 "the four totals, in that order, after the first free frame
--- place"; "for each of 8 workers its deque length and 64 places for its frames from the top; 64 frame records ..; then the pool's nodes"
-abbrev pub imageWords : List ℕ → List ℕ → List ℕ → List ℕ → List ℕ
-imageWords ns ds fs ws = versioned ns ++ ds ++ fs ++ take (nodeWords * nodeCount ns) ws
+-- place", by R-6 "the length as a word before the deques"; "for each of 8 workers its deque length and .. places ..; .. frame records ..; then the
+-- pool's nodes", and "that many records and deque places"
+abbrev pub imageWords : List ℕ → List ℕ → List Frame → List ℕ → List ℕ
+imageWords ns ds fs ws = versioned ns ++ dequesFor (placeCount ns) ds ++ tableWords fs ++ take (nodeWords * nodeCount ns) ws
 
 -- ---- bytes
 
@@ -81,15 +103,15 @@ unfoldable pub asBlocks : List ℕ → List ℕ
 asBlocks words = let n = blocksFor (length words) in blocksOf n (bytesOf (filled n words))
 
 -- "Write a whole run as blocks"
-abbrev pub imageOf : List ℕ → List ℕ → List ℕ → List ℕ → List ℕ
+abbrev pub imageOf : List ℕ → List ℕ → List Frame → List ℕ → List ℕ
 imageOf ns ds fs ws = asBlocks (imageWords ns ds fs ws)
 
--- the blocks and the bytes of an image of so many nodes
-abbrev pub imageBlocks : ℕ → ℕ
-imageBlocks nodes = blocksFor (wordsFor nodes)
+-- the blocks and the bytes of an image of k places and so many nodes
+abbrev pub imageBlocks : ℕ → ℕ → ℕ
+imageBlocks k nodes = blocksFor (wordsFor k nodes)
 
-abbrev pub imageBytes : ℕ → ℕ
-imageBytes nodes = blockBytes * imageBlocks nodes
+abbrev pub imageBytes : ℕ → ℕ → ℕ
+imageBytes k nodes = blockBytes * imageBlocks k nodes
 
 -- ---- what an image is refused for
 
@@ -97,9 +119,12 @@ imageBytes nodes = blockBytes * imageBlocks nodes
 abbrev pub firstIn : List ℕ → ℕ
 firstIn image = getD (wordsOf (take dataBytes image)) 0 0
 
--- the nodes that its first block records
+-- the nodes and the places that its first block records
 abbrev pub nodesIn : List ℕ → ℕ
 nodesIn image = nodeCount (wordsOf (take dataBytes image))
+
+abbrev pub placesIn : List ℕ → ℕ
+placesIn image = placeCount (wordsOf (take dataBytes image))
 
 -- R-3: "Each later change of the image adds 256 again and reads only its own form. A first word of no readable form gives 17."
 abbrev pub noForm : List ℕ → Bool
@@ -107,7 +132,7 @@ noForm image = ltb (firstIn image) version || not (ltb (firstIn image) (version 
 
 -- the words and the blocks that "its first block calls for"
 abbrev pub wordsCalled : List ℕ → ℕ
-wordsCalled image = wordsFor (nodesIn image)
+wordsCalled image = wordsFor (placesIn image) (nodesIn image)
 
 abbrev pub blocksCalled : List ℕ → ℕ
 blocksCalled image = blocksFor (wordsCalled image)
@@ -152,33 +177,48 @@ wordsIn image = wordsOf (dataOf (blocksCalled image) image)
 abbrev pub unversioned : List ℕ → List ℕ
 unversioned ns = set ns 0 (getD ns 0 0 % versionStep)
 
--- the words of the numbers, of the deques, of the frame records and of the nodes
+-- n workers' deques as they are lent, from words with k places for each: past these its places are zero
+unfoldable pub lentDeques : ℕ → ℕ → List ℕ → List ℕ
+lentDeques zero k ks = []
+lentDeques (suc n) k ks = take (1 + k) ks ++ replicate (dequePlaces - k) 0 ++ lentDeques n k (drop (1 + k) ks)
+
+-- n frame records
+unfoldable pub recordsIn : ℕ → List ℕ → List Frame
+recordsIn zero ks = []
+recordsIn (suc n) ks = recordIn (take recordWords ks) ∷ recordsIn n (drop recordWords ks)
+
+-- the words of the numbers, the deques, the frame table and the words of the nodes
 abbrev pub numberWordsIn : List ℕ → List ℕ
 numberWordsIn image = unversioned (take numberCount (wordsIn image))
 
 abbrev pub dequesIn : List ℕ → List ℕ
-dequesIn image = take dequeWords (drop numberCount (wordsIn image))
+dequesIn image = lentDeques maxWorkers (placesIn image) (drop numberCount (wordsIn image))
 
-abbrev pub framesIn : List ℕ → List ℕ
-framesIn image = take frameWords (drop (numberCount + dequeWords) (wordsIn image))
+abbrev pub framesIn : List ℕ → List Frame
+framesIn image = recordsIn (placesIn image) (drop (numberCount + dequesWords (placesIn image)) (wordsIn image))
 
 abbrev pub poolIn : List ℕ → List ℕ
-poolIn image = take (nodeWords * nodesIn image) (drop stateWords (wordsIn image))
+poolIn image = take (nodeWords * nodesIn image) (drop (stateWords (placesIn image)) (wordsIn image))
 
 -- ---- lent slices
 
--- each part of a state has its length
-pub record Lengths (ns ds fs : List ℕ) : Type 0 where
+-- each part of a state has its length; the table has as many places as the numbers record, and not more than there can be
+pub record Lengths (ns ds : List ℕ) (fs : List Frame) : Type 0 where
   pub numbers : length ns ≡ numberCount
   pub deques : length ds ≡ dequeWords
-  pub frames : length fs ≡ frameWords
+  pub frames : length fs ≡ placeCount ns
+  pub most : length fs ≤ maxPlaces
+
+-- the places of each deque past its first k are zero: so it is in a sound state of k frame places, since "deque places past a deque's frames are zero"
+abbrev pub ZeroPast : ℕ → List ℕ → Type 0
+ZeroPast k ds = (w j : ℕ) → w < maxWorkers → k ≤ j → j < dequePlaces → place ds w j ≡ 0
 
 -- stored in the front of a slice: "Target bytes past the image never change."
 abbrev pub stored : List ℕ → List ℕ → List ℕ
 stored new old = new ++ drop (length new) old
 
 -- ns, ds, fs and ws' are the parts and the pool after a reading into the pool ws
-pub record IsRead (image ns ds fs ws ws' : List ℕ) : Type 0 where
+pub record IsRead (image ns ds : List ℕ) (fs : List Frame) (ws ws' : List ℕ) : Type 0 where
   pub numbers : ns ≡ numberWordsIn image
   pub deques : ds ≡ dequesIn image
   pub frames : fs ≡ framesIn image

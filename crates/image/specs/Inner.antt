@@ -1,12 +1,12 @@
 -- What the contracts of inner functions are said in. No promise of an exported function cites it. Definitions only.
 use mathlib.Core.Bool.{cond}
-use mathlib.Core.List.{List, [], _∷_}
+use mathlib.Core.List.{List, [], _∷_, _++_}
 use Prim.Native.Nat.{ℕ, zero, suc, _+_, _-_, _*_, _/_, _%_}
-use lib.ListN.{take, drop}
+use lib.ListN.{take, drop, replicate}
 use lib.Seq.{sets}
 use lib.Dec.{eqb}
-use Rattle.image.specs.Widths.{blockBytes, dataBytes, dataWords}
-use Rattle.image.specs.Image.{wordBytes, wordAt, check}
+use Rattle.image.specs.Widths.{nodeWords, blockBytes, dataBytes, dataWords, wordsFor}
+use Rattle.image.specs.Image.{wordBytes, wordAt, check, imageBlocks}
 
 -- where the word i of the data stands: the checks of the blocks before lie between
 abbrev pub placeOf : ℕ → ℕ
@@ -28,6 +28,10 @@ afterWord t i = cond (eqb (i % dataWords) (dataWords - 1)) (withCheck t (blockBy
 unfoldable pub putWords : List ℕ → ℕ → List ℕ → List ℕ
 putWords t i [] = t
 putWords t i (w ∷ ws) = putWords (afterWord (sets t (placeOf i) (wordBytes w)) i) (suc i) ws
+
+-- the words of an image of k places after its table: the nodes, and zeros up to the end of the last block
+abbrev pub lastWords : ℕ → ℕ → List ℕ → List ℕ
+lastWords k nodes ws = take (nodeWords * nodes) ws ++ replicate (dataWords * imageBlocks k nodes - wordsFor k nodes) 0
 
 -- n words side by side from a place on
 unfoldable pub wordsAt : ℕ → List ℕ → ℕ → List ℕ

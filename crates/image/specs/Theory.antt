@@ -6,6 +6,8 @@ pub mod Bytes
 pub mod Blocks
 -- the check of a block as the sum of its words
 pub mod Check
+-- the deques and the frame table as words and back
+pub mod Parts
 -- when an image is refused by 17 and 18
 pub mod Refused
 -- reading what was written, and writing what was read

@@ -1,7 +1,7 @@
 -- How many words and bytes an image is made of, beside the widths of deques and frame records (crate frames) and of the numbers (crate
 -- soundness). Definitions only.
 use Prim.Native.Nat.{ℕ, _+_, _*_}
-use Rattle.frames.specs.Widths.{frameWords, dequeWords}
+use Rattle.frames.specs.Widths.{maxWorkers, recordWords}
 use Rattle.soundness.specs.Numbers.{numberCount}
 
 -- document 01: "A node is four words: holders, left, right, value."
@@ -19,18 +19,22 @@ dataBytes = 508
 abbrev pub dataWords : ℕ
 dataWords = 127
 
--- the words of a state
-abbrev pub stateWords : ℕ
-stateWords = numberCount + dequeWords + frameWords
+-- the words of the deques in an image: for each worker its length and k places
+abbrev pub dequesWords : ℕ → ℕ
+dequesWords k = maxWorkers * (1 + k)
 
--- the words of an image of so many nodes
-abbrev pub wordsFor : ℕ → ℕ
-wordsFor nodes = stateWords + nodeWords * nodes
+-- R-6: "images hold that many records and deque places, with the length as a word before the deques": the words of a state whose table has k places
+abbrev pub stateWords : ℕ → ℕ
+stateWords k = numberCount + dequesWords k + recordWords * k
+
+-- the words of an image of k places and so many nodes
+abbrev pub wordsFor : ℕ → ℕ → ℕ
+wordsFor k nodes = stateWords k + nodeWords * nodes
 
 -- R-3: "The first word of an image has 256 added"
 abbrev pub versionStep : ℕ
 versionStep = 256
 
--- "Each later change of the image adds 256 again": R-5's is the second change
+-- "Each later change of the image adds 256 again": R-6's is the third change
 abbrev pub version : ℕ
-version = 2 * versionStep
+version = 3 * versionStep

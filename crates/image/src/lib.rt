@@ -1,20 +1,23 @@
-// A state and a pool as blocks of bytes, and back: document 02, R-1 and R-3 to R-5. The state's parts are lent and have their exact lengths, so no
+// A state and a pool as blocks of bytes, and back: document 02, R-1 and R-3 to R-6. The state's parts are lent and have their exact lengths, so no
 // function tests an index.
 mod accept;
 mod bytes;
+mod deques;
 mod read;
+mod records;
 mod sums;
 mod widths;
 mod write;
 
 pub use accept::check_image;
 pub use read::nodes_in;
+pub use read::places_in;
 pub use read::read_parts;
 pub use widths::image_bytes;
 pub use write::write_image;
 
 // The words of a state's numbers: specs/Numbers.antt of crate soundness.
-pub const NUMBER_COUNT: usize = 9;
+pub const NUMBER_COUNT: usize = 10;
 
 // The widths of specs/Widths.antt.
 pub const NODE_WORDS: usize = 4;
@@ -25,11 +28,9 @@ pub const DATA_BYTES: usize = 508;
 
 pub const DATA_WORDS: usize = 127;
 
-pub const STATE_WORDS: usize = NUMBER_COUNT + frames::DEQUE_WORDS + frames::FRAME_WORDS;
-
 pub const VERSION_STEP: u32 = 256;
 
-pub const VERSION: u32 = 2 * VERSION_STEP;
+pub const VERSION: u32 = 3 * VERSION_STEP;
 
 // What an image is found to be.
 pub enum ImageCheck {

@@ -3,26 +3,32 @@ ghost use mathlib.Core.Path.{_≡_};
 ghost use Prim.Native.Nat.{_+_, _*_, _^_, _<_, _≤_};
 ghost use lib.ListN.{length};
 ghost use lib.Seq.{sets};
+ghost use Rattle.frames.specs.Widths.{maxPlaces, dequeWords};
 ghost use Rattle.soundness.specs.Numbers.{numberCount};
 ghost use Rattle.image.specs.declared.ImageCheck.the-variants.{Good};
 ghost use Rattle.image.specs.Widths.{nodeWords, blockBytes, dataWords};
-ghost use Rattle.image.specs.Image.{blocksFor, firstIn, nodesIn, wordsCalled, imageCheck, numberWordsIn, Lengths, IsRead};
+ghost use Rattle.image.specs.Image.{blocksFor, firstIn, nodesIn, placesIn, wordsCalled, imageCheck, numberWordsIn, dequesIn, framesIn, poolIn, Lengths, stored, IsRead};
 ghost use Rattle.image.specs.Inner.{wordsAt, readWords};
 use crate::BLOCK_BYTES;
 use crate::DATA_BYTES;
 use crate::DATA_WORDS;
 use crate::NODE_WORDS;
 use crate::NUMBER_COUNT;
-use crate::STATE_WORDS;
 use crate::VERSION_STEP;
 use crate::bytes::read_four;
 use crate::bytes::read_fours;
 use crate::bytes::read_run;
 use crate::bytes::word_at;
+use crate::deques::read_deques;
+use crate::records::read_record;
+use crate::widths::deques_words;
 use crate::widths::place_of;
 use crate::widths::run_length;
-use frames::DEQUE_WORDS;
-use frames::FRAME_WORDS;
+use crate::widths::state_words;
+use crate::widths::words_for;
+use frames::Frame;
+use frames::RECORD_WORDS;
+use frames::put_frame;
 
 // The first word, which tells the form.
 pub fn first_in(image: &[u8]) -> u32
@@ -40,13 +46,22 @@ pub fn nodes_in(image: &[u8]) -> u32
     word_at(image, 8)
 }
 
+// The places that it records, in its tenth word.
+pub fn places_in(image: &[u8]) -> u32
+    requires { ⌜ blockBytes ≤ length (now image) ⌝ }
+    ensures { λ r. ⌜ r ≡ placesIn (now (image .entry)) ⌝ }
+{
+    word_at(image, 36)
+}
+
 // The words that its first block calls for.
 pub fn words_called(image: &[u8]) -> usize
     requires { ⌜ blockBytes ≤ length (now image) ⌝ }
-    ensures { λ r. ⌜ (r ≡ wordsCalled (now (image .entry))) × (r < 2 ^ 35) ⌝ }
+    ensures { λ r. ⌜ (r ≡ wordsCalled (now (image .entry))) × (r < 2 ^ 37) ⌝ }
 {
+    let places = places_in(image);
     let nodes = nodes_in(image);
-    STATE_WORDS + NODE_WORDS * (nodes as usize)
+    words_for(places, nodes)
 }
 
 // Reads the 127 words of the block b into `to` from j on: 31 times four, and the last four, the first of which is there already.
@@ -72,7 +87,7 @@ fn read_blocks(image: &[u8], b: usize, to: &mut [u32], j: usize, n: usize)
 }
 
 // Reads n words of the data, from its word i on, into `to` from j on: the rest of a block, whole blocks, a block's beginning.
-fn read_words(image: &[u8], i: usize, to: &mut [u32], j: usize, n: usize)
+pub fn read_words(image: &[u8], i: usize, to: &mut [u32], j: usize, n: usize)
     requires { ⌜ (j + n ≤ length (now to)) × (blockBytes * blocksFor (i + n) ≤ length (now image)) ⌝ }
     ensures { λ _. ⌜ now (to .exit) ≡ sets (now (to .entry)) j (readWords n (now (image .entry)) i) ⌝ }
 {
@@ -93,20 +108,54 @@ fn read_numbers(image: &[u8], numbers: &mut [u32])
     numbers[0] = numbers[0] % VERSION_STEP;
 }
 
-// Reads an image that is not refused by 17 or 18 into the parts of a state and a pool that holds its nodes. Words past them never change.
+// Reads all but the frame table of an image that is not refused by 17 or 18 and records at most 256 places. Words of the pool past the nodes never change.
+pub fn read_beside(image: &[u8], numbers: &mut [u32], deques: &mut [u32], pool: &mut [u32])
+    requires { ⌜ (imageCheck (now image) ≡ Good) × (length (now numbers) ≡ numberCount) × (length (now deques) ≡ dequeWords)
+        × (placesIn (now image) ≤ maxPlaces) × (nodeWords * nodesIn (now image) ≤ length (now pool)) ⌝ }
+    ensures { λ _. ⌜ (now (numbers .exit) ≡ numberWordsIn (now (image .entry))) × (now (deques .exit) ≡ dequesIn (now (image .entry)))
+        × (now (pool .exit) ≡ stored (poolIn (now (image .entry))) (now (pool .entry))) ⌝ }
+{
+    let places = places_in(image);
+    let nodes = nodes_in(image);
+    read_numbers(image, numbers);
+    read_deques(image, deques, places);
+    read_words(
+        image,
+        state_words(places),
+        pool,
+        0,
+        NODE_WORDS * (nodes as usize),
+    );
+}
+
+// Reads the records into a table of as many places.
+pub fn read_table(image: &[u8], frames: &mut [Frame])
+    requires { ⌜ (imageCheck (now image) ≡ Good) × (length (now frames) ≡ placesIn (now image)) ⌝ }
+    ensures { λ _. ⌜ now (frames .exit) ≡ framesIn (now (image .entry)) ⌝ }
+{
+    let places = places_in(image);
+    let from = NUMBER_COUNT + deques_words(places);
+    let mut p: u32 = 0;
+    while p < places {
+        let f = read_record(image, from + RECORD_WORDS * (p as usize));
+        put_frame(frames, p, f);
+        p += 1;
+    }
+}
+
+// Reads an image that is not refused by 17 or 18 into the parts of a state, whose table has as many places as it records, and a pool that holds its
+// nodes. Words past them never change.
 pub fn read_parts(
     image: &[u8],
     numbers: &mut [u32],
     deques: &mut [u32],
-    frames: &mut [u32],
+    frames: &mut [Frame],
     pool: &mut [u32],
 )
-    requires { ⌜ (imageCheck (now image) ≡ Good) × Lengths (now numbers) (now deques) (now frames) × (nodeWords * nodesIn (now image) ≤ length (now pool)) ⌝ }
+    requires { ⌜ (imageCheck (now image) ≡ Good) × (length (now numbers) ≡ numberCount) × Lengths (numberWordsIn (now image)) (now deques) (now frames)
+        × (nodeWords * nodesIn (now image) ≤ length (now pool)) ⌝ }
     ensures { λ _. ⌜ IsRead (now (image .entry)) (now (numbers .exit)) (now (deques .exit)) (now (frames .exit)) (now (pool .entry)) (now (pool .exit)) ⌝ }
 {
-    let nodes = nodes_in(image);
-    read_numbers(image, numbers);
-    read_words(image, NUMBER_COUNT, deques, 0, DEQUE_WORDS);
-    read_words(image, NUMBER_COUNT + DEQUE_WORDS, frames, 0, FRAME_WORDS);
-    read_words(image, STATE_WORDS, pool, 0, NODE_WORDS * (nodes as usize));
+    read_beside(image, numbers, deques, pool);
+    read_table(image, frames);
 }

@@ -1,34 +1,50 @@
 // How large an image is, and where its words stand.
 ghost use mathlib.Core.Path.{_≡_};
 ghost use Prim.Native.Nat.{_<_, _*_, _^_, min, _-_, _%_};
-ghost use Rattle.image.specs.Widths.{dataWords};
-ghost use Rattle.image.specs.Image.{blocksFor, imageBytes, imageBlocks};
+ghost use Rattle.image.specs.Widths.{dataWords, dequesWords, stateWords, wordsFor};
+ghost use Rattle.image.specs.Image.{blocksFor, imageBytes};
 ghost use Rattle.image.specs.Inner.{placeOf};
 use crate::BLOCK_BYTES;
 use crate::DATA_WORDS;
 use crate::NODE_WORDS;
-use crate::STATE_WORDS;
+use crate::NUMBER_COUNT;
+use frames::MAX_WORKERS;
+use frames::RECORD_WORDS;
 
-// The blocks that so many words need. (The bound is what every image that a word of nodes calls for keeps.)
+// The words of the deques in an image of so many places.
+pub fn deques_words(places: u32) -> usize
+    ensures { λ r. ⌜ (r ≡ dequesWords places) × (r < 2 ^ 36) ⌝ }
+{
+    (MAX_WORKERS as usize) * (1 + places as usize)
+}
+
+// The words of its state.
+pub fn state_words(places: u32) -> usize
+    ensures { λ r. ⌜ (r ≡ stateWords places) × (r < 2 ^ 37) ⌝ }
+{
+    NUMBER_COUNT + deques_words(places) + RECORD_WORDS * (places as usize)
+}
+
+// The words of an image of so many places and nodes, in 64 bits.
+pub fn words_for(places: u32, nodes: u32) -> usize
+    ensures { λ r. ⌜ (r ≡ wordsFor places nodes) × (r < 2 ^ 37) ⌝ }
+{
+    state_words(places) + NODE_WORDS * (nodes as usize)
+}
+
+// The blocks that so many words need. (The bound is what every image that two words of places and nodes call for keeps.)
 pub fn blocks_for(words: usize) -> usize
-    requires { ⌜ words < 2 ^ 35 ⌝ }
+    requires { ⌜ words < 2 ^ 37 ⌝ }
     ensures { λ r. ⌜ r ≡ blocksFor words ⌝ }
 {
     (words + (DATA_WORDS - 1)) / DATA_WORDS
 }
 
-// The blocks of an image of so many nodes.
-pub fn image_blocks(nodes: u32) -> usize
-    ensures { λ r. ⌜ r ≡ imageBlocks nodes ⌝ }
+// The bytes of an image of so many places and nodes.
+pub fn image_bytes(places: u32, nodes: u32) -> u64
+    ensures { λ r. ⌜ r ≡ imageBytes places nodes ⌝ }
 {
-    blocks_for(STATE_WORDS + NODE_WORDS * (nodes as usize))
-}
-
-// Its bytes.
-pub fn image_bytes(nodes: u32) -> u64
-    ensures { λ r. ⌜ r ≡ imageBytes nodes ⌝ }
-{
-    (BLOCK_BYTES * image_blocks(nodes)) as u64
+    (BLOCK_BYTES * blocks_for(words_for(places, nodes))) as u64
 }
 
 // Where the word i of the data stands. (The bound is what the length of a slice gives.)

@@ -1,4 +1,4 @@
--- R-1's promises about images: what 17 and 18 refuse, and what saving and reading give together.
+-- R-1's promises about images, as R-6 changes them: what 17 and 18 refuse, and what saving and reading give together.
 use mathlib.Core.Path.{_≡_, ap, _∙_}
 use mathlib.Core.Logic.{inl, inr, _⊎_, _≢_, _↔_}
 use mathlib.Core.List.{List, _++_}
@@ -6,17 +6,19 @@ use Prim.Native.Nat.{ℕ, _+_, _*_, _<_, _≤_}
 use native.Mathlib.Omega.{arith}
 use lib.ListN.{length, take, drop}
 use lib.Seq.{take-at, drop-at, length-take-le, take-append-le}
+use Rattle.frames.specs.declared.Frame.{Frame}
+use Rattle.frames.specs.Widths.{maxPlaces}
 use Rattle.soundness.specs.Numbers.{numbersIn}
+use Rattle.soundness.specs.Theory.Facts.{FramesFacts}
 use Rattle.image.specs.declared.ImageCheck.the-variants.{WrongLength, WrongCheck, Good}
 use Rattle.image.specs.Widths.{nodeWords, blockBytes, version, versionStep}
-use Rattle.image.specs.Image.{nodeCount, versioned, asBlocks, imageOf, imageBytes, firstIn, nodesIn, blocksCalled, imageCheck, numberWordsIn, dequesIn, framesIn, poolIn, Lengths, stored, IsRead}
+use Rattle.image.specs.Image.{nodeCount, placeCount, versioned, dequesFor, tableWords, asBlocks, imageOf, imageBytes, firstIn, nodesIn, placesIn, blocksCalled, imageCheck, numberWordsIn, dequesIn, framesIn, poolIn, Lengths, ZeroPast, stored, IsRead}
 use Rattle.image.specs.Theory.Bytes.{Bytes}
 use Rattle.image.specs.Theory.Refused as refused
 use Rattle.image.specs.Theory.Refused.{RightLength, SomeCheckWrong, RestNotZero}
 use Rattle.image.specs.Theory.Round as round
-use Rattle.image.specs.Theory.Round.{AllWords}
 use Rattle.image.specs.Theory.Written as written
-pub use Rattle.image.specs.Theory.Written.{Says}
+pub use Rattle.image.specs.Theory.Written.{Says, AllWords}
 
 -- "17, the image is not just as many whole blocks as its first block calls for, or has no whole block"; "A first word of no readable
 -- form gives 17."
@@ -24,7 +26,7 @@ pub refused-17 : (image : List ℕ) → (imageCheck image ≡ WrongLength)
     ↔ ((length image < blockBytes) ⊎ (firstIn image < version) ⊎ (version + versionStep ≤ firstIn image) ⊎ (length image ≢ blockBytes * blocksCalled image))
 refused-17 image = refused.when-17 image
 
--- "Each later change of the image adds 256 again and reads only its own form": images of the two forms before are refused
+-- "Each later change of the image adds 256 again and reads only its own form": images of the three forms before are refused
 pub refused-before : (image : List ℕ) → firstIn image < version → imageCheck image ≡ WrongLength
 refused-before image h = refused-17 image .1 (inr (inl h))
 
@@ -32,28 +34,32 @@ refused-before image h = refused-17 image .1 (inr (inl h))
 pub refused-18 : (image : List ℕ) → (imageCheck image ≡ WrongCheck) ↔ (RightLength image × (SomeCheckWrong image ⊎ RestNotZero image))
 refused-18 image = refused.when-18 image
 
+-- in a sound state the deque places past the table's length are zero
+pub sound-past : {workers first : ℕ} {ds : List ℕ} {fs : List Frame} → FramesFacts workers first ds fs → ZeroPast (length fs) ds
+sound-past F w j b l q = F .zeros w b j (omega (arith, F .within w b, l)) q
+
 -- the parts of a state, and a pool that has the recorded nodes
-module _ (ns ds fs ws : List ℕ) (has : Lengths ns ds fs) (room : nodeWords * nodeCount ns ≤ length ws) where
-  pub image-length : length (imageOf ns ds fs ws) ≡ imageBytes (nodeCount ns)
+module _ (ns ds : List ℕ) (fs : List Frame) (ws : List ℕ) (has : Lengths ns ds fs) (room : nodeWords * nodeCount ns ≤ length ws) where
+  pub image-length : length (imageOf ns ds fs ws) ≡ imageBytes (placeCount ns) (nodeCount ns)
   image-length = written.length-image ns ds fs ws has room
 
   -- a target begins with the image that was stored
-  pub saved-front : (t : List ℕ) → take (imageBytes (nodeCount ns)) (stored (imageOf ns ds fs ws) t) ≡ imageOf ns ds fs ws
-  saved-front t = take-at (imageOf ns ds fs ws) (drop (length (imageOf ns ds fs ws)) t) (imageBytes (nodeCount ns)) image-length
+  pub saved-front : (t : List ℕ) → take (imageBytes (placeCount ns) (nodeCount ns)) (stored (imageOf ns ds fs ws) t) ≡ imageOf ns ds fs ws
+  saved-front t = take-at (imageOf ns ds fs ws) (drop (length (imageOf ns ds fs ws)) t) (imageBytes (placeCount ns) (nodeCount ns)) image-length
 
   -- "Target bytes past the image never change."
-  pub saved-rest : (t : List ℕ) → drop (imageBytes (nodeCount ns)) (stored (imageOf ns ds fs ws) t) ≡ drop (imageBytes (nodeCount ns)) t
+  pub saved-rest : (t : List ℕ) → drop (imageBytes (placeCount ns) (nodeCount ns)) (stored (imageOf ns ds fs ws) t) ≡ drop (imageBytes (placeCount ns) (nodeCount ns)) t
   saved-rest t =
-      drop-at (imageOf ns ds fs ws) (drop (length (imageOf ns ds fs ws)) t) (imageBytes (nodeCount ns)) image-length
+      drop-at (imageOf ns ds fs ws) (drop (length (imageOf ns ds fs ws)) t) (imageBytes (placeCount ns) (nodeCount ns)) image-length
       ∙ ap (λ (k : ℕ). drop k t) image-length
 
   -- the first number, the workers, leaves the version room in the first word
-  module _ (all : AllWords ns ds fs ws) (few : numbersIn ns .workers < versionStep) where
+  module _ (all : AllWords ns ds fs ws) (few : numbersIn ns .workers < versionStep) (past : ZeroPast (placeCount ns) ds) where
     pub says-what-was-written : Says (imageOf ns ds fs ws) ns ds fs ws
-    says-what-was-written = written.written-says ns ds fs ws has room all few
+    says-what-was-written = written.written-says ns ds fs ws has room all few past
 
     -- "Reading back gives the same state", and the same nodes in the front of whatever pool ws₀ is lent; words past them stay
-    pub read-back : (ws₀ ns' ds' fs' ws' : List ℕ) → IsRead (imageOf ns ds fs ws) ns' ds' fs' ws₀ ws'
+    pub read-back : (ws₀ ns' ds' : List ℕ) (fs' : List Frame) (ws' : List ℕ) → IsRead (imageOf ns ds fs ws) ns' ds' fs' ws₀ ws'
         → (ns' ≡ ns) × (ds' ≡ ds) × (fs' ≡ fs) × (ws' ≡ take (nodeWords * nodeCount ns) ws ++ drop (nodeWords * nodeCount ns) ws₀)
     read-back ws₀ ns' ds' fs' ws' r =
         let s = says-what-was-written in (
@@ -69,27 +75,32 @@ module _ (image : List ℕ) (good : imageCheck image ≡ Good) where
   pub whole-block : blockBytes ≤ length image
   whole-block = round.good-whole image good
 
-  -- what it says are the parts of a state,
-  pub parts-lengths : Lengths (numberWordsIn image) (dequesIn image) (framesIn image)
-  parts-lengths = round.good-parts image good
-
-  -- and the nodes that its numbers record
+  -- its numbers record the nodes and the places
   pub same-nodes : nodeCount (numberWordsIn image) ≡ nodesIn image
   same-nodes = round.good-nodes image good
+
+  pub same-places : placeCount (numberWordsIn image) ≡ placesIn image
+  same-places = round.good-places image good
 
   pub pool-length : length (poolIn image) ≡ nodeWords * nodesIn image
   pool-length = round.length-pool image good
 
-  -- the lent pool into which it was read begins with them
+  -- the lent pool into which it was read begins with its nodes
   pool-front : (ws : List ℕ) → take (nodeWords * nodeCount (numberWordsIn image)) (stored (poolIn image) ws) ≡ take (nodeWords * nodeCount (numberWordsIn image)) (poolIn image)
   pool-front ws = take-append-le (nodeWords * nodeCount (numberWordsIn image)) (poolIn image) (drop (length (poolIn image)) ws) (omega (arith, pool-length, same-nodes))
 
-  -- read and written again it is the same bytes
-  pub written-again : Bytes image → imageOf (numberWordsIn image) (dequesIn image) (framesIn image) (poolIn image) ≡ image
-  written-again = written.written-again image good
+  -- with a recorded length of at most 256
+  module _ (most : placesIn image ≤ maxPlaces) where
+    -- what it says are the parts of a state
+    pub parts-lengths : Lengths (numberWordsIn image) (dequesIn image) (framesIn image)
+    parts-lengths = round.good-parts image good most
 
-  -- also from the lent pool into which it was read
-  pub saved-again : Bytes image → (ns ds fs ws ws' : List ℕ) → IsRead image ns ds fs ws ws' → imageOf ns ds fs ws' ≡ image
-  saved-again h ns ds fs ws ws' r =
-      rw (r .numbers, r .deques, r .frames, r .pool)
-      (ap (λ (l : List ℕ). asBlocks (versioned (numberWordsIn image) ++ dequesIn image ++ framesIn image ++ l)) (pool-front ws) ∙ written-again h)
+    -- read and written again it is the same bytes
+    pub written-again : Bytes image → imageOf (numberWordsIn image) (dequesIn image) (framesIn image) (poolIn image) ≡ image
+    written-again = written.written-again image good most
+
+    -- also from the lent pool into which it was read
+    pub saved-again : Bytes image → (ns ds : List ℕ) (fs : List Frame) (ws ws' : List ℕ) → IsRead image ns ds fs ws ws' → imageOf ns ds fs ws' ≡ image
+    saved-again h ns ds fs ws ws' r =
+        rw (r .numbers, r .deques, r .frames, r .pool)
+        (ap (λ (l : List ℕ). asBlocks (versioned (numberWordsIn image) ++ dequesFor (placeCount (numberWordsIn image)) (dequesIn image) ++ tableWords (framesIn image) ++ l)) (pool-front ws) ∙ written-again h)

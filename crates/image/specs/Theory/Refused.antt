@@ -95,12 +95,12 @@ module _ (image : List ℕ) where
   whole d = omega arith
 
   readable-form : Readable (firstIn image) → noForm image ≡ false
-  readable-form (h, k) = rw (le-ltb (firstIn image) 512 h, lt-ltb (firstIn image) 768 k)
+  readable-form (h, k) = rw (le-ltb (firstIn image) version h, lt-ltb (firstIn image) (version + versionStep) k)
 
   form-readable : noForm image ≡ false → Readable (firstIn image)
   form-readable e =
-      let n = neither (ltb (firstIn image) 512) (not (ltb (firstIn image) 768)) e in
-      (ltb-false (firstIn image) 512 (n .0), ltb-true (firstIn image) 768 (not-false (ltb (firstIn image) 768) (n .1)))
+      let n = neither (ltb (firstIn image) version) (not (ltb (firstIn image) (version + versionStep))) e in
+      (ltb-false (firstIn image) version (n .0), ltb-true (firstIn image) (version + versionStep) (not-false (ltb (firstIn image) (version + versionStep)) (n .1)))
 
   pub right-length : RightLength image → wrongLength image ≡ false
   unfolding wrongLength
@@ -127,11 +127,11 @@ module _ (image : List ℕ) where
   length-wrong n = elim (decided (wrongLength image)) [ inl e ↦ e | inr e ↦ absurd (not-right n (length-right e)) ]
 
   wrong-length : wrongLength image ≡ true → NotRightLength image
-  wrong-length e = elim (decided (ltb (firstIn image) 512)) [
-    | inl f ↦ inr (inl (ltb-true (firstIn image) 512 f))
-    | inr f ↦ elim (decided (ltb (firstIn image) 768)) [
-      | inl g ↦ inr (inr (inr (λ d. true≢false (sym e ∙ right-length (record { form = (ltb-false (firstIn image) 512 f, ltb-true (firstIn image) 768 g); long = d })))))
-      | inr g ↦ inr (inr (inl (ltb-false (firstIn image) 768 g)))
+  wrong-length e = elim (decided (ltb (firstIn image) version)) [
+    | inl f ↦ inr (inl (ltb-true (firstIn image) version f))
+    | inr f ↦ elim (decided (ltb (firstIn image) (version + versionStep))) [
+      | inl g ↦ inr (inr (inr (λ d. true≢false (sym e ∙ right-length (record { form = (ltb-false (firstIn image) version f, ltb-true (firstIn image) (version + versionStep) g); long = d })))))
+      | inr g ↦ inr (inr (inl (ltb-false (firstIn image) (version + versionStep) g)))
     ]
   ]
 

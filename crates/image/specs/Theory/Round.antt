@@ -9,15 +9,17 @@ use lib.Seq.{take-at, drop-at, length-take-le, getD-take, take-add, take-take}
 use lib.Dec.{eqb}
 use borrow.Author.Tests.{eqb-true}
 use Rattle.words.specs.Tests.{both, neither, not-false}
-use Rattle.frames.specs.Widths.{frameWords, dequeWords}
+use Rattle.frames.specs.declared.Frame.{Frame}
+use Rattle.frames.specs.Widths.{maxWorkers, maxPlaces, recordWords}
 use Rattle.soundness.specs.Numbers.{numberCount}
 use Rattle.image.specs.declared.ImageCheck.the-variants.{Good}
-use Rattle.image.specs.Widths.{nodeWords, stateWords, wordsFor}
-use Rattle.image.specs.Image.{nodeCount, versioned, bytesOf, wordsOf, blocksOf, blocksFor, filled, asBlocks, firstIn, nodesIn, wordsCalled, blocksCalled, wrongLength, dataOf, checksHold, allZero, restOf, wrongCheck, imageCheck, wordsIn, numberWordsIn, dequesIn, framesIn, poolIn, Lengths}
-use Rattle.image.specs.Theory.Version.{Readable, nodes-unversioned, version-on}
+use Rattle.image.specs.Widths.{nodeWords, dequesWords, stateWords, wordsFor}
+use Rattle.image.specs.Image.{nodeCount, placeCount, versioned, dequesFor, tableWords, bytesOf, wordsOf, blocksOf, blocksFor, filled, asBlocks, firstIn, nodesIn, placesIn, wordsCalled, blocksCalled, wrongLength, dataOf, checksHold, allZero, restOf, wrongCheck, imageCheck, wordsIn, lentDeques, recordsIn, numberWordsIn, dequesIn, framesIn, poolIn, Lengths}
+use Rattle.image.specs.Theory.Version.{Readable, nodes-unversioned, places-unversioned, version-on}
 use Rattle.image.specs.Theory.Bytes.{Bytes, Words, Below, length-bytes, bytes-append, bytes-take, bytes-zeros, words-back, length-words, bytes-words, words-append}
 use Rattle.image.specs.Theory.Refused.{RightLength, whole, right-length, length-right, means}
 use Rattle.image.specs.Theory.Blocks.{below-drop, below-take, below-append, length-blocks, data-back, checks-back, blocks-back, length-data}
+use Rattle.image.specs.Theory.Parts.{length-lent, deques-again, length-records, table-again}
 
 -- ---- zeros
 
@@ -62,7 +64,7 @@ first-words (suc n) image i p l b =
 
 -- ---- words as an image, and back
 
-module _ (W : List ℕ) (w : ℕ) (l : length W ≡ w) (three : 3 ≤ w) where
+module _ (W : List ℕ) (w : ℕ) (l : length W ≡ w) (ten : numberCount ≤ w) where
   pub blocks : asBlocks W ≡ blocksOf (blocksFor w) (bytesOf (filled (blocksFor w) W))
   unfolding asBlocks
   blocks = ap (λ (k : ℕ). blocksOf (blocksFor k) (bytesOf (filled (blocksFor k) W))) l
@@ -86,7 +88,7 @@ module _ (W : List ℕ) (w : ℕ) (l : length W ≡ w) (three : 3 ≤ w) where
         ∙ words-back (filled (blocksFor w) W) (below-append 4294967296 W zeros-after h (below-zeros 4294967296 (127 * blocksFor w - length W) (omega arith)))
 
     -- its first words are those of the first block
-    recorded : (i : ℕ) → i < 3 → getD (wordsOf (take 508 (asBlocks W))) i 0 ≡ getD W i 0
+    recorded : (i : ℕ) → i < numberCount → getD (wordsOf (take 508 (asBlocks W))) i 0 ≡ getD W i 0
     recorded i b =
         sym (first-words (blocksFor w) (asBlocks W) i (omega arith) (omega (arith, long)) (omega arith))
         ∙ ap (λ (ws : List ℕ). getD ws i 0) its-words ∙ List·getD-append W zeros-after 0 i (omega arith)
@@ -125,33 +127,27 @@ module _ (W : List ℕ) (w : ℕ) (l : length W ≡ w) (three : 3 ≤ w) where
 second : (a b c : List ℕ) (m n : ℕ) → length a ≡ m → length b ≡ n → take n (drop m (a ++ b ++ c)) ≡ b
 second a b c m n p q = ap (λ (l : List ℕ). take n (drop m l)) (append-assoc a b c) ∙ ap (take n) (drop-at a (b ++ c) m p) ∙ take-at b c n q
 
+-- the words of the deques, of the table and of the nodes, as many as ns calls for
 pub record PartLengths (ns ds fs ks : List ℕ) : Type 0 where
   pub numbers : length ns ≡ numberCount
-  pub deques : length ds ≡ dequeWords
-  pub frames : length fs ≡ frameWords
+  pub deques : length ds ≡ dequesWords (placeCount ns)
+  pub frames : length fs ≡ recordWords * placeCount ns
   pub nodes : length ks ≡ nodeWords * nodeCount ns
-
--- each is a word
-pub record AllWords (ns ds fs ws : List ℕ) : Type 0 where
-  pub numbers : Words ns
-  pub deques : Words ds
-  pub frames : Words fs
-  pub pool : Words ws
 
 module _ (ns ds fs ks : List ℕ) (has : PartLengths ns ds fs ks) where
   abbrev parts : List ℕ
   parts = ns ++ ds ++ fs ++ ks
 
-  length-two : length (ns ++ ds) ≡ numberCount + dequeWords
+  length-two : length (ns ++ ds) ≡ numberCount + dequesWords (placeCount ns)
   length-two = omega (arith, length-append ns ds, has .numbers, has .deques)
 
-  pub length-three : length (ns ++ ds ++ fs) ≡ stateWords
+  pub length-three : length (ns ++ ds ++ fs) ≡ stateWords (placeCount ns)
   length-three = omega (arith, length-append (ns ++ ds) fs, length-two, has .frames)
 
   abbrev size : ℕ
-  size = wordsFor (nodeCount ns)
+  size = wordsFor (placeCount ns) (nodeCount ns)
 
-  pub length-parts : length (ns ++ ds ++ fs ++ ks) ≡ wordsFor (nodeCount ns)
+  pub length-parts : length (ns ++ ds ++ fs ++ ks) ≡ wordsFor (placeCount ns) (nodeCount ns)
   length-parts = omega (arith, length-append (ns ++ ds ++ fs) ks, length-three, has .nodes)
 
   number-first : (i : ℕ) → i < numberCount → getD parts i 0 ≡ getD ns i 0
@@ -160,15 +156,9 @@ module _ (ns ds fs ks : List ℕ) (has : PartLengths ns ds fs ks) where
       ∙ List·getD-append (ns ++ ds) fs 0 i (omega (arith, length-two))
       ∙ List·getD-append ns ds 0 i (omega (arith, has .numbers))
 
-  module _ (all : AllWords ns ds fs ks) where
-    all-words : Words parts
-    all-words =
-        below-append 4294967296 (ns ++ ds ++ fs) ks
-        (below-append 4294967296 (ns ++ ds) fs (below-append 4294967296 ns ds (all .numbers) (all .deques)) (all .frames))
-        (all .pool)
-
-    number-recorded : (i : ℕ) → i < 3 → getD (wordsOf (take 508 (asBlocks parts))) i 0 ≡ getD ns i 0
-    number-recorded i b = recorded parts size length-parts (omega arith) all-words i b ∙ number-first i (omega arith)
+  module _ (all : Words (ns ++ ds ++ fs ++ ks)) where
+    number-recorded : (i : ℕ) → i < numberCount → getD (wordsOf (take 508 (asBlocks parts))) i 0 ≡ getD ns i 0
+    number-recorded i b = recorded parts size length-parts (omega arith) all i b ∙ number-first i b
 
     pub first-back : firstIn (asBlocks (ns ++ ds ++ fs ++ ks)) ≡ getD ns 0 0
     first-back = number-recorded 0 (omega arith)
@@ -176,46 +166,53 @@ module _ (ns ds fs ks : List ℕ) (has : PartLengths ns ds fs ks) where
     pub nodes-back : nodesIn (asBlocks (ns ++ ds ++ fs ++ ks)) ≡ nodeCount ns
     nodes-back = number-recorded 2 (omega arith)
 
+    pub places-back : placesIn (asBlocks (ns ++ ds ++ fs ++ ks)) ≡ placeCount ns
+    places-back = number-recorded 9 (omega arith)
+
     module _ (form : Readable (getD ns 0 0)) where
       called : wordsCalled (asBlocks parts) ≡ size
-      called = ap wordsFor nodes-back
+      called = ap₂ wordsFor places-back nodes-back
 
       form-parts : Readable (getD parts 0 0)
       form-parts = subst Readable (sym (number-first 0 (omega arith))) form
 
       -- 17 and 18 do not refuse it,
       pub parts-accepted : imageCheck (asBlocks (ns ++ ds ++ fs ++ ks)) ≡ Good
-      parts-accepted = accepted parts size length-parts (omega arith) all-words form-parts called
+      parts-accepted = accepted parts size length-parts (omega arith) all form-parts called
 
       abbrev tail : List ℕ
       tail = replicate (127 * blocksFor size - length parts) 0
 
       words : wordsIn (asBlocks parts) ≡ ns ++ ds ++ fs ++ ks ++ tail
-      words = same-words parts size length-parts (omega arith) all-words form-parts called
+      words = same-words parts size length-parts (omega arith) all form-parts called
 
-      words-two : wordsIn (asBlocks parts) ≡ ns ++ ds ++ (fs ++ (ks ++ tail))
-      words-two = words ∙ append-assoc (ns ++ ds ++ fs) ks tail ∙ append-assoc (ns ++ ds) fs (ks ++ tail)
+      words-three : wordsIn (asBlocks parts) ≡ ns ++ ds ++ (fs ++ (ks ++ tail))
+      words-three = words ∙ append-assoc (ns ++ ds ++ fs) ks tail ∙ append-assoc (ns ++ ds) fs (ks ++ tail)
+
+      words-two : wordsIn (asBlocks parts) ≡ ns ++ (ds ++ (fs ++ (ks ++ tail)))
+      words-two = words-three ∙ append-assoc ns ds (fs ++ (ks ++ tail))
 
       -- and its words are the numbers,
       pub numbers-part : take numberCount (wordsIn (asBlocks (ns ++ ds ++ fs ++ ks))) ≡ ns
-      numbers-part = ap (take numberCount) (words-two ∙ append-assoc ns ds (fs ++ (ks ++ tail))) ∙ take-at ns (ds ++ (fs ++ (ks ++ tail))) numberCount (has .numbers)
+      numbers-part = ap (take numberCount) words-two ∙ take-at ns (ds ++ (fs ++ (ks ++ tail))) numberCount (has .numbers)
 
-      -- the deques,
-      pub deques-part : dequesIn (asBlocks (ns ++ ds ++ fs ++ ks)) ≡ ds
-      deques-part = ap (λ (l : List ℕ). take dequeWords (drop numberCount l)) words-two ∙ second ns ds (fs ++ (ks ++ tail)) numberCount dequeWords (has .numbers) (has .deques)
+      -- the deques, whatever words follow theirs,
+      pub deques-part : (es : List ℕ) → ((rest : List ℕ) → lentDeques maxWorkers (placeCount ns) (ds ++ rest) ≡ es) → dequesIn (asBlocks (ns ++ ds ++ fs ++ ks)) ≡ es
+      deques-part es e =
+          ap₂ (lentDeques maxWorkers) places-back (ap (drop numberCount) words-two ∙ drop-at ns (ds ++ (fs ++ (ks ++ tail))) numberCount (has .numbers)) ∙ e (fs ++ (ks ++ tail))
 
-      -- the frame records
-      pub frames-part : framesIn (asBlocks (ns ++ ds ++ fs ++ ks)) ≡ fs
-      frames-part =
-          ap (λ (l : List ℕ). take frameWords (drop (numberCount + dequeWords) l)) (words ∙ append-assoc (ns ++ ds ++ fs) ks tail)
-          ∙ second (ns ++ ds) fs (ks ++ tail) (numberCount + dequeWords) frameWords length-two (has .frames)
+      -- the frame table, likewise,
+      pub frames-part : (gs : List Frame) → ((rest : List ℕ) → recordsIn (placeCount ns) (fs ++ rest) ≡ gs) → framesIn (asBlocks (ns ++ ds ++ fs ++ ks)) ≡ gs
+      frames-part gs e =
+          ap₂ (λ (k : ℕ) (l : List ℕ). recordsIn k (drop (numberCount + dequesWords k) l)) places-back words-three
+          ∙ ap (recordsIn (placeCount ns)) (drop-at (ns ++ ds) (fs ++ (ks ++ tail)) (numberCount + dequesWords (placeCount ns)) length-two) ∙ e (ks ++ tail)
 
       -- and the nodes that were written
       pub pool-part : poolIn (asBlocks (ns ++ ds ++ fs ++ ks)) ≡ ks
       pool-part =
-          ap (λ (k : ℕ). take (nodeWords * k) (drop stateWords (wordsIn (asBlocks parts)))) nodes-back
-          ∙ ap (λ (l : List ℕ). take (nodeWords * nodeCount ns) (drop stateWords l)) words
-          ∙ second (ns ++ ds ++ fs) ks tail stateWords (nodeWords * nodeCount ns) length-three (has .nodes)
+          ap₂ (λ (k m : ℕ). take (nodeWords * k) (drop (stateWords m) (wordsIn (asBlocks parts)))) nodes-back places-back
+          ∙ ap (λ (l : List ℕ). take (nodeWords * nodeCount ns) (drop (stateWords (placeCount ns)) l)) words
+          ∙ second (ns ++ ds ++ fs) ks tail (stateWords (placeCount ns)) (nodeWords * nodeCount ns) length-three (has .nodes)
 
 -- ---- an accepted image, written again
 
@@ -258,17 +255,8 @@ module _ (image : List ℕ) (good : imageCheck image ≡ Good) where
   pub part-length : (i k : ℕ) → i + k ≤ w → length (take k (drop i (wordsIn image))) ≡ k
   part-length i k h = length-take-le k (drop i (wordsIn image)) (omega (arith, length-drop i (wordsIn image), length-w, enough))
 
-  -- the parts of an accepted image have their lengths
-  pub good-parts : Lengths (numberWordsIn image) (dequesIn image) (framesIn image)
-  good-parts =
-      record {
-        numbers = length-set (take numberCount (wordsIn image)) 0 _ ∙ part-length 0 numberCount (omega arith);
-        deques = part-length numberCount dequeWords (omega arith);
-        frames = part-length (numberCount + dequeWords) frameWords (omega arith);
-      }
-
   pub length-pool : length (poolIn image) ≡ nodeWords * nodesIn image
-  length-pool = part-length stateWords (nodeWords * nodesIn image) (omega arith)
+  length-pool = part-length (stateWords (placesIn image)) (nodeWords * nodesIn image) (omega arith)
 
   -- its numbers are those of the first block
   good-number : (i : ℕ) → i < numberCount → getD (take numberCount (wordsIn image)) i 0 ≡ getD (wordsOf (take 508 image)) i 0
@@ -278,27 +266,49 @@ module _ (image : List ℕ) (good : imageCheck image ≡ Good) where
   good-first : getD (take numberCount (wordsIn image)) 0 0 ≡ firstIn image
   good-first = good-number 0 (omega arith)
 
-  -- they record the nodes
-  first-nodes : nodeCount (take numberCount (wordsIn image)) ≡ nodesIn image
-  first-nodes = good-number 2 (omega arith)
-
+  -- they record the nodes and the places
   pub good-nodes : nodeCount (numberWordsIn image) ≡ nodesIn image
-  good-nodes = nodes-unversioned (take numberCount (wordsIn image)) ∙ first-nodes
+  good-nodes = nodes-unversioned (take numberCount (wordsIn image)) ∙ good-number 2 (omega arith)
+
+  pub good-places : placeCount (numberWordsIn image) ≡ placesIn image
+  good-places = places-unversioned (take numberCount (wordsIn image)) ∙ good-number 9 (omega arith)
 
   -- with the version again
   pub numbers-again : versioned (numberWordsIn image) ≡ take numberCount (wordsIn image)
   numbers-again = version-on (take numberCount (wordsIn image)) (subst Readable (sym good-first) (good-right .form))
 
-  -- what the parts make up again
-  pub words-again : take numberCount (wordsIn image) ++ dequesIn image ++ framesIn image ++ take (nodeWords * nodesIn image) (poolIn image) ≡ take w (wordsIn image)
-  words-again =
-      let W : List ℕ = wordsIn image in
-      let k : ℕ = nodeWords * nodesIn image in
-      let ns : List ℕ = take numberCount W in
-      ap (λ (l : List ℕ). ns ++ dequesIn image ++ framesIn image ++ l) (take-take k k (drop stateWords W) (omega arith))
-      ∙ ap (λ (l : List ℕ). l ++ framesIn image ++ poolIn image) (sym (take-add numberCount dequeWords W))
-      ∙ ap (λ (l : List ℕ). l ++ poolIn image) (sym (take-add (numberCount + dequeWords) frameWords W))
-      ∙ sym (take-add stateWords k W)
+  -- a table of at most 256 places
+  module _ (most : placesIn image ≤ maxPlaces) where
+    abbrev k : ℕ
+    k = placesIn image
+
+    pub after-numbers : dequesWords (placesIn image) ≤ length (drop numberCount (wordsIn image))
+    after-numbers = omega (arith, length-drop numberCount (wordsIn image), length-w, enough)
+
+    -- the parts of an accepted image have their lengths
+    pub good-parts : Lengths (numberWordsIn image) (dequesIn image) (framesIn image)
+    good-parts =
+        let f : length (framesIn image) ≡ placesIn image = length-records k (drop (numberCount + dequesWords k) (wordsIn image)) in
+        record {
+          numbers = length-set (take numberCount (wordsIn image)) 0 _ ∙ part-length 0 numberCount (omega arith);
+          deques = length-lent maxWorkers k (drop numberCount (wordsIn image)) most after-numbers;
+          frames = f ∙ sym good-places;
+          most = omega (arith, f, most);
+        }
+
+    -- what the parts make up again
+    pub words-again : take numberCount (wordsIn image) ++ dequesFor (placesIn image) (dequesIn image) ++ tableWords (framesIn image) ++ take (nodeWords * nodesIn image) (poolIn image) ≡ take w (wordsIn image)
+    words-again =
+        let W : List ℕ = wordsIn image in
+        let m : ℕ = nodeWords * nodesIn image in
+        let d : dequesFor k (dequesIn image) ≡ take (dequesWords k) (drop numberCount W) = deques-again maxWorkers k (drop numberCount W) most after-numbers in
+        let t : tableWords (framesIn image) ≡ take (recordWords * k) (drop (numberCount + dequesWords k) W) =
+        table-again k (drop (numberCount + dequesWords k) W) (omega (arith, length-drop (numberCount + dequesWords k) W, length-w, enough)) in
+        ap₂ (λ (a b : List ℕ). take numberCount W ++ a ++ b ++ take m (poolIn image)) d t
+        ∙ ap (λ (l : List ℕ). take numberCount W ++ take (dequesWords k) (drop numberCount W) ++ take (recordWords * k) (drop (numberCount + dequesWords k) W) ++ l) (take-take m m (drop (stateWords k) W) (omega arith))
+        ∙ ap (λ (l : List ℕ). l ++ take (recordWords * k) (drop (numberCount + dequesWords k) W) ++ poolIn image) (sym (take-add numberCount (dequesWords k) W))
+        ∙ ap (λ (l : List ℕ). l ++ poolIn image) (sym (take-add (numberCount + dequesWords k) (recordWords * k) W))
+        ∙ sym (take-add (stateWords k) m W)
 
   module _ (h : Bytes image) where
     bytes-again : bytesOf (wordsIn image) ≡ dataOf n image

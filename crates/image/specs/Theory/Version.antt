@@ -3,21 +3,30 @@ use mathlib.Core.Path.{_≡_, refl, ap}
 use mathlib.Core.List.{List, [], _∷_}
 use Prim.Native.Nat.{ℕ, _+_, _<_, _≤_}
 use native.Mathlib.Omega.{arith}
-use lib.ListN.{length, getD}
+use lib.ListN.{length, getD, length-set}
 use lib.Seq.{getD-set-other}
 use Rattle.words.specs.Below.{Words, words-set, plus-word}
 use Rattle.image.specs.Widths.{version, versionStep}
-use Rattle.image.specs.Image.{nodeCount, versioned, unversioned}
+use Rattle.image.specs.Image.{nodeCount, placeCount, versioned, unversioned}
 
 -- a first word of the readable form: "reads only its own form"
 abbrev pub Readable : ℕ → Type 0
 Readable w = (version ≤ w) × (w < version + versionStep)
+
+pub length-versioned : (ns : List ℕ) → length (versioned ns) ≡ length ns
+length-versioned ns = length-set ns 0 _
 
 pub nodes-versioned : (ns : List ℕ) → nodeCount (versioned ns) ≡ nodeCount ns
 nodes-versioned ns = getD-set-other ns 0 2 _ 0 (λ e. omega arith)
 
 pub nodes-unversioned : (ns : List ℕ) → nodeCount (unversioned ns) ≡ nodeCount ns
 nodes-unversioned ns = getD-set-other ns 0 2 _ 0 (λ e. omega arith)
+
+pub places-versioned : (ns : List ℕ) → placeCount (versioned ns) ≡ placeCount ns
+places-versioned ns = getD-set-other ns 0 9 _ 0 (λ e. omega arith)
+
+pub places-unversioned : (ns : List ℕ) → placeCount (unversioned ns) ≡ placeCount ns
+places-unversioned ns = getD-set-other ns 0 9 _ 0 (λ e. omega arith)
 
 pub words-versioned : (ns : List ℕ) → Words ns → Words (versioned ns)
 words-versioned ns h = words-set ns 0 _ h (plus-word (getD ns 0 0) version)

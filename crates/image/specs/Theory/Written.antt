@@ -1,90 +1,114 @@
 -- An image as it is written: its length, what it says, and an accepted image written again.
-use mathlib.Core.Path.{_≡_, sym, ap, _∙_}
+use mathlib.Core.Path.{_≡_, sym, ap, ap₂, _∙_}
 use mathlib.Core.List.{List, _++_}
 use Prim.Native.Nat.{ℕ, _*_, _<_, _≤_}
 use native.Mathlib.Omega.{arith}
-use lib.ListN.{length, getD, take, length-set}
+use lib.ListN.{length, getD, take}
 use lib.Seq.{length-take-le}
+use Rattle.words.specs.Below.{Words, Bytes, below-take, below-append}
+use Rattle.frames.specs.declared.Frame.{Frame}
+use Rattle.frames.specs.Widths.{maxWorkers, maxPlaces, recordWords}
+use Rattle.frames.specs.Deques.{place}
+use Rattle.frames.specs.Theory.RecordWords.{RecordWords}
 use Rattle.image.specs.declared.ImageCheck.the-variants.{Good}
-use Rattle.image.specs.Widths.{nodeWords, stateWords, wordsFor, versionStep}
-use Rattle.image.specs.Image.{nodeCount, versioned, imageWords, bytesOf, blocksOf, filled, asBlocks, imageOf, imageBlocks, imageBytes, nodesIn, wordsCalled, imageCheck, wordsIn, unversioned, numberWordsIn, dequesIn, framesIn, poolIn, Lengths}
-use Rattle.image.specs.Theory.Bytes.{Bytes}
-use Rattle.image.specs.Theory.Blocks.{below-take}
-use Rattle.image.specs.Theory.Version.{Readable, nodes-versioned, words-versioned, first-versioned, version-off}
-use Rattle.image.specs.Theory.Round.{PartLengths, AllWords, blocks, long, length-three, length-parts, nodes-back, parts-accepted, numbers-part, deques-part, frames-part, pool-part, good-nodes, numbers-again, words-again, blocks-again}
+use Rattle.image.specs.Widths.{nodeWords, dequesWords, stateWords, wordsFor, versionStep}
+use Rattle.image.specs.Image.{nodeCount, placeCount, versioned, dequesFor, tableWords, imageWords, bytesOf, blocksOf, filled, asBlocks, imageOf, imageBlocks, imageBytes, nodesIn, placesIn, wordsCalled, imageCheck, wordsIn, unversioned, numberWordsIn, recordsIn, dequesIn, framesIn, poolIn, Lengths, ZeroPast}
+use Rattle.image.specs.Theory.Version.{Readable, length-versioned, nodes-versioned, places-versioned, words-versioned, first-versioned, version-off}
+use Rattle.image.specs.Theory.Parts.{ZerosAfter, length-dequesOf, words-dequesOf, deques-back, length-table, words-table, table-back}
+use Rattle.image.specs.Theory.Round.{PartLengths, blocks, long, length-three, length-parts, nodes-back, places-back, parts-accepted, numbers-part, deques-part, frames-part, pool-part, good-nodes, good-places, numbers-again, words-again, blocks-again}
 
 -- an image says just this
-pub record Says (image ns ds fs ws : List ℕ) : Type 0 where
+pub record Says (image ns ds : List ℕ) (fs : List Frame) (ws : List ℕ) : Type 0 where
   pub good : imageCheck image ≡ Good
   pub nodes : nodesIn image ≡ nodeCount ns
+  pub places : placesIn image ≡ placeCount ns
   pub numbers : numberWordsIn image ≡ ns
   pub deques : dequesIn image ≡ ds
   pub frames : framesIn image ≡ fs
   pub pool : poolIn image ≡ take (nodeWords * nodeCount ns) ws
 
+-- each is a word
+pub record AllWords (ns ds : List ℕ) (fs : List Frame) (ws : List ℕ) : Type 0 where
+  pub numbers : Words ns
+  pub deques : Words ds
+  pub frames : RecordWords fs
+  pub pool : Words ws
+
+zeros-after : (k : ℕ) (ds : List ℕ) → ZeroPast k ds → ZerosAfter maxWorkers k ds
+unfolding place
+zeros-after k ds z = z
+
 -- ---- what is written
 
-module _ (ns ds fs ws : List ℕ) (has : Lengths ns ds fs) (room : nodeWords * nodeCount ns ≤ length ws) where
+module _ (ns ds : List ℕ) (fs : List Frame) (ws : List ℕ) (has : Lengths ns ds fs) (room : nodeWords * nodeCount ns ≤ length ws) where
+  abbrev k : ℕ
+  k = placeCount ns
+
   abbrev vs : List ℕ
   vs = versioned ns
 
   abbrev nodes : List ℕ
   nodes = take (nodeWords * nodeCount ns) ws
 
-  lengths : PartLengths vs ds fs nodes
+  most : placeCount ns ≤ maxPlaces
+  most = omega (arith, has .frames, has .most)
+
+  lengths : PartLengths vs (dequesFor k ds) (tableWords fs) nodes
   lengths =
       record {
-        numbers = length-set ns 0 _ ∙ has .numbers;
-        deques = has .deques;
-        frames = has .frames;
-        nodes = length-take-le (nodeWords * nodeCount ns) ws room ∙ ap (λ (k : ℕ). nodeWords * k) (sym (nodes-versioned ns));
+        numbers = length-versioned ns ∙ has .numbers;
+        deques = length-dequesOf maxWorkers k ds most (omega (arith, has .deques)) ∙ ap dequesWords (sym (places-versioned ns));
+        frames = length-table fs ∙ ap (λ (n : ℕ). recordWords * n) (has .frames ∙ sym (places-versioned ns));
+        nodes = length-take-le (nodeWords * nodeCount ns) ws room ∙ ap (λ (n : ℕ). nodeWords * n) (sym (nodes-versioned ns));
       }
 
-  pub length-state : length (versioned ns ++ ds ++ fs) ≡ stateWords
-  length-state = length-three vs ds fs nodes lengths
+  pub length-state : length (versioned ns ++ dequesFor (placeCount ns) ds ++ tableWords fs) ≡ stateWords (placeCount ns)
+  length-state = length-three vs (dequesFor k ds) (tableWords fs) nodes lengths ∙ ap stateWords (places-versioned ns)
 
-  pub length-image-words : length (imageWords ns ds fs ws) ≡ wordsFor (nodeCount ns)
-  length-image-words = length-parts vs ds fs nodes lengths ∙ ap wordsFor (nodes-versioned ns)
+  pub length-image-words : length (imageWords ns ds fs ws) ≡ wordsFor (placeCount ns) (nodeCount ns)
+  length-image-words = length-parts vs (dequesFor k ds) (tableWords fs) nodes lengths ∙ ap₂ wordsFor (places-versioned ns) (nodes-versioned ns)
 
-  pub image-blocks : imageOf ns ds fs ws ≡ blocksOf (imageBlocks (nodeCount ns)) (bytesOf (filled (imageBlocks (nodeCount ns)) (imageWords ns ds fs ws)))
-  image-blocks = blocks (imageWords ns ds fs ws) (wordsFor (nodeCount ns)) length-image-words (omega arith)
+  pub image-blocks : imageOf ns ds fs ws ≡ blocksOf (imageBlocks (placeCount ns) (nodeCount ns)) (bytesOf (filled (imageBlocks (placeCount ns) (nodeCount ns)) (imageWords ns ds fs ws)))
+  image-blocks = blocks (imageWords ns ds fs ws) (wordsFor k (nodeCount ns)) length-image-words (omega arith)
 
-  pub length-image : length (imageOf ns ds fs ws) ≡ imageBytes (nodeCount ns)
-  length-image = long (imageWords ns ds fs ws) (wordsFor (nodeCount ns)) length-image-words (omega arith)
+  pub length-image : length (imageOf ns ds fs ws) ≡ imageBytes (placeCount ns) (nodeCount ns)
+  length-image = long (imageWords ns ds fs ws) (wordsFor k (nodeCount ns)) length-image-words (omega arith)
 
   -- the first number, the workers, leaves the version room in the first word
-  module _ (all : AllWords ns ds fs ws) (few : getD ns 0 0 < versionStep) where
-    words : AllWords vs ds fs nodes
+  module _ (all : AllWords ns ds fs ws) (few : getD ns 0 0 < versionStep) (past : ZeroPast (placeCount ns) ds) where
+    words : Words (imageWords ns ds fs ws)
     words =
-        record {
-          numbers = words-versioned ns (all .numbers);
-          deques = all .deques;
-          frames = all .frames;
-          pool = below-take 4294967296 (nodeWords * nodeCount ns) ws (omega arith) (all .pool);
-        }
+        below-append 4294967296 (vs ++ dequesFor k ds ++ tableWords fs) nodes
+        (below-append 4294967296 (vs ++ dequesFor k ds) (tableWords fs)
+        (below-append 4294967296 vs (dequesFor k ds) (words-versioned ns (all .numbers)) (words-dequesOf maxWorkers k ds (all .deques)))
+        (words-table fs (all .frames)))
+        (below-take 4294967296 (nodeWords * nodeCount ns) ws (omega arith) (all .pool))
 
     form : Readable (getD vs 0 0)
     form = first-versioned ns (omega (arith, has .numbers)) few
 
     pub written-says : Says (imageOf ns ds fs ws) ns ds fs ws
     written-says =
+        let dw : List ℕ = dequesFor k ds in
+        let fw : List ℕ = tableWords fs in
         record {
-          good = parts-accepted vs ds fs nodes lengths words form;
-          nodes = nodes-back vs ds fs nodes lengths words ∙ nodes-versioned ns;
-          numbers = ap unversioned (numbers-part vs ds fs nodes lengths words form) ∙ version-off ns few;
-          deques = deques-part vs ds fs nodes lengths words form;
-          frames = frames-part vs ds fs nodes lengths words form;
-          pool = pool-part vs ds fs nodes lengths words form;
+          good = parts-accepted vs dw fw nodes lengths words form;
+          nodes = nodes-back vs dw fw nodes lengths words ∙ nodes-versioned ns;
+          places = places-back vs dw fw nodes lengths words ∙ places-versioned ns;
+          numbers = ap unversioned (numbers-part vs dw fw nodes lengths words form) ∙ version-off ns few;
+          deques = deques-part vs dw fw nodes lengths words form ds (λ rest. rw (places-versioned ns) (deques-back maxWorkers k ds rest most (has .deques) (zeros-after k ds past)));
+          frames = frames-part vs dw fw nodes lengths words form fs (λ rest. ap (λ (n : ℕ). recordsIn n (tableWords fs ++ rest)) (places-versioned ns ∙ sym (has .frames)) ∙ table-back fs rest);
+          pool = pool-part vs dw fw nodes lengths words form;
         }
 
 -- ---- an accepted image, written again
 
-module _ (image : List ℕ) (good : imageCheck image ≡ Good) where
+module _ (image : List ℕ) (good : imageCheck image ≡ Good) (most : placesIn image ≤ maxPlaces) where
   words-written : imageWords (numberWordsIn image) (dequesIn image) (framesIn image) (poolIn image) ≡ take (wordsCalled image) (wordsIn image)
   words-written =
-      ap (λ (k : ℕ). versioned (numberWordsIn image) ++ dequesIn image ++ framesIn image ++ take (nodeWords * k) (poolIn image)) (good-nodes image good)
-      ∙ ap (λ (ns : List ℕ). ns ++ dequesIn image ++ framesIn image ++ take (nodeWords * nodesIn image) (poolIn image)) (numbers-again image good)
-      ∙ words-again image good
+      ap₂ (λ (n k : ℕ). versioned (numberWordsIn image) ++ dequesFor k (dequesIn image) ++ tableWords (framesIn image) ++ take (nodeWords * n) (poolIn image)) (good-nodes image good) (good-places image good)
+      ∙ ap (λ (ns : List ℕ). ns ++ dequesFor (placesIn image) (dequesIn image) ++ tableWords (framesIn image) ++ take (nodeWords * nodesIn image) (poolIn image)) (numbers-again image good)
+      ∙ words-again image good most
 
   pub written-again : Bytes image → imageOf (numberWordsIn image) (dequesIn image) (framesIn image) (poolIn image) ≡ image
   written-again h = ap asBlocks words-written ∙ blocks-again image good h

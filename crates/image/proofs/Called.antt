@@ -1,0 +1,11 @@
+pub mod frame_at
+pub mod write_record
+pub mod write_before
+pub mod deques_words
+pub mod write_table
+pub mod write_after
+pub mod places_in
+pub mod read_record
+pub mod put_frame
+pub mod read_beside
+pub mod read_table
