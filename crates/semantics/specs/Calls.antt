@@ -16,9 +16,8 @@ use Rattle.model.specs.Steps.{Action, spawn, return, sync, read, write, fold, T
 use Rattle.model.specs.Run.{Entry}
 use Rattle.semantics.specs.Answers.{wordsIn}
 use Rattle.semantics.specs.Core.{Core, actingIn}
-use Rattle.semantics.specs.Entries.{State, StartResult, startOn, OutsideResult, outsideOn, recordOn, TapeResult, tapeOn, recordsOf, numbersOf, coreOf, stateOf, chainFree}
-use Rattle.image.specs.Image.{imageBytes}
-use Rattle.semantics.specs.Images.{SaveResult, saveOn, LoadResult, loadOn}
+use Rattle.semantics.specs.Entries.{State, StartResult, startOn, OutsideResult, outsideOn, recordOn, TapeResult, tapeOn, recordsOf, coreOf, stateOf, chainFree}
+use Rattle.semantics.specs.Images.{SaveResult, savedBytes, saveOn, LoadResult, loadOn}
 
 -- ---- calls
 
@@ -37,7 +36,7 @@ pub data HostCall : Type 0 where
   outside : (kind worker field value : ℕ) (work : List ℕ) → HostCall
   tape : (bytes work answers : List ℕ) → HostCall
 
--- "Each call has the state and the pool as the call before it left them"
+-- "Each call has the state and the pool as the call before it left them"; R-6: "each call has the table too", which is the state's
 pub record StateAndPool : Type 0 where
   pub state : State
   pub pool : List ℕ
@@ -138,11 +137,11 @@ pub record Run : Type 0 where
   pub stateless : Bool
   pub lent : List ℕ
 
--- a step or a tape; a save; a reading of one of the images, into parts and a pool that the host lends for it
+-- a step or a tape; a save; a reading of one of the images, into the run's table, and words and a pool that the host lends for it
 pub data Call : Type 0 where
   call : HostCall → Call
   save : (work target : List ℕ) → Call
-  load : (which : ℕ) (parts : State) (pool work : List ℕ) → Call
+  load : (which : ℕ) (numbers deques pool work : List ℕ) → Call
 
 abbrev pub nothing : Past
 nothing = record { exchanges = []; pools = [] }
@@ -165,22 +164,26 @@ pastAfter h p k =
 abbrev pub saveResult : StateAndPool → List ℕ → List ℕ → SaveResult
 saveResult h work target = saveOn (h .state) (h .pool) work target
 
-abbrev pub loadResult : Run → ℕ → State → List ℕ → List ℕ → LoadResult
-loadResult r i parts ws work = loadOn parts ws work (imageAt (r .images) i .bytes)
+-- R-6: "In a run each call has the table too as the call before it left it"
+abbrev pub intoTable : Run → List ℕ → List ℕ → State
+intoTable r ns ds = record { numbers = ns; deques = ds; frames = r .now .state .frames }
+
+abbrev pub loadResult : Run → ℕ → List ℕ → List ℕ → List ℕ → List ℕ → LoadResult
+loadResult r i ns ds ws work = loadOn (intoTable r ns ds) ws work (imageAt (r .images) i .bytes)
 
 -- the image that an accepted save has written
 abbrev pub imagesAfter : Run → List ℕ → List ℕ → List Saved
 imagesAfter r work target =
     let o : SaveResult = saveResult (r .now) work target in
-    let new : List Saved = record { bytes = take (imageBytes (numbersOf (r .now .state) .nodes)) (o .target); past = r .past } ∷ [] in
+    let new : List Saved = record { bytes = take (savedBytes (r .now .state)) (o .target); past = r .past } ∷ [] in
     cond (eqb (o .result) 0) (r .images ++ new) (r .images)
 
 -- "Reading back gives the same state, and a run goes on from its saved history; what came after the save is forgotten."
 abbrev pub runAfter : Run → Call → Run
 runAfter r (call k) = record { now = afterCall (r .now) k; past = pastAfter (r .now) (r .past) k; images = r .images; stateless = r .stateless; lent = r .lent }
 runAfter r (save work target) = record { now = r .now; past = r .past; images = imagesAfter r work target; stateless = r .stateless; lent = r .lent }
-runAfter r (load i parts ws work) =
-    let o : LoadResult = loadResult r i parts ws work in
+runAfter r (load i ns ds ws work) =
+    let o : LoadResult = loadResult r i ns ds ws work in
     record {
       now = record { state = o .state; pool = o .pool };
       past = cond (eqb (o .result) 0) (imageAt (r .images) i .past) (r .past);

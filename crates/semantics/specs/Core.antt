@@ -24,12 +24,12 @@ use Rattle.semantics.specs.declared.Refusal.the-variants.{NoWorker, Main
 use Rattle.semantics.specs.declared.Answer.{Answer}
 use Rattle.semantics.specs.declared.Answer.the-variants.{Accepted, Refused}
 
--- what steps act on: the numbers, the words of the totals, of the deques and of the frame table, and the pool's words
+-- what steps act on: the numbers, the words of the totals and of the deques, the frame table, and the pool's words
 pub record Core : Type 0 where
   pub head : Head
   pub totals : List ℕ
   pub deques : List ℕ
-  pub frames : List ℕ
+  pub frames : List Frame
   pub pool : List ℕ
 
 -- a core and the answer of the step that led to it
@@ -37,7 +37,7 @@ pub record StepResult : Type 0 where
   pub core : Core
   pub answer : Answer
 
-abbrev pub stepResult : Head → List ℕ → List ℕ → List ℕ → List ℕ → Answer → StepResult
+abbrev pub stepResult : Head → List ℕ → List ℕ → List Frame → List ℕ → Answer → StepResult
 stepResult h ts ds fs ws a = record { core = record { head = h; totals = ts; deques = ds; frames = fs; pool = ws }; answer = a }
 
 abbrev pub tableOf : Core → Table
@@ -161,7 +161,7 @@ foldOn c w r v = stepResult (c .head) (c .totals) (c .deques) (fold (tableOf c) 
 
 -- ---- a step
 
--- refusals 13, 15, 16 and 20, of the kind alone; "14 no longer occurs" (R-3). 20 stands "in the place of 15" (R-5). 16, by R-2: "when fewer nodes are free than that rest has", of the path to the splitter
+-- refusals 13, 15, 16 and 20, of the kind alone; 13, by R-6: as many frames live as the table has places, so that none is free; "14 no longer occurs" (R-3). 20 stands "in the place of 15" (R-5). 16, by R-2: "when fewer nodes are free than that rest has", of the path to the splitter
 abbrev pub kindTests : Core → Step → List (Bool × Refusal)
 kindTests c (Spawn w) = (eqb (c .head .numbers .«free_place») none, FramesFull) ∷ []
 kindTests c (Return w) = []

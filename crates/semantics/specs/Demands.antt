@@ -22,9 +22,10 @@ use Rattle.model.specs.Steps.{refusal, step, answer, afterWrite}
 use Rattle.model.specs.Run.{Entry, IsFrame, stepsOf, readsOf, oneWorkerSteps}
 use Rattle.model.specs.Views.{Folded, Views, viewsAtStart, viewsAfter, mainFolds}
 use Rattle.semantics.specs.Entries.{State, zeros, wholeNodes, numbersOf, totalsOf, isSound, chainFree}
-use Rattle.image.specs.Image.{imageBytes, nodesIn}
+use Rattle.frames.specs.Frames.{RecordWords}
+use Rattle.image.specs.Image.{nodesIn}
 use Rattle.semantics.specs.Answers.{wordsIn}
-use Rattle.semantics.specs.Images.{savedImage, stateIn, nodesZero, loadOn}
+use Rattle.semantics.specs.Images.{savedImage, savedBytes, stateIn, recordsZero, nodesZero, loadOn}
 use Rattle.semantics.specs.SoundMachine.{machineOf}
 use Rattle.semantics.specs.Calls.{Start, startResult, HostCall, outside, tape, StateAndPool, afterStart, outsideResult, tapeResult, saveResult, afterCall, recordsIn, answersIn, PoolAt, restIn, coreIn, Past, Run, Call, call, save, load, begun, runOf, saysAccepted, traceFrom}
 
@@ -59,7 +60,7 @@ fromStart = record { answers = λ P d k. plainAnswer (P .machine) d; after = λ 
 
 -- with as many nodes
 abbrev pub withNodes : Machine → ℕ → Machine
-withNodes M N = record { splitters = M .splitters; nodes = N; deques = M .deques; suspended = M .suspended }
+withNodes M N = record { splitters = M .splitters; nodes = N; places = M .places; deques = M .deques; suspended = M .suspended }
 
 -- with k free nodes
 abbrev pub withFree : Machine → ℕ → Machine
@@ -112,10 +113,13 @@ pub record Answers (S : Specification) (M : Plain) (N : ℕ) (r : Run) : Type 0 
   -- "words beyond the last whole node or beyond the recorded nodes are never changed"
   pub same-length : r .stateless ≡ false → length (r .now .pool) ≡ length (r .lent)
   pub beyond : r .stateless ≡ false → drop (4 * N) (r .now .pool) ≡ drop (4 * N) (r .lent)
+  -- R-6: the table "changed in its own memory" has as many places as at the beginning
+  pub same-places : length (r .now .state .frames) ≡ M .machine .places
 
--- the plain machine at a start: "the workers, the initial values and the number of whole nodes in the pool"
+-- the plain machine at a start: "the workers, the initial values and the number of whole nodes in the pool"; R-6: of the table, "at a start the plain
+-- machine is fed its length as well"
 abbrev pub plainStart : Start → Machine
-plainStart b = start (b .workers) (b .values) (wholeNodes (b .pool))
+plainStart b = start (b .workers) (b .values) (wholeNodes (b .pool)) (length (b .parts .frames))
 
 -- R-5: "Main begins with the identities."
 abbrev pub plainBegun : Start → Plain
@@ -164,7 +168,7 @@ SoundRun h calls = Answers fromSound (record { machine = plainOf h; views = view
 pub record StateWords (s : State) (ws : List ℕ) : Type 0 where
   pub numbers : Words (s .numbers)
   pub deques : Words (s .deques)
-  pub frames : Words (s .frames)
+  pub frames : RecordWords (s .frames)
   pub pool : Words ws
 
 abbrev pub StartWords : Start → Type 0
@@ -177,7 +181,7 @@ HostWords (tape bytes work answers) = Bytes bytes
 abbrev pub CallWords : Call → Type 0
 CallWords (call k) = HostWords k
 CallWords (save work target) = Unit {0}
-CallWords (load i parts ws work) = Words ws
+CallWords (load i ns ds ws work) = Words ws
 
 abbrev pub AllCallWords : List Call → Type 0
 AllCallWords [] = Unit {0}
@@ -185,14 +189,15 @@ AllCallWords (c ∷ cs) = CallWords c × AllCallWords cs
 
 -- ---- demand 1: what refused calls leave
 
--- "a refused start hands out a state of zeros"; refused by 99 it leaves the parts as they were
+-- "a refused start hands out a state of zeros" and leaves the table as it was; refused by 99 it leaves the parts as they were
 pub record RefusedStart (b : Start) : Type 0 where
   pub state : (startResult b .result ≡ 99) → startResult b .state ≡ b .parts
-  pub zero : startResult b .result < 99 → startResult b .state ≡ zeros
+  pub zero : startResult b .result < 99 → startResult b .state ≡ zeros (b .parts .frames)
   pub pool : startResult b .pool ≡ b .pool
 
--- "words beyond the last whole node .. are never changed"
+-- "words beyond the last whole node .. are never changed"; the table keeps its length
 pub record AcceptedStart (b : Start) : Type 0 where
+  pub same-places : length (startResult b .state .frames) ≡ length (b .parts .frames)
   pub same-length : length (startResult b .pool) ≡ length (b .pool)
   pub beyond : drop (4 * wholeNodes (b .pool)) (startResult b .pool) ≡ drop (4 * wholeNodes (b .pool)) (b .pool)
 
@@ -210,7 +215,7 @@ abbrev pub answersBefore : HostCall → List ℕ
 answersBefore (outside kind worker field value work) = []
 answersBefore (tape bytes work answers) = answers
 
--- "change nothing but the work slice"; "leave state and pool unchanged"
+-- "change nothing but the work slice"; "leave state and pool unchanged"; R-6: "A refused step leaves every frame record as it was."
 pub record RefusedCall (h : StateAndPool) (c : HostCall) : Type 0 where
   pub same : afterCall h c ≡ h
   pub same-answers : answersAfter h c ≡ answersBefore c
@@ -219,30 +224,32 @@ pub record RefusedCall (h : StateAndPool) (c : HostCall) : Type 0 where
 
 -- "Target bytes past the image never change."
 pub record AcceptedSave (h : StateAndPool) (work target : List ℕ) : Type 0 where
-  pub image : take (imageBytes (numbersOf (h .state) .nodes)) (saveResult h work target .target) ≡ savedImage (h .state) (h .pool)
+  pub image : take (savedBytes (h .state)) (saveResult h work target .target) ≡ savedImage (h .state) (h .pool)
   pub same-length : length (saveResult h work target .target) ≡ length target
-  pub past : drop (imageBytes (numbersOf (h .state) .nodes)) (saveResult h work target .target) ≡ drop (imageBytes (numbersOf (h .state) .nodes)) target
+  pub past : drop (savedBytes (h .state)) (saveResult h work target .target) ≡ drop (savedBytes (h .state)) target
 
 -- "Each changes nothing but the work slice as document 01 says, and 6 when reading leaves every whole node of the pool zero. A refused
--- reading hands out a state of zeros."
+-- reading hands out a state of zeros."; R-6: "6 when reading leaves every record of the table zero too"
 pub record RefusedLoad (s : State) (ws work image : List ℕ) : Type 0 where
   pub state : loadOn s ws work image .result ≡ 99 → loadOn s ws work image .state ≡ s
-  pub zero : loadOn s ws work image .result < 99 → loadOn s ws work image .state ≡ zeros
+  pub zero : loadOn s ws work image .result < 99 → loadOn s ws work image .result ≢ 6 → loadOn s ws work image .state ≡ zeros (s .frames)
+  pub zero-table : loadOn s ws work image .result ≡ 6 → loadOn s ws work image .state ≡ zeros (recordsZero (s .frames))
   pub pool : loadOn s ws work image .result ≢ 6 → loadOn s ws work image .pool ≡ ws
   pub zero-nodes : loadOn s ws work image .result ≡ 6 → loadOn s ws work image .pool ≡ nodesZero ws
 
--- what is read is what the image says; saved again it is the same image; the words past the recorded nodes stay
+-- what is read is what the image says; saved again it is the same image; the words past the recorded nodes stay, and the table's length
 pub record AcceptedLoad (s : State) (ws work image : List ℕ) : Type 0 where
   pub state : loadOn s ws work image .state ≡ stateIn image
   pub sound : isSound (stateIn image) (loadOn s ws work image .pool) ≡ true
   pub again : Bytes image → savedImage (loadOn s ws work image .state) (loadOn s ws work image .pool) ≡ image
+  pub same-places : length (loadOn s ws work image .state .frames) ≡ length (s .frames)
   pub same-length : length (loadOn s ws work image .pool) ≡ length ws
   pub beyond : drop (4 * nodesIn image) (loadOn s ws work image .pool) ≡ drop (4 * nodesIn image) ws
 
 -- "Reading back gives the same state": of the image that an accepted save has written, into any
--- parts that fit, a work slice that is long enough and a pool that holds the nodes, whatever they hold and however much longer it is
+-- parts that fit, with a table of as many places, a work slice that is long enough and a pool that holds the nodes, whatever they hold and however much longer it is
 abbrev pub writtenImage : StateAndPool → List ℕ → List ℕ → List ℕ
-writtenImage h work target = take (imageBytes (numbersOf (h .state) .nodes)) (saveResult h work target .target)
+writtenImage h work target = take (savedBytes (h .state)) (saveResult h work target .target)
 
 pub record ReadsBack (h : StateAndPool) (image : List ℕ) (s : State) (ws work : List ℕ) : Type 0 where
   pub accepted : loadOn s ws work image .result ≡ 0
@@ -317,8 +324,8 @@ oneByOne works i (s ∷ ss) = callOf s (works i) ∷ oneByOne works (suc i) ss
 abbrev pub oneWorkerCalls : Start → List Call → (ℕ → List ℕ) → List Call
 oneWorkerCalls b calls works = map call (oneByOne works 0 (oneWorkerSteps (traceOf b calls)))
 
--- "The one-worker run starts with one worker, the same initial values and a pool of as many whole nodes", over any parts that fit;
--- each step "with a work slice that is long enough"
+-- "The one-worker run starts with one worker, the same initial values and a pool of as many whole nodes", over any parts that fit; R-6: "The one-worker
+-- run has as many places": the table of these parts has, whatever it holds. Each step "with a work slice that is long enough"
 abbrev pub aloneStart : Start → State → List ℕ → Start
 aloneStart b parts ws = record { parts = parts; workers = 1; values = b .values; pool = ws }
 
@@ -352,6 +359,6 @@ pub record OneWorker (b : Start) (calls : List Call) (b₁ : Start) (cs₁ : Lis
   pub totals : runFrom b calls .stateless ≡ false → totalsOf (runFrom b calls .now .state) ≡ totalWords (mainFolds (traceOf b calls))
   pub totals-alone : totalsOf (runFrom b₁ cs₁ .now .state) ≡ totalWords (mainFolds (traceOf b calls))
 
--- for each lent parts that fit, each pool "of as many whole nodes" and each choice of long enough work slices
+-- for each lent parts that fit, with a table of as many places, each pool "of as many whole nodes" and each choice of long enough work slices
 abbrev pub Demand3 : Start → List Call → State → List ℕ → (ℕ → List ℕ) → Type 0
 Demand3 b calls parts ws works = OneWorker b calls (aloneStart b parts ws) (oneWorkerCalls b calls works)

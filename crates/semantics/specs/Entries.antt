@@ -1,13 +1,14 @@
 -- The entries: start, a step from outside, a tape. What each returns and leaves, on all inputs. Definitions only.
 use mathlib.Core.Bool.{Bool, cond, not, _||_, _&&_}
-use mathlib.Core.List.{List, [], _∷_, _++_}
+use mathlib.Core.List.{List, [], _∷_}
 use Prim.Native.Nat.{ℕ, zero, suc, _+_, _*_, _/_, _%_}
 use lib.ListN.{length, set, replicate}
 use lib.Dec.{eqb, ltb}
 use Rattle.sizes.specs.Sizes.{height, treeNodes}
 use Rattle.pool.specs.Pool.{initPool}
-use Rattle.frames.specs.Widths.{frameWords, dequeWords}
-use Rattle.frames.specs.Frames.{initFrames}
+use Rattle.frames.specs.Widths.{maxPlaces, dequeWords}
+use Rattle.frames.specs.declared.Frame.{Frame}
+use Rattle.frames.specs.Frames.{initFrames, firstFree}
 use Rattle.frames.specs.Deques.{initDeques}
 use Rattle.soundness.specs.declared.Numbers.{Numbers}
 use Rattle.soundness.specs.declared.Checked.{Checked}
@@ -19,24 +20,24 @@ use Rattle.model.specs.declared.Decoded.the-variants.{Valid, Invalid}
 use Rattle.model.specs.Record.{decodeAt}
 use Rattle.semantics.specs.declared.Head.{Head}
 use Rattle.semantics.specs.declared.Refusal.{Refusal}
-use Rattle.semantics.specs.declared.Refusal.the-variants.{Values, Workers, Nodes, Tape, Work, Record, Lengths}
+use Rattle.semantics.specs.declared.Refusal.the-variants.{Values, Workers, Places, Nodes, Tape, Work, Record, Lengths}
 use Rattle.semantics.specs.declared.Answer.{Answer}
 use Rattle.semantics.specs.declared.Answer.the-variants.{Refused}
 use Rattle.semantics.specs.Answers.{refusalNumber, answerWords, bothWords}
 use Rattle.semantics.specs.Core.{Core, StepResult, stepOn}
 
--- ---- the state that a host lends, in three parts of words, in the order of document 02's R-1
+-- ---- the state that a host lends, in three parts, in the order of document 02's R-1
 
--- "workers, splitters, nodes, first free node, first free frame place", R-5's "four totals"; "for each of 8 workers its deque length and 64 places for
--- its frames from the top; 64 frame records"
+-- the words of "workers, splitters, nodes, first free node, first free frame place", R-5's "four totals" and R-6's length; those of "each of 8 workers
+-- its deque length and .. places for its frames from the top"; R-6: "The host now lends the frame table, a slice of frame records"
 pub record State : Type 0 where
   pub numbers : List ℕ
   pub deques : List ℕ
-  pub frames : List ℕ
+  pub frames : List Frame
 
--- each part has its length; else the entries' own refusal, 99, comes before all others and nothing changes
+-- the parts of words have their lengths; else the entries' own refusal, 99, comes before all others and nothing changes. The table may have any length
 abbrev pub fits : State → Bool
-fits s = eqb (length (s .numbers)) numberCount && (eqb (length (s .deques)) dequeWords && eqb (length (s .frames)) frameWords)
+fits s = eqb (length (s .numbers)) numberCount && eqb (length (s .deques)) dequeWords
 
 abbrev pub numbersOf : State → Numbers
 numbersOf s = numbersIn (s .numbers)
@@ -52,7 +53,7 @@ abbrev pub coreOf : State → List ℕ → ℕ → Core
 coreOf s ws k = record { head = headOf (numbersOf s) k; totals = totalsOf s; deques = s .deques; frames = s .frames; pool = ws }
 
 abbrev pub stateOf : Core → State
-stateOf c = record { numbers = numberWords (c .head .numbers) ++ c .totals; deques = c .deques; frames = c .frames }
+stateOf c = record { numbers = numberWords (c .head .numbers) (c .totals); deques = c .deques; frames = c .frames }
 
 -- soundness of a state with the pool ws, the check's answer with the work slice ks, and the nodes on the free chain
 abbrev pub isSound : State → List ℕ → Bool
@@ -66,9 +67,9 @@ chainFree s ws = freeCount (numbersOf s) ws
 
 -- ---- start
 
--- "a refused start hands out a state of zeros"
-abbrev pub zeros : State
-zeros = record { numbers = replicate numberCount 0; deques = replicate dequeWords 0; frames = replicate frameWords 0 }
+-- "a refused start hands out a state of zeros"; fs is the frame table
+abbrev pub zeros : List Frame → State
+zeros fs = record { numbers = replicate numberCount 0; deques = replicate dequeWords 0; frames = fs }
 
 -- what a start leaves: the state and the pool's words; and its result, 0 or a refusal
 pub record StartResult : Type 0 where
@@ -80,33 +81,37 @@ pub record StartResult : Type 0 where
 abbrev pub wholeNodes : List ℕ → ℕ
 wholeNodes ws = length ws / 4
 
--- document 01's start: "Main, depth 0, is alone on worker 0's deque", in place 0
-abbrev pub firstNumbers : ℕ → ℕ → ℕ → ℕ → Numbers
-firstNumbers workers n nodes free = record { workers = workers; splitters = n; nodes = nodes; «free_node» = free; «free_place» = 1 }
+-- document 01's start: "Main, depth 0, is alone on worker 0's deque", in place 0; R-6: the table's length is recorded
+abbrev pub firstNumbers : ℕ → ℕ → ℕ → ℕ → ℕ → Numbers
+firstNumbers workers n nodes free places =
+    record { workers = workers; splitters = n; nodes = nodes; «free_node» = free; «free_place» = firstFree places; places = places }
 
-abbrev pub firstState : ℕ → ℕ → ℕ → ℕ → State
-firstState workers n nodes free =
-    record { numbers = numberWords (firstNumbers workers n nodes free) ++ replicate totalCount 0; deques = initDeques (replicate dequeWords 0); frames = initFrames (replicate frameWords 0) }
+-- in the lent table fs, whatever it holds
+abbrev pub firstState : ℕ → ℕ → ℕ → ℕ → List Frame → State
+firstState workers n nodes free fs =
+    record { numbers = numberWords (firstNumbers workers n nodes free (length fs)) (replicate totalCount 0); deques = initDeques (replicate dequeWords 0); frames = initFrames fs }
 
-abbrev pub startAccepted : ℕ → List ℕ → List ℕ → StartResult
-startAccepted workers vs ws =
+abbrev pub startAccepted : ℕ → List ℕ → List Frame → List ℕ → StartResult
+startAccepted workers vs fs ws =
     let p : List ℕ × ℕ = initPool ws (length vs) (wholeNodes ws) vs in
-    record { state = firstState workers (length vs) (wholeNodes ws) (p .1); pool = p .0; result = 0 }
+    record { state = firstState workers (length vs) (wholeNodes ws) (p .1) fs; pool = p .0; result = 0 }
 
-abbrev pub startRefused : Refusal → List ℕ → StartResult
-startRefused r ws = record { state = zeros; pool = ws; result = refusalNumber r }
+-- table and pool are left as they were
+abbrev pub startRefused : Refusal → List Frame → List ℕ → StartResult
+startRefused r fs ws = record { state = zeros fs; pool = ws; result = refusalNumber r }
 
--- 1. "there are 0 or more than 256 initial values" 2. "there are 0 or more than 8 workers" 3. "the pool has fewer than T(n) or
--- more than 16,384 nodes"
-unfoldable pub startWith : ℕ → List ℕ → List ℕ → StartResult
-startWith workers vs ws =
-    cond (eqb (length vs) 0 || ltb 256 (length vs)) (startRefused Values ws)
-    (cond (eqb workers 0 || ltb 8 workers) (startRefused Workers ws)
-    (cond (ltb (wholeNodes ws) (treeNodes (length vs)) || ltb 16384 (wholeNodes ws)) (startRefused Nodes ws) (startAccepted workers vs ws)))
+-- 1. "there are 0 or more than 256 initial values" 2. "there are 0 or more than 8 workers" 21. "the table has 0 or more than 256 places, after 2"
+-- 3. "the pool has fewer than T(n) or more than 16,384 nodes"
+unfoldable pub startWith : ℕ → List ℕ → List Frame → List ℕ → StartResult
+startWith workers vs fs ws =
+    cond (eqb (length vs) 0 || ltb 256 (length vs)) (startRefused Values fs ws)
+    (cond (eqb workers 0 || ltb 8 workers) (startRefused Workers fs ws)
+    (cond (eqb (length fs) 0 || ltb maxPlaces (length fs)) (startRefused Places fs ws)
+    (cond (ltb (wholeNodes ws) (treeNodes (length vs)) || ltb 16384 (wholeNodes ws)) (startRefused Nodes fs ws) (startAccepted workers vs fs ws))))
 
 -- the start, over the lent parts s, whatever they hold
 unfoldable pub startOn : State → ℕ → List ℕ → List ℕ → StartResult
-startOn s workers vs ws = cond (fits s) (startWith workers vs ws) (record { state = s; pool = ws; result = refusalNumber Lengths })
+startOn s workers vs ws = cond (fits s) (startWith workers vs (s .frames) ws) (record { state = s; pool = ws; result = refusalNumber Lengths })
 
 -- ---- a step from outside
 

@@ -1,15 +1,17 @@
--- Saving and reading an image: document 02's R-1, as R-3 and R-5 change it. What each returns and leaves, on all inputs. Definitions only.
-use mathlib.Core.Bool.{cond}
+-- Saving and reading an image: document 02's R-1, as R-3, R-5 and R-6 change it. What each returns and leaves, on all inputs. Definitions only.
+use mathlib.Core.Bool.{cond, _&&_}
 use mathlib.Core.List.{List, _++_}
 use Prim.Native.Nat.{ℕ, _*_}
 use lib.ListN.{length, drop, replicate}
-use lib.Dec.{leb, ltb}
+use lib.Dec.{eqb, leb, ltb}
+use Rattle.frames.specs.declared.Frame.{Frame}
+use Rattle.frames.specs.Frames.{freePlace}
 use Rattle.soundness.specs.declared.Checked.{Checked}
 use Rattle.soundness.specs.declared.Checked.the-variants.{NoRoom, Sound}
 use Rattle.soundness.specs.Soundness.{cleared}
 use Rattle.image.specs.declared.ImageCheck.{ImageCheck}
 use Rattle.image.specs.declared.ImageCheck.the-variants.{WrongLength, WrongCheck, Good}
-use Rattle.image.specs.Image.{imageOf, imageBytes, imageCheck, nodesIn, numberWordsIn, dequesIn, framesIn, poolIn, stored}
+use Rattle.image.specs.Image.{imageOf, imageBytes, imageCheck, nodesIn, placesIn, numberWordsIn, dequesIn, framesIn, poolIn, stored}
 use Rattle.semantics.specs.declared.Refusal.{Refusal}
 use Rattle.semantics.specs.declared.Refusal.the-variants.{Work, Lengths, Blocks, BlockCheck, Target}
 use Rattle.semantics.specs.Answers.{refusalNumber}
@@ -27,13 +29,17 @@ pub record SaveResult : Type 0 where
 abbrev pub savedImage : State → List ℕ → List ℕ
 savedImage s ws = imageOf (s .numbers) (s .deques) (s .frames) ws
 
+-- how many bytes that is; R-6: "images hold that many records and deque places"
+abbrev pub savedBytes : State → ℕ
+savedBytes s = imageBytes (numbersOf s .places) (numbersOf s .nodes)
+
 abbrev pub saveRefused : List ℕ → List ℕ → Refusal → SaveResult
 saveRefused work target r = record { work = work; target = target; result = refusalNumber r }
 
 -- "19, the target is too short, when saving, after 6"; "Target bytes past the image never change."
 abbrev pub saveSound : State → List ℕ → List ℕ → List ℕ → SaveResult
 saveSound s ws work target =
-    cond (ltb (length target) (imageBytes (numbersOf s .nodes))) (saveRefused work target Target) (record { work = work; target = stored (savedImage s ws) target; result = 0 })
+    cond (ltb (length target) (savedBytes s)) (saveRefused work target Target) (record { work = work; target = stored (savedImage s ws) target; result = 0 })
 
 abbrev pub saveChecked : Checked → State → List ℕ → List ℕ → List ℕ → SaveResult
 saveChecked NoRoom s ws work target = saveRefused work target Work
@@ -63,29 +69,34 @@ stateIn image = record { numbers = numberWordsIn image; deques = dequesIn image;
 abbrev pub poolWith : List ℕ → List ℕ → List ℕ
 poolWith ws image = cond (leb (4 * nodesIn image) (length ws)) (stored (poolIn image) ws) ws
 
--- "A refused reading hands out a state of zeros."
-abbrev pub loadRefused : List ℕ → List ℕ → Refusal → LoadResult
-loadRefused ws work r = record { state = zeros; pool = ws; work = work; result = refusalNumber r }
+-- "A refused reading hands out a state of zeros.", with the table fs
+abbrev pub loadRefused : List Frame → List ℕ → List ℕ → Refusal → LoadResult
+loadRefused fs ws work r = record { state = zeros fs; pool = ws; work = work; result = refusalNumber r }
+
+-- R-6: "6 when reading leaves every record of the table zero too"
+abbrev pub recordsZero : List Frame → List Frame
+recordsZero fs = replicate (length fs) (freePlace 0)
 
 -- "6 when reading leaves every whole node of the pool zero"
 abbrev pub nodesZero : List ℕ → List ℕ
 nodesZero ws = replicate (4 * wholeNodes ws) 0 ++ drop (4 * wholeNodes ws) ws
 
--- the soundness of what was read; "the recorded node count is .. at most what the lent pool holds"
-abbrev pub loadRead : List ℕ → List ℕ → List ℕ → LoadResult
-loadRead ws work image =
-    cond (isSound (stateIn image) (poolWith ws image)) (record { state = stateIn image; pool = poolWith ws image; work = work; result = 0 })
-    (loadRefused (nodesZero ws) work Refusal.Unsound)
+-- the soundness of what was read; "the recorded node count is .. at most what the lent pool holds"; R-6: "a recorded length not 1 to 256, or a table of
+-- another length, is unsound": the lent table fs takes the image's records
+abbrev pub loadRead : List Frame → List ℕ → List ℕ → List ℕ → LoadResult
+loadRead fs ws work image =
+    cond (eqb (length fs) (placesIn image) && isSound (stateIn image) (poolWith ws image)) (record { state = stateIn image; pool = poolWith ws image; work = work; result = 0 })
+    (loadRefused (recordsZero fs) (nodesZero ws) work Refusal.Unsound)
 
 -- "reading checks 17, 18, 5, 6"
-abbrev pub loadChecked : ImageCheck → List ℕ → List ℕ → List ℕ → LoadResult
-loadChecked WrongLength ws work image = loadRefused ws work Blocks
-loadChecked WrongCheck ws work image = loadRefused ws work BlockCheck
-loadChecked Good ws work image = cond (ltb (length work) (nodesIn image)) (loadRefused ws work Work) (loadRead ws (cleared (nodesIn image) work) image)
+abbrev pub loadChecked : ImageCheck → List Frame → List ℕ → List ℕ → List ℕ → LoadResult
+loadChecked WrongLength fs ws work image = loadRefused fs ws work Blocks
+loadChecked WrongCheck fs ws work image = loadRefused fs ws work BlockCheck
+loadChecked Good fs ws work image = cond (ltb (length work) (nodesIn image)) (loadRefused fs ws work Work) (loadRead fs ws (cleared (nodesIn image) work) image)
 
-unfoldable pub loadWith : List ℕ → List ℕ → List ℕ → LoadResult
-loadWith ws work image = loadChecked (imageCheck image) ws work image
+unfoldable pub loadWith : List Frame → List ℕ → List ℕ → List ℕ → LoadResult
+loadWith fs ws work image = loadChecked (imageCheck image) fs ws work image
 
 -- over the lent parts s, whatever they hold
 unfoldable pub loadOn : State → List ℕ → List ℕ → List ℕ → LoadResult
-loadOn s ws work image = cond (fits s) (loadWith ws work image) (record { state = s; pool = ws; work = work; result = refusalNumber Lengths })
+loadOn s ws work image = cond (fits s) (loadWith (s .frames) ws work image) (record { state = s; pool = ws; work = work; result = refusalNumber Lengths })

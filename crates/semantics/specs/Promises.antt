@@ -1,39 +1,39 @@
--- What the entries promise: result, state, pool, work slice and answer words, each by an equation with a definition of Entries.
+-- What the entries promise: result, state with its table, pool, work slice and answer words, each by an equation with a definition of Entries.
 -- Definitions only.
 use mathlib.Core.Path.{_≡_}
 use mathlib.Core.List.{List}
 use Prim.Native.Nat.{ℕ}
 use lib.ListN.{length}
-use Rattle.frames.specs.Widths.{frameWords, dequeWords}
+use Rattle.frames.specs.Widths.{dequeWords}
+use Rattle.frames.specs.declared.Frame.{Frame}
 use Rattle.soundness.specs.Numbers.{numberCount}
 use Rattle.semantics.specs.Entries.{State, StartResult, OutsideResult, TapeResult}
 use Rattle.semantics.specs.Images.{SaveResult, LoadResult}
 
 -- the state in three lent parts
-abbrev pub parts : List ℕ → List ℕ → List ℕ → State
+abbrev pub parts : List ℕ → List ℕ → List Frame → State
 parts ns ds fs = record { numbers = ns; deques = ds; frames = fs }
 
--- each part has its length
+-- the parts of words have their lengths
 pub record Fits (s : State) : Type 0 where
   pub numbers : length (s .numbers) ≡ numberCount
   pub deques : length (s .deques) ≡ dequeWords
-  pub frames : length (s .frames) ≡ frameWords
 
 -- the parts ns, ds and fs, the pool ws and the result r are those of the start's result o
-pub record IsStart (o : StartResult) (ns ds fs ws : List ℕ) (r : ℕ) : Type 0 where
+pub record IsStart (o : StartResult) (ns ds : List ℕ) (fs : List Frame) (ws : List ℕ) (r : ℕ) : Type 0 where
   pub result : r ≡ o .result
   pub state : parts ns ds fs ≡ o .state
   pub pool : ws ≡ o .pool
 
 -- the same of a step from outside, with the work slice ks
-pub record IsOutside (o : OutsideResult) (ns ds fs ws ks : List ℕ) (r : ℕ) : Type 0 where
+pub record IsOutside (o : OutsideResult) (ns ds : List ℕ) (fs : List Frame) (ws ks : List ℕ) (r : ℕ) : Type 0 where
   pub result : r ≡ o .result
   pub state : parts ns ds fs ≡ o .state
   pub pool : ws ≡ o .pool
   pub work : ks ≡ o .work
 
 -- the same of a tape, with the answer words rs
-pub record IsTape (o : TapeResult) (ns ds fs ws ks rs : List ℕ) (r : ℕ) : Type 0 where
+pub record IsTape (o : TapeResult) (ns ds : List ℕ) (fs : List Frame) (ws ks rs : List ℕ) (r : ℕ) : Type 0 where
   pub result : r ≡ o .result
   pub state : parts ns ds fs ≡ o .state
   pub pool : ws ≡ o .pool
@@ -47,7 +47,7 @@ pub record IsSave (o : SaveResult) (ks ts : List ℕ) (r : ℕ) : Type 0 where
   pub target : ts ≡ o .target
 
 -- the same of a reading, with the parts, the pool and the work slice
-pub record IsLoad (o : LoadResult) (ns ds fs ws ks : List ℕ) (r : ℕ) : Type 0 where
+pub record IsLoad (o : LoadResult) (ns ds : List ℕ) (fs : List Frame) (ws ks : List ℕ) (r : ℕ) : Type 0 where
   pub result : r ≡ o .result
   pub state : parts ns ds fs ≡ o .state
   pub pool : ws ≡ o .pool

@@ -9,7 +9,7 @@ use Rattle.words.specs.Basics.{none}
 use Rattle.sizes.specs.Sizes.{height}
 use Rattle.pool.specs.Pool.{firstShared, rest}
 use Rattle.pool.specs.Links.{Link, LinksIn, PathIn, WriteIn}
-use Rattle.frames.specs.Widths.{maxWorkers, places, frameWords, dequePlaces, dequeWords}
+use Rattle.frames.specs.Widths.{maxWorkers, maxPlaces, dequePlaces, dequeWords}
 use Rattle.frames.specs.Deques.{size, place, bottom}
 use Rattle.frames.specs.Frames.{frameAt}
 use Rattle.frames.specs.Steps.{endsToo}
@@ -25,7 +25,6 @@ pub record Kept (c : Core) : Type 0 where
   pub height-is : c .head .height ≡ height (c .head .numbers .splitters)
   pub long-totals : length (c .totals) ≡ totalCount
   pub long-deques : length (c .deques) ≡ dequeWords
-  pub long-frames : length (c .frames) ≡ frameWords
 
 -- the frame at place p can end: its tree can be released; its parent, if it has one, is at another place and has a live child
 pub record EndsAt (c : Core) (p : ℕ) : Type 0 where
@@ -38,7 +37,7 @@ pub record EndsAt (c : Core) (p : ℕ) : Type 0 where
 abbrev pub EndsUpward : ℕ → Core → ℕ → Type 0
 EndsUpward zero c q = Unit
 EndsUpward (suc d) c q =
-    (q < places)
+    (q < length (c .frames))
     × (endsToo (frameAt (c .frames) q) ≡ true → EndsAt c q × (frameAt (c .frames) q .depth ≡ d) × EndsUpward d (endAt c q) (frameAt (c .frames) q .parent))
 
 -- what a sound core gives: each index of the step's code has its range
@@ -48,17 +47,18 @@ pub record Ready (c : Core) : Type 0 where
   pub low : c .head .height ≤ 8
   pub nodes-positive : 0 < c .head .numbers .nodes
   pub long-deques : length (c .deques) ≡ dequeWords
-  pub long-frames : length (c .frames) ≡ frameWords
+  pub table : length (c .frames) ≡ c .head .numbers .places
+  pub few-places : length (c .frames) ≤ maxPlaces
   pub links : LinksIn (c .head .numbers .nodes) (c .pool)
   pub free-node : Link (c .head .numbers .nodes) (c .head .numbers .«free_node»)
-  pub free-place : (c .head .numbers .«free_place» < places) ⊎ (c .head .numbers .«free_place» ≡ none)
+  pub free-place : (c .head .numbers .«free_place» < length (c .frames)) ⊎ (c .head .numbers .«free_place» ≡ none)
   pub sizes : (w : ℕ) → w < maxWorkers → size (c .deques) w ≤ dequePlaces
   pub absent : (w : ℕ) → w < maxWorkers → c .head .numbers .workers ≤ w → size (c .deques) w ≡ 0
-  pub held : (w k : ℕ) → w < maxWorkers → k < size (c .deques) w → place (c .deques) w k < places
-  -- a place is free, so fewer than 64 frames live
-  pub room : (w : ℕ) → w < maxWorkers → c .head .numbers .«free_place» < places → size (c .deques) w < dequePlaces
+  pub held : (w k : ℕ) → w < maxWorkers → k < size (c .deques) w → place (c .deques) w k < length (c .frames)
+  -- a place is free, so fewer frames live than there are places
+  pub room : (w : ℕ) → w < maxWorkers → c .head .numbers .«free_place» < length (c .frames) → size (c .deques) w < dequePlaces
   pub root : (w : ℕ) → w < maxWorkers → 0 < size (c .deques) w → actingIn c w .root < c .head .numbers .nodes
-  pub parent : (w : ℕ) → w < maxWorkers → 0 < size (c .deques) w → ParentOf (bottom (c .deques) w) (actingIn c w)
+  pub parent : (w : ℕ) → w < maxWorkers → 0 < size (c .deques) w → ParentOf (c .frames) (bottom (c .deques) w) (actingIn c w)
   pub counts : (w : ℕ) → w < maxWorkers → 0 < size (c .deques) w → ParentCounts (c .frames) (actingIn c w)
   -- a bottom frame that is not the top has its parent above it
   pub below : (w : ℕ) → w < maxWorkers → 1 < size (c .deques) w → actingIn c w .parent ≢ none

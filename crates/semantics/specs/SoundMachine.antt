@@ -3,11 +3,12 @@
 use mathlib.Core.Bool.{cond, _&&_}
 use mathlib.Core.List.{List, [], _∷_, _++_, map}
 use Prim.Native.Nat.{ℕ, zero, suc, _+_, _-_}
+use lib.ListN.{length}
 use lib.Dec.{eqb}
 use Rattle.words.specs.Basics.{joined, range}
 use Rattle.sizes.specs.Sizes.{height}
 use Rattle.pool.specs.Pool.{readAt}
-use Rattle.frames.specs.Widths.{places}
+use Rattle.frames.specs.declared.Frame.{Frame as FrameRecord}
 use Rattle.frames.specs.Deques.{dequeList}
 use Rattle.frames.specs.Frames.{frameAt}
 use Rattle.soundness.specs.declared.Numbers.{Numbers}
@@ -17,11 +18,11 @@ use Rattle.model.specs.Machine.{Name, Frame, Machine, inUse}
 -- ---- names: a frame has its parent's name with its own place after it, counted from 1
 
 -- of the frame of depth d at place p
-unfoldable pub nameFrom : ℕ → List ℕ → ℕ → Name
+unfoldable pub nameFrom : ℕ → List FrameRecord → ℕ → Name
 nameFrom zero fs p = []
 nameFrom (suc d) fs p = suc p ∷ nameFrom d fs (frameAt fs p .parent)
 
-abbrev pub nameOf : List ℕ → ℕ → Name
+abbrev pub nameOf : List FrameRecord → ℕ → Name
 nameOf fs p = nameFrom (frameAt fs p .depth) fs p
 
 -- back to the place; Main is at m
@@ -29,38 +30,39 @@ abbrev pub placeOf : ℕ → Name → ℕ
 placeOf m [] = m
 placeOf m (k ∷ r) = k - 1
 
--- ---- frames: no history, and 64 spawns, so that the children to come have names that are not there; R-3: "1 on a frame waiting so"
+-- ---- frames: no history, and as many spawns as there are places, so that the children to come have names that are not there; R-3: "1 on a frame waiting so"
 
-abbrev pub frameOf : ℕ → List ℕ → List ℕ → ℕ → Frame
-frameOf n fs ws p = record { name = nameOf fs p; values = map (readAt (height n) ws (frameAt fs p .root)) (range n 0); history = []; spawned = places; returning = eqb (frameAt fs p .returning) 1 }
+abbrev pub frameOf : ℕ → List FrameRecord → List ℕ → ℕ → Frame
+frameOf n fs ws p = record { name = nameOf fs p; values = map (readAt (height n) ws (frameAt fs p .root)) (range n 0); history = []; spawned = length fs; returning = eqb (frameAt fs p .returning) 1 }
 
-abbrev pub framesOf : ℕ → List ℕ → List ℕ → List ℕ → List Frame
+abbrev pub framesOf : ℕ → List FrameRecord → List ℕ → List ℕ → List Frame
 framesOf n fs ws ps = map (frameOf n fs ws) ps
 
 -- ---- places
 
 -- the live frames below place c that stand in no deque
-unfoldable pub waitingBelow : List ℕ → List ℕ → ℕ → List ℕ
+unfoldable pub waitingBelow : List ℕ → List FrameRecord → ℕ → List ℕ
 waitingBelow ds fs zero = []
 waitingBelow ds fs (suc c) = waitingBelow ds fs c ++ cond (lives fs c && eqb (inDeques ds c) 0) (c ∷ []) []
 
-abbrev pub waitingPlaces : List ℕ → List ℕ → List ℕ
-waitingPlaces ds fs = waitingBelow ds fs places
+abbrev pub waitingPlaces : List ℕ → List FrameRecord → List ℕ
+waitingPlaces ds fs = waitingBelow ds fs (length fs)
 
 -- the workers' deques
 abbrev pub runningPlaces : ℕ → List ℕ → List (List ℕ)
 runningPlaces workers ds = map (dequeList ds) (range workers 0)
 
-abbrev pub livePlaces : ℕ → List ℕ → List ℕ → List ℕ
+abbrev pub livePlaces : ℕ → List ℕ → List FrameRecord → List ℕ
 livePlaces workers ds fs = waitingPlaces ds fs ++ joined (runningPlaces workers ds)
 
--- ---- the machine; its pool has the nodes in use and those on the free chain
+-- ---- the machine; its pool has the nodes in use and those on the free chain, and it has as many places as the table
 
-abbrev pub machineOf : Numbers → List ℕ → List ℕ → List ℕ → Machine
+abbrev pub machineOf : Numbers → List ℕ → List FrameRecord → List ℕ → Machine
 machineOf s ds fs ws =
     record {
       splitters = s .splitters;
       nodes = inUse (s .splitters) (framesOf (s .splitters) fs ws (livePlaces (s .workers) ds fs)) + freeCount s ws;
+      places = length fs;
       deques = map (framesOf (s .splitters) fs ws) (runningPlaces (s .workers) ds);
       suspended = framesOf (s .splitters) fs ws (waitingPlaces ds fs);
     }

@@ -61,6 +61,8 @@ pub mod ToSoundDeques
 pub mod ToSoundFrames
 pub mod ToSound
 -- ---- runs
+-- the words of the numbers, and back
+pub mod NumberWords
 -- a state whose parts have their lengths; every entry leaves one
 pub mod Fitting
 pub mod Lengths

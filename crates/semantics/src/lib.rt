@@ -25,7 +25,7 @@ pub enum Done {
     Folded,
 }
 
-// Document 01's refusals, 1 to 16 without 14, which no longer occurs (R-3), document 02's, 17 to 20, and the entries' own, 99.
+// Document 01's refusals, 1 to 16 without 14, which no longer occurs (R-3), document 02's, 17 to 21, and the entries' own, 99.
 pub enum Refusal {
     Values,
     Workers,
@@ -48,6 +48,8 @@ pub enum Refusal {
     Target,
     // 20: no such reducer
     NoReducer,
+    // 21: the places of the frame table, at a start
+    Places,
     // a lent part of the state has not the length that it must have
     Lengths,
 }

@@ -1,5 +1,5 @@
--- Demand 3 is not empty: its hypotheses hold of document 01's example, entered as one tape, of one in which frames wait in their return (R-3), and of one
--- with folds (R-5), whose totals it gives.
+-- Demand 3 is not empty: its hypotheses hold of document 01's example, entered as one tape, of one in which frames wait in their return (R-3), of one
+-- with folds (R-5), whose totals it gives, and of one in a table that is full (R-6).
 use mathlib.Core.Path.{_≡_, refl, sym, ap, _∙_, subst}
 use mathlib.Core.Bool.{true, cond}
 use mathlib.Core.List.{List·Memᴰ as In, List·Memᴰ·head as here, List·Memᴰ·tail as there}
@@ -14,8 +14,8 @@ use Rattle.words.specs.Tests.{both, lt-of}
 use Rattle.sizes.specs.Sizes.{height, width, treeNodes, bit}
 use Rattle.pool.specs.Pool.{refcount, left, right, value, setNode, setRefcount, side, child, sibling, leafOf, readAt, retain, release, pathNode, copyPath, setValue, setLink, renew, firstShared, rest, writeFrom, write, initLevel, initInner, initLeaves, initFree, initPool}
 use Rattle.reducers.specs.Reducers.{foldView}
-use Rattle.frames.specs.Frames.{frameAt, setFrame}
-use Rattle.frames.specs.Deques.{size, setSize, place, setPlace, bottom, top, push, pop, shiftUp, dropTop}
+use Rattle.frames.specs.Frames.{frameAt, setFrame, initPlaces, initFrames}
+use Rattle.frames.specs.Deques.{size, setSize, place, setPlace, bottom, top, push, pop, shiftUp, dropTop, initDeques}
 use Rattle.frames.specs.Siblings.{relinkFrom, eldestTo, firstFrom, nextAfter}
 use Rattle.frames.specs.Steps.{addChild, spawn, removeFrame, endFrame, goOn, wentOn, steal, sync, synced, fold}
 use Rattle.soundness.specs.Soundness.{cleared}
@@ -28,7 +28,7 @@ use Rattle.semantics.specs.Entries.{totalsOf, startOn, startWith, recordsOf, re
 use Rattle.semantics.specs.Calls.{Start, startResult, tape, Exchange, Call, call, exchangesFrom, answersIn, traceFrom}
 use Rattle.semantics.specs.Demands.{plainStart, runFrom, traceOf, MainReturned, oneWorkerCalls, aloneStart, totalWords, Demand3}
 use Rattle.semantics.specs.Theory.StartedRuns.{demand3}
-use Rattle.starred.specs.Tapes.{spawns, returns, steals, syncs, reads, writes, folds, foldsMap, anyParts, anyPool, five}
+use Rattle.starred.specs.Tapes.{spawns, returns, steals, syncs, reads, writes, folds, foldsMap, partsWith, anyParts, anyPool, five}
 use Rattle.starred.specs.Quick.{quickTape, tape-quick}
 
 -- "2 workers, 5 splitters, 20 nodes, values 10 20 30 40 50"
@@ -51,7 +51,7 @@ answersOf bytes o = answersIn (cond (eqb (o .result) 0) (exchangesFrom (o .answe
 
 -- without the check
 quickly : answersOf exampleBytes (quickTape example exampleBytes (replicate 20 5) (replicate 18 9)) ≡ (101, 1) ∷ (103, 0) ∷ (106, 5) ∷ (105, 50) ∷ (104, 1) ∷ (10, 0) ∷ (102, 2) ∷ (105, 99) ∷ (102, 3) ∷ []
-unfolding startOn startWith runOn recordsFrom recordOf decodeAt spawnOn endAt upward endBottom returnOn stealOn syncOn readOn writeOn foldOn stepOn addChild spawn removeFrame endFrame goOn wentOn steal sync synced fold relinkFrom eldestTo firstFrom nextAfter foldView shiftUp dropTop pop top bottom side child sibling bit leafOf readAt retain release setRefcount pathNode copyPath setValue setLink renew firstShared rest writeFrom write initPool initFree initLeaves initInner initLevel setNode height width treeNodes push setSize setPlace size place setFrame frameAt cleared refcount left right value
+unfolding startOn startWith runOn recordsFrom recordOf decodeAt spawnOn endAt upward endBottom returnOn stealOn syncOn readOn writeOn foldOn stepOn addChild spawn removeFrame endFrame goOn wentOn steal sync synced fold relinkFrom eldestTo firstFrom nextAfter foldView shiftUp dropTop pop top bottom side child sibling bit leafOf readAt retain release setRefcount pathNode copyPath setValue setLink renew firstShared rest writeFrom write initPool initFree initLeaves initInner initLevel setNode height width treeNodes initDeques initFrames initPlaces push setSize setPlace size place setFrame frameAt cleared refcount left right value
 quickly = refl
 
 -- the lines of the example
@@ -73,7 +73,7 @@ words-are xs e = below-of 4294967296 xs (omega arith) e
 
 pub demand3-example : Demand3 example exampleCalls anyParts (anyPool 20) (λ j. replicate 20 0)
 unfolding exampleCalls
-demand3-example = demand3 example exampleCalls anyParts (anyPool 20) (λ j. replicate 20 0) started (words-are five refl, words-are (anyPool 20) refl) (below-of 256 exampleBytes (omega arith) refl, tt) main-returned refl refl (λ j. omega arith)
+demand3-example = demand3 example exampleCalls anyParts (anyPool 20) (λ j. replicate 20 0) started (words-are five refl, words-are (anyPool 20) refl) (below-of 256 exampleBytes (omega arith) refl, tt) main-returned refl refl refl (λ j. omega arith)
 
 -- ---- R-3
 
@@ -89,7 +89,7 @@ waitingCalls = call (tape waitingBytes (replicate 20 5) (replicate 24 9)) ∷ []
 waiting-quickly :
     answersOf waitingBytes (quickTape example waitingBytes (replicate 20 5) (replicate 24 9))
     ≡ (101, 1) ∷ (103, 0) ∷ (106, 5) ∷ (102, 4) ∷ (106, 5) ∷ (101, 2) ∷ (103, 1) ∷ (105, 61) ∷ (102, 4) ∷ (105, 61) ∷ (102, 3) ∷ (9, 0) ∷ []
-unfolding startOn startWith runOn recordsFrom recordOf decodeAt spawnOn endAt upward endBottom returnOn stealOn syncOn readOn writeOn foldOn stepOn addChild spawn removeFrame endFrame goOn wentOn steal sync synced fold relinkFrom eldestTo firstFrom nextAfter foldView shiftUp dropTop pop top bottom side child sibling bit leafOf readAt retain release setRefcount pathNode copyPath setValue setLink renew firstShared rest writeFrom write initPool initFree initLeaves initInner initLevel setNode height width treeNodes push setSize setPlace size place setFrame frameAt cleared refcount left right value
+unfolding startOn startWith runOn recordsFrom recordOf decodeAt spawnOn endAt upward endBottom returnOn stealOn syncOn readOn writeOn foldOn stepOn addChild spawn removeFrame endFrame goOn wentOn steal sync synced fold relinkFrom eldestTo firstFrom nextAfter foldView shiftUp dropTop pop top bottom side child sibling bit leafOf readAt retain release setRefcount pathNode copyPath setValue setLink renew firstShared rest writeFrom write initPool initFree initLeaves initInner initLevel setNode height width treeNodes initDeques initFrames initPlaces push setSize setPlace size place setFrame frameAt cleared refcount left right value
 waiting-quickly = refl
 
 pub waiting-answered :
@@ -104,7 +104,7 @@ waiting-returned = subst (In (102, 3)) (sym waiting-answered) (there (there (the
 
 pub demand3-waiting : Demand3 example waitingCalls anyParts (anyPool 20) (λ j. replicate 20 0)
 unfolding waitingCalls
-demand3-waiting = demand3 example waitingCalls anyParts (anyPool 20) (λ j. replicate 20 0) started (words-are five refl, words-are (anyPool 20) refl) (below-of 256 waitingBytes (omega arith) refl, tt) waiting-returned refl refl (λ j. omega arith)
+demand3-waiting = demand3 example waitingCalls anyParts (anyPool 20) (λ j. replicate 20 0) started (words-are five refl, words-are (anyPool 20) refl) (below-of 256 waitingBytes (omega arith) refl, tt) waiting-returned refl refl refl (λ j. omega arith)
 
 -- ---- R-5
 
@@ -134,7 +134,7 @@ abbrev pub foldsInOrder : List Folded
 foldsInOrder = (2, 131073) ∷ (0, 10) ∷ (2, 327682) ∷ (1, 4) ∷ (2, 196608) ∷ (1, 9) ∷ (2, 458753) ∷ (2, 720899) ∷ (2, 851968) ∷ (0, 20) ∷ (2, 65541) ∷ []
 
 folding-quickly : mainFolds (traceFrom (plainStart foldingStart) (foldedIn (quickTape foldingStart foldingBytes (replicate 1 5) (replicate 42 9)))) ≡ foldsInOrder
-unfolding refusal plainStep startOn startWith runOn recordsFrom recordOf decodeAt spawnOn endAt upward endBottom returnOn stealOn syncOn readOn writeOn foldOn stepOn addChild spawn removeFrame endFrame goOn wentOn steal sync synced fold relinkFrom eldestTo firstFrom nextAfter foldView shiftUp dropTop pop top bottom side child sibling bit leafOf readAt retain release setRefcount pathNode copyPath setValue setLink renew firstShared rest writeFrom write initPool initFree initLeaves initInner initLevel setNode height width treeNodes push setSize setPlace size place setFrame frameAt cleared refcount left right value
+unfolding refusal plainStep startOn startWith runOn recordsFrom recordOf decodeAt spawnOn endAt upward endBottom returnOn stealOn syncOn readOn writeOn foldOn stepOn addChild spawn removeFrame endFrame goOn wentOn steal sync synced fold relinkFrom eldestTo firstFrom nextAfter foldView shiftUp dropTop pop top bottom side child sibling bit leafOf readAt retain release setRefcount pathNode copyPath setValue setLink renew firstShared rest writeFrom write initPool initFree initLeaves initInner initLevel setNode height width treeNodes initDeques initFrames initPlaces push setSize setPlace size place setFrame frameAt cleared refcount left right value
 folding-quickly = refl
 
 folding-order : mainFolds (traceOf foldingStart foldingCalls) ≡ foldsInOrder
@@ -144,7 +144,7 @@ folding-order = ap (λ o. mainFolds (traceFrom (plainStart foldingStart) (folded
 -- the last answer
 folding-answers : answersIn (foldedIn (quickTape foldingStart foldingBytes (replicate 1 5) (replicate 42 9))) ≡
     (107, 0) ∷ (107, 0) ∷ (101, 1) ∷ (103, 0) ∷ (107, 0) ∷ (107, 0) ∷ (101, 1) ∷ (103, 0) ∷ (107, 0) ∷ (107, 0) ∷ (101, 2) ∷ (107, 0) ∷ (107, 0) ∷ (107, 0) ∷ (102, 1) ∷ (103, 1) ∷ (107, 0) ∷ (107, 0) ∷ (102, 4) ∷ (102, 1) ∷ (102, 3) ∷ []
-unfolding startOn startWith runOn recordsFrom recordOf decodeAt spawnOn endAt upward endBottom returnOn stealOn syncOn readOn writeOn foldOn stepOn addChild spawn removeFrame endFrame goOn wentOn steal sync synced fold relinkFrom eldestTo firstFrom nextAfter foldView shiftUp dropTop pop top bottom side child sibling bit leafOf readAt retain release setRefcount pathNode copyPath setValue setLink renew firstShared rest writeFrom write initPool initFree initLeaves initInner initLevel setNode height width treeNodes push setSize setPlace size place setFrame frameAt cleared refcount left right value
+unfolding startOn startWith runOn recordsFrom recordOf decodeAt spawnOn endAt upward endBottom returnOn stealOn syncOn readOn writeOn foldOn stepOn addChild spawn removeFrame endFrame goOn wentOn steal sync synced fold relinkFrom eldestTo firstFrom nextAfter foldView shiftUp dropTop pop top bottom side child sibling bit leafOf readAt retain release setRefcount pathNode copyPath setValue setLink renew firstShared rest writeFrom write initPool initFree initLeaves initInner initLevel setNode height width treeNodes initDeques initFrames initPlaces push setSize setPlace size place setFrame frameAt cleared refcount left right value
 folding-answers = refl
 
 folding-returned : MainReturned foldingStart foldingCalls
@@ -155,7 +155,7 @@ folding-returned =
 
 pub demand3-folding : Demand3 foldingStart foldingCalls anyParts (anyPool 1) (λ j. replicate 1 0)
 unfolding foldingCalls
-demand3-folding = demand3 foldingStart foldingCalls anyParts (anyPool 1) (λ j. replicate 1 0) folding-started (words-are (7 ∷ []) refl, words-are (anyPool 1) refl) (below-of 256 foldingBytes (omega arith) refl, tt) folding-returned refl refl (λ j. omega arith)
+demand3-folding = demand3 foldingStart foldingCalls anyParts (anyPool 1) (λ j. replicate 1 0) folding-started (words-are (7 ∷ []) refl, words-are (anyPool 1) refl) (below-of 256 foldingBytes (omega arith) refl, tt) folding-returned refl refl refl (λ j. omega arith)
 
 -- by demand 3, in this run and in the one-worker run: 10 + 20, the minimum of 4 and 9, and the maps one after the other, 30,030x + 21,208
 pub folding-totals : totalsOf (runFrom foldingStart foldingCalls .now .state) ≡ 30 ∷ 4 ∷ 30030 ∷ 21208 ∷ []
@@ -165,3 +165,37 @@ folding-totals = demand3-folding .totals refl ∙ ap totalWords folding-order
 pub folding-totals-alone :
     totalsOf (runFrom (aloneStart foldingStart anyParts (anyPool 1)) (oneWorkerCalls foldingStart foldingCalls (λ j. replicate 1 0)) .now .state) ≡ 30 ∷ 4 ∷ 30030 ∷ 21208 ∷ []
 folding-totals-alone = demand3-folding .totals-alone ∙ ap totalWords folding-order
+
+-- ---- R-6
+
+-- 2 workers, one splitter, two nodes, a table of 2 places
+abbrev pub fullStart : Start
+fullStart = record { parts = partsWith 2; workers = 2; values = 7 ∷ []; pool = anyPool 2 }
+
+-- worker 0 spawns, and spawns in vain; 1 steals Main, which spawns in vain; 0 writes 61 and returns; Main spawns, and this child reads and returns; Main reads
+-- and returns
+abbrev pub fullBytes : List ℕ
+fullBytes = joined (spawns 0 ∷ spawns 0 ∷ steals 1 0 ∷ spawns 1 ∷ writes 0 0 61 ∷ returns 0 ∷ spawns 1 ∷ reads 1 0 ∷ returns 1 ∷ reads 1 0 ∷ returns 1 ∷ [])
+
+pub fullCalls : List Call
+fullCalls = call (tape fullBytes (replicate 2 5) (replicate 22 9)) ∷ []
+
+full-started : startResult fullStart .result ≡ 0
+unfolding startOn startWith treeNodes height width
+full-started = refl
+
+full-quickly : answersOf fullBytes (quickTape fullStart fullBytes (replicate 2 5) (replicate 22 9)) ≡ (101, 1) ∷ (13, 0) ∷ (103, 0) ∷ (13, 0) ∷ (106, 0) ∷ (102, 1) ∷ (101, 1) ∷ (105, 7) ∷ (102, 0) ∷ (105, 7) ∷ (102, 3) ∷ []
+unfolding startOn startWith runOn recordsFrom recordOf decodeAt spawnOn endAt upward endBottom returnOn stealOn syncOn readOn writeOn foldOn stepOn addChild spawn removeFrame endFrame goOn wentOn steal sync synced fold relinkFrom eldestTo firstFrom nextAfter foldView shiftUp dropTop pop top bottom side child sibling bit leafOf readAt retain release setRefcount pathNode copyPath setValue setLink renew firstShared rest writeFrom write initPool initFree initLeaves initInner initLevel setNode height width treeNodes initDeques initFrames initPlaces push setSize setPlace size place setFrame frameAt cleared refcount left right value
+full-quickly = refl
+
+pub full-answered : answersIn (runFrom fullStart fullCalls .past .exchanges) ≡ (101, 1) ∷ (13, 0) ∷ (103, 0) ∷ (13, 0) ∷ (106, 0) ∷ (102, 1) ∷ (101, 1) ∷ (105, 7) ∷ (102, 0) ∷ (105, 7) ∷ (102, 3) ∷ []
+unfolding fullCalls
+full-answered = ap (answersOf fullBytes) (tape-quick fullStart fullBytes (replicate 2 5) (replicate 22 9)) ∙ full-quickly
+
+full-returned : MainReturned fullStart fullCalls
+full-returned = subst (In (102, 3)) (sym full-answered) (there (there (there (there (there (there (there (there (there (there (here refl)))))))))))
+
+-- "The one-worker run has as many places."
+pub demand3-full : Demand3 fullStart fullCalls (partsWith 2) (anyPool 2) (λ j. replicate 2 0)
+unfolding fullCalls
+demand3-full = demand3 fullStart fullCalls (partsWith 2) (anyPool 2) (λ j. replicate 2 0) full-started (words-are (7 ∷ []) refl, words-are (anyPool 2) refl) (below-of 256 fullBytes (omega arith) refl, tt) full-returned refl refl refl (λ j. omega arith)

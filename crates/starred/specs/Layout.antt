@@ -1,5 +1,5 @@
--- The words of the state and of the pool after short runs: how nodes and frame places are numbered, taken and freed, and what views and links of
--- siblings the frame records hold (R-5).
+-- The words of the state, its frame table and the words of the pool after short runs: how nodes and frame places are numbered, taken and freed, what
+-- views and links of siblings the frame records hold (R-5), and how short tables fill (R-6).
 use mathlib.Core.Path.{_≡_, refl, _∙_}
 use mathlib.Core.List.{List, [], _∷_, _++_, map}
 use Prim.Native.Nat.{ℕ, _+_, _*_}
@@ -8,16 +8,17 @@ use Rattle.words.specs.Basics.{none, joined}
 use Rattle.sizes.specs.Sizes.{height, width, treeNodes, bit}
 use Rattle.pool.specs.Pool.{refcount, left, right, value, setNode, setRefcount, side, child, sibling, leafOf, readAt, retain, release, pathNode, copyPath, setValue, setLink, renew, firstShared, rest, writeFrom, write, initLevel, initInner, initLeaves, initFree, initPool}
 use Rattle.reducers.specs.Reducers.{foldView}
-use Rattle.frames.specs.Frames.{frameAt, setFrame}
-use Rattle.frames.specs.Deques.{size, setSize, place, setPlace, bottom, top, push, pop, shiftUp, dropTop}
+use Rattle.frames.specs.declared.Frame.{Frame}
+use Rattle.frames.specs.Frames.{frameAt, setFrame, freePlace as free, initPlaces, initFrames}
+use Rattle.frames.specs.Deques.{size, setSize, place, setPlace, bottom, top, push, pop, shiftUp, dropTop, initDeques}
 use Rattle.frames.specs.Siblings.{relinkFrom, eldestTo, firstFrom, nextAfter}
 use Rattle.frames.specs.Steps.{addChild, spawn, removeFrame, endFrame, goOn, wentOn, steal, sync, synced, fold}
 use Rattle.soundness.specs.Soundness.{cleared}
 use Rattle.model.specs.Record.{recordOf, decodeAt}
 use Rattle.semantics.specs.Core.{spawnOn, endAt, upward, endBottom, returnOn, stealOn, syncOn, readOn, writeOn, foldOn, stepOn}
-use Rattle.semantics.specs.Entries.{State, wholeNodes, startOn, startWith, recordsFrom, runOn, TapeResult}
+use Rattle.semantics.specs.Entries.{State, wholeNodes, startOn, startWith, runOn, TapeResult}
 use Rattle.semantics.specs.Calls.{Start, afterStart, tapeResult}
-use Rattle.starred.specs.Tapes.{spawns, returns, steals, syncs, writes, folds, foldsMap, anyParts, dequesOf, deques, identities, frame, live, waiting, free, frames}
+use Rattle.starred.specs.Tapes.{spawns, returns, steals, syncs, writes, folds, foldsMap, partsWith, dequesOf, deques, identities, frame, live, waiting, framesIn, frames}
 use Rattle.starred.specs.Quick.{quickTape, tape-quick}
 
 -- a start, and the records of a tape
@@ -44,8 +45,13 @@ replies r = replicate (2 * length (r .records)) 9
 abbrev after : Run → After
 after r = afterOf (tapeResult (afterStart (r .start)) (joined (r .records)) (works r) (replies r))
 
+abbrev runsIn : ℕ → ℕ → List ℕ → ℕ → List (List ℕ) → Run
+runsIn places workers values nodes records =
+    record { start = record { parts = partsWith places; workers = workers; values = values; pool = replicate (4 * nodes + 3) 7 }; records = records }
+
+-- a table of 64 places
 abbrev runs : ℕ → List ℕ → ℕ → List (List ℕ) → Run
-runs workers values nodes records = record { start = record { parts = anyParts; workers = workers; values = values; pool = replicate (4 * nodes + 3) 7 }; records = records }
+runs workers values nodes records = runsIn 64 workers values nodes records
 
 -- ---- nodes
 
@@ -63,20 +69,26 @@ freeNode next = 0 ∷ next ∷ 0 ∷ 0 ∷ []
 abbrev nodes : List (List ℕ) → List ℕ
 nodes ns = joined ns ++ (7 ∷ 7 ∷ 7 ∷ [])
 
-abbrev leaves : List ℕ → (numbers deques frames pool : List ℕ) → After
+abbrev leaves : List ℕ → (numbers deques : List ℕ) → List Frame → (pool : List ℕ) → After
 leaves as′ ks ds fs ws = record { answers = as′; state = record { numbers = ks; deques = ds; frames = fs }; pool = ws }
 
--- numbers: workers, splitters, nodes, first free node, first free place, and R-5's totals
+-- numbers: workers, splitters, nodes, first free node, first free place, R-5's totals, and R-6's length of the table
+abbrev numbersIn : ℕ → List ℕ → ℕ → ℕ → ℕ → ℕ → ℕ → List ℕ
+numbersIn places totals workers n N node place′ = workers ∷ n ∷ N ∷ node ∷ place′ ∷ (totals ++ (places ∷ []))
+
 abbrev numbersWith : List ℕ → ℕ → ℕ → ℕ → ℕ → ℕ → List ℕ
-numbersWith totals workers n N node place′ = workers ∷ n ∷ N ∷ node ∷ place′ ∷ totals
+numbersWith totals workers n N node place′ = numbersIn 64 totals workers n N node place′
 
 -- "zero while Main lives"
+abbrev zeroTotals : List ℕ
+zeroTotals = 0 ∷ 0 ∷ 0 ∷ 0 ∷ []
+
 abbrev numbers : ℕ → ℕ → ℕ → ℕ → ℕ → List ℕ
-numbers workers n N node place′ = numbersWith (0 ∷ 0 ∷ 0 ∷ 0 ∷ []) workers n N node place′
+numbers workers n N node place′ = numbersWith zeroTotals workers n N node place′
 
 -- ---- frame records of R-5, in which no frame is suspended and every root is node 0
 
-abbrev viewed : ℕ → ℕ → ℕ → List ℕ → ℕ → List ℕ
+abbrev viewed : ℕ → ℕ → ℕ → List ℕ → ℕ → Frame
 viewed parent depth outstanding view younger = frame parent depth outstanding 0 0 0 view younger
 
 -- a view in which only a map was folded
@@ -311,11 +323,35 @@ layoutTable =
       runs 1 (5 ∷ []) 1 (foldsMap 0 2 1 ∷ folds 0 0 10 ∷ folds 0 1 9 ∷ returns 0 ∷ []),
       leaves (107 ∷ 0 ∷ 107 ∷ 0 ∷ 107 ∷ 0 ∷ 102 ∷ 3 ∷ []) (numbersWith (10 ∷ 9 ∷ 2 ∷ 1 ∷ []) 1 1 1 0 0) (deques [] []) (frames (free 1 ∷ [])) (nodes (freeNode none ∷ [])),
     )
+    -- R-6: "a slice of frame records, changed in its own memory". One place: none is free while Main lives, and Main's is then
+    ∷ (runsIn 1 1 (5 ∷ []) 1 [], leaves [] (numbersIn 1 zeroTotals 1 1 1 none none) (deques (0 ∷ []) []) (live none 0 0 0 0 ∷ []) (nodes (leaf 1 5 ∷ [])))
+    ∷ (runsIn 1 1 (5 ∷ []) 1 (returns 0 ∷ []), leaves (102 ∷ 3 ∷ []) (numbersIn 1 identities 1 1 1 0 0) (deques [] []) (free none ∷ []) (nodes (freeNode none ∷ [])))
+    -- two: a child takes the last one, and frees it
+    ∷ (runsIn 2 1 (5 ∷ []) 1 [], leaves [] (numbersIn 2 zeroTotals 1 1 1 none 1) (deques (0 ∷ []) []) (live none 0 0 0 0 ∷ free none ∷ []) (nodes (leaf 1 5 ∷ [])))
+    ∷ (
+      runsIn 2 1 (5 ∷ []) 1 (spawns 0 ∷ []),
+      leaves (101 ∷ 1 ∷ []) (numbersIn 2 zeroTotals 1 1 1 none none) (deques (0 ∷ 1 ∷ []) []) (live none 0 1 0 0 ∷ live 0 1 0 0 0 ∷ []) (nodes (leaf 2 5 ∷ [])),
+    )
+    ∷ (
+      runsIn 2 1 (5 ∷ []) 1 (spawns 0 ∷ returns 0 ∷ []),
+      leaves (101 ∷ 1 ∷ 102 ∷ 0 ∷ []) (numbersIn 2 zeroTotals 1 1 1 none 1) (deques (0 ∷ []) []) (live none 0 0 0 0 ∷ free none ∷ []) (nodes (leaf 1 5 ∷ [])),
+    )
+    -- the spawn that 13 refuses leaves "every frame record as it was"
+    ∷ (
+      runsIn 2 1 (5 ∷ []) 1 (folds 0 0 4 ∷ spawns 0 ∷ folds 0 1 6 ∷ spawns 0 ∷ []),
+      leaves (107 ∷ 0 ∷ 101 ∷ 1 ∷ 107 ∷ 0 ∷ 13 ∷ 0 ∷ []) (numbersIn 2 zeroTotals 1 1 1 none none) (deques (0 ∷ 1 ∷ []) []) (viewed none 0 1 identities none ∷ viewed 0 1 0 (4 ∷ 6 ∷ 1 ∷ 0 ∷ []) none ∷ [])
+          (nodes (leaf 2 5 ∷ [])),
+    )
+    -- 256: the last place links to none
+    ∷ (
+      runsIn 256 1 (5 ∷ []) 1 (spawns 0 ∷ []),
+      leaves (101 ∷ 1 ∷ []) (numbersIn 256 zeroTotals 1 1 1 none 2) (deques (0 ∷ 1 ∷ []) []) (framesIn 256 (live none 0 1 0 0 ∷ live 0 1 0 0 0 ∷ [])) (nodes (leaf 2 5 ∷ [])),
+    )
     ∷ []
 
 -- without the check
 quickly : map (λ (row : Run × After). afterOf (quickTape (row .0 .start) (joined (row .0 .records)) (works (row .0)) (replies (row .0)))) layoutTable ≡ map (λ (row : Run × After). row .1) layoutTable
-unfolding layoutTable startOn startWith runOn recordsFrom recordOf decodeAt spawnOn endAt upward endBottom returnOn stealOn syncOn readOn writeOn foldOn stepOn addChild spawn removeFrame endFrame goOn wentOn steal sync synced fold relinkFrom eldestTo firstFrom nextAfter foldView shiftUp dropTop pop top bottom side child sibling bit leafOf readAt retain release setRefcount pathNode copyPath setValue setLink renew firstShared rest writeFrom write initPool initFree initLeaves initInner initLevel setNode height width treeNodes push setSize setPlace size place setFrame frameAt cleared refcount left right value
+unfolding layoutTable startOn startWith runOn recordOf decodeAt spawnOn endAt upward endBottom returnOn stealOn syncOn readOn writeOn foldOn stepOn addChild spawn removeFrame endFrame goOn wentOn steal sync synced fold relinkFrom eldestTo firstFrom nextAfter foldView shiftUp dropTop pop top bottom side child sibling bit leafOf readAt retain release setRefcount pathNode copyPath setValue setLink renew firstShared rest writeFrom write initPool initFree initLeaves initInner initLevel setNode height width treeNodes initDeques initFrames initPlaces push setSize setPlace size place setFrame frameAt cleared refcount left right value
 quickly = refl
 
 pub layout : map (λ (row : Run × After). after (row .0)) layoutTable ≡ map (λ (row : Run × After). row .1) layoutTable

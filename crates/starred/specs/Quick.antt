@@ -1,26 +1,27 @@
--- The entries without the check of soundness, and a start whose tables are written out, for computed tables: where the state is
--- known to be sound, as after a start (demand 2), the check need not be computed to know what the entries do.
-use mathlib.Core.Path.{_≡_, refl, sym, ap, _∙_}
+-- The entries in fewer steps, for computed tables. Where the state is known to be sound, as after a start (demand 2), the check need not be
+-- computed to know what they do.
+use mathlib.Core.Path.{_≡_, refl, sym, ap, ap₂, _∙_}
 use mathlib.Core.Bool.{Bool, true, cond}
 use mathlib.Core.Logic.{inl, inr}
-use mathlib.Core.List.{List, [], _∷_, _++_, map}
-use Prim.Native.Nat.{ℕ}
-use lib.ListN.{length, replicate}
-use lib.Dec.{eqb, leb}
+use mathlib.Core.List.{List, [], _∷_, map}
+use Prim.Native.Nat.{ℕ, zero, suc, _+_, _/_}
+use native.Mathlib.Omega.{arith}
+use lib.ListN.{length, getD, drop, length-drop}
+use lib.Seq.{getD-drop, drop-drop}
+use lib.Dec.{eqb, leb, ltb}
 use borrow.Author.Tests.{eqb-true}
-use Rattle.words.specs.Basics.{none}
-use Rattle.words.specs.Tests.{decided}
-use Rattle.pool.specs.Pool.{initPool}
-use Rattle.frames.specs.Widths.{frameWords, dequeWords}
-use Rattle.frames.specs.Frames.{setFrame, initPlaces, initFrames}
-use Rattle.frames.specs.Deques.{size, setSize, setPlace, push, initDeques}
+use Rattle.words.specs.Tests.{decided, ltb-same}
 use Rattle.soundness.specs.declared.Checked.{Checked}
 use Rattle.soundness.specs.declared.Checked.the-variants.{NoRoom, Sound}
-use Rattle.soundness.specs.Numbers.{numberWords, totalCount}
-use Rattle.soundness.specs.Soundness.{checked}
-use Rattle.model.specs.Record.{recordOf}
-use Rattle.semantics.specs.declared.Refusal.the-variants.{Tape, Lengths}
-use Rattle.semantics.specs.Entries.{fits, numbersOf, isSound, chainFree, StartResult, firstNumbers, wholeNodes, OutsideResult, outsideRefused, outsideChecked, outsideWith, outsideOn, TapeResult, tapeRefused, tapeChecked, unfitTape, tapeWith, tapeOn}
+use Rattle.soundness.specs.Soundness.{allOf, checked, cleared}
+use Rattle.soundness.specs.Example.{restQuick, rest-quick, freeQuick, free-quick, sentencesBy}
+use Rattle.soundness.specs.Theory.Sentences.{sound-is-all}
+use Rattle.model.specs.declared.Decoded.{Decoded}
+use Rattle.model.specs.declared.Decoded.the-variants.{Invalid}
+use Rattle.model.specs.Record.{little, recordOf, decodeAt}
+use Rattle.semantics.specs.declared.Refusal.{Refusal}
+use Rattle.semantics.specs.declared.Refusal.the-variants.{Tape, Work, Lengths}
+use Rattle.semantics.specs.Entries.{State, fits, numbersOf, totalsOf, coreOf, isSound, chainFree, OutsideResult, outsideRefused, outsideChecked, outsideWith, outsideOn, recordsFrom, recordsResult, runOn, TapeResult, tapeDone, tapeRefused, tapeChecked, unfitTape, tapeWith, tapeOn}
 use Rattle.semantics.specs.Calls.{Start, startResult, HostCall, outside, tape, StateAndPool, afterStart, outsideResult, tapeResult, afterCall, Run, call, begun, runAfter, runOf}
 use Rattle.semantics.specs.Promises.{Fits}
 use Rattle.semantics.specs.Theory.Fitting.{fits-true}
@@ -28,17 +29,66 @@ use Rattle.semantics.specs.Theory.Lengths.{start-fits, call-fits}
 use Rattle.semantics.specs.Theory.Starts.{started-fit}
 use Rattle.semantics.specs.Theory.SoundRuns.{sound-call}
 use Rattle.semantics.specs.Theory.StartedRuns.{plain-sound}
-use Rattle.starred.specs.Tapes.{deques, frames, live}
+
+-- ---- the records of a tape, each decoded at the end of the one before it
+
+abbrev recordsQuick : ℕ → List ℕ → List Decoded
+recordsQuick zero bytes = []
+recordsQuick (suc k) bytes = decodeAt bytes 0 ∷ recordsQuick k (drop 8 bytes)
+
+decode-drop : (bytes : List ℕ) (at : ℕ) → decodeAt bytes at ≡ decodeAt (drop at bytes) 0
+unfolding decodeAt
+decode-drop bytes at i =
+    cond (long i) Invalid (recordOf (kind i) (byte 1 i) (little (byte 2 i ∷ byte 3 i ∷ [])) (little (byte 4 i ∷ byte 5 i ∷ byte 6 i ∷ byte 7 i ∷ [])))
+  where
+    byte : (j : ℕ) → getD bytes (at + j) 0 ≡ getD (drop at bytes) j 0
+    byte j = sym (getD-drop at bytes j 0)
+
+    kind : getD bytes at 0 ≡ getD (drop at bytes) 0 0
+    kind = ap (λ z. getD bytes z 0) (omega arith) ∙ byte 0
+
+    long : ltb (length bytes) (at + 8) ≡ ltb (length (drop at bytes)) 8
+    long = ltb-same {a = length bytes} {b = at + 8} {c = length (drop at bytes)} {d = 8} (λ a. omega (arith, length-drop at bytes), λ a. omega (arith, length-drop at bytes))
+
+records-quick : (k : ℕ) (bytes : List ℕ) (at : ℕ) → recordsFrom k bytes at ≡ recordsQuick k (drop at bytes)
+unfolding recordsFrom
+records-quick zero bytes at = refl
+records-quick (suc k) bytes at = ap₂ (λ d ds. d ∷ ds) (decode-drop bytes at) (records-quick k bytes (at + 8) ∙ ap (recordsQuick k) (sym (drop-drop 8 at bytes)))
+
+-- ---- soundness, with the sentences on the deques' places and on the free ones in fewer steps
+
+abbrev soundWith : Bool → Bool → State → List ℕ → Bool
+soundWith rest free s ws = allOf (sentencesBy rest free (numbersOf s) (totalsOf s) (s .deques) (s .frames) ws)
+
+abbrev pub soundQuick : State → List ℕ → Bool
+soundQuick s ws = soundWith (restQuick (s .deques) (s .frames)) (freeQuick (s .frames) (numbersOf s .«free_place»)) s ws
+
+pub sound-quick : (s : State) (ws : List ℕ) → isSound s ws ≡ soundQuick s ws
+sound-quick s ws =
+    sound-is-all (numbersOf s) (totalsOf s) (s .deques) (s .frames) ws
+    ∙ (λ i. soundWith (rest-quick (s .deques) (s .frames) i) (free-quick (s .frames) (numbersOf s .«free_place») i) s ws)
 
 -- ---- the check's answer, given whether state and pool are sound
 
-abbrev checkedBy : Bool → StateAndPool → List ℕ → Checked
+abbrev pub checkedBy : Bool → StateAndPool → List ℕ → Checked
 checkedBy b h work = cond (leb (numbersOf (h .state) .nodes) (length work)) (cond b (Sound (chainFree (h .state) (h .pool))) Checked.Unsound) NoRoom
+
+-- what a tape of these records does then
+abbrev tapeAfter : Checked → StateAndPool → List Decoded → (work answers : List ℕ) → TapeResult
+tapeAfter NoRoom h ds work answers = tapeRefused (h .state) (h .pool) work answers Work
+tapeAfter Checked.Unsound h ds work answers = tapeRefused (h .state) (h .pool) (cleared (numbersOf (h .state) .nodes) work) answers Refusal.Unsound
+tapeAfter (Sound k) h ds work answers = tapeDone (runOn (recordsResult (coreOf (h .state) (h .pool) k) answers) 0 ds) (cleared (numbersOf (h .state) .nodes) work)
+
+tape-after : (k : Checked) (h : StateAndPool) (bytes work answers : List ℕ)
+    → tapeChecked k (h .state) (h .pool) work bytes answers ≡ tapeAfter k h (recordsQuick (length bytes / 8) bytes) work answers
+tape-after NoRoom h bytes work answers = refl
+tape-after Checked.Unsound h bytes work answers = refl
+tape-after (Sound k) h bytes work answers = ap (λ ds. tapeAfter (Sound k) h ds work answers) (records-quick (length bytes / 8) bytes 0)
 
 abbrev pub tapeBy : Bool → StateAndPool → (bytes work answers : List ℕ) → TapeResult
 tapeBy b h bytes work answers =
     cond (fits (h .state))
-    (cond (unfitTape bytes answers) (tapeRefused (h .state) (h .pool) work answers Tape) (tapeChecked (checkedBy b h work) (h .state) (h .pool) work bytes answers))
+    (cond (unfitTape bytes answers) (tapeRefused (h .state) (h .pool) work answers Tape) (tapeAfter (checkedBy b h work) h (recordsQuick (length bytes / 8) bytes) work answers))
     (tapeRefused (h .state) (h .pool) work answers Lengths)
 
 abbrev pub outsideBy : Bool → StateAndPool → (kind worker field value : ℕ) (work : List ℕ) → OutsideResult
@@ -47,35 +97,15 @@ outsideBy b h kind worker field value work =
 
 pub tape-by : {b : Bool} (h : StateAndPool) (bytes work answers : List ℕ) → isSound (h .state) (h .pool) ≡ b → tapeResult h bytes work answers ≡ tapeBy b h bytes work answers
 unfolding tapeOn tapeWith checked
-tape-by h bytes work answers e = ap (λ v. tapeBy v h bytes work answers) e
+tape-by h bytes work answers e =
+    ap (λ o. cond (fits (h .state)) (cond (unfitTape bytes answers) (tapeRefused (h .state) (h .pool) work answers Tape) o) (tapeRefused (h .state) (h .pool) work answers Lengths))
+    (tape-after (checkedBy (isSound (h .state) (h .pool)) h work) h bytes work answers)
+    ∙ ap (λ v. tapeBy v h bytes work answers) e
 
 pub outside-by : {b : Bool} (h : StateAndPool) (kind worker field value : ℕ) (work : List ℕ) → isSound (h .state) (h .pool) ≡ b
     → outsideResult h kind worker field value work ≡ outsideBy b h kind worker field value work
 unfolding outsideOn outsideWith checked
 outside-by h kind worker field value work e = ap (λ v. outsideBy v h kind worker field value work) e
-
--- ---- a start
-
-first-deques : initDeques (replicate dequeWords 0) ≡ deques (0 ∷ []) []
-unfolding initDeques push setSize setPlace size
-first-deques = refl
-
-first-frames : initFrames (replicate frameWords 0) ≡ frames (live none 0 0 0 0 ∷ [])
-unfolding initFrames initPlaces setFrame
-first-frames = refl
-
-abbrev startWords : Start → List ℕ → List ℕ → StateAndPool
-startWords b ds fs =
-    let p : List ℕ × ℕ = initPool (b .pool) (length (b .values)) (wholeNodes (b .pool)) (b .values) in
-    record { state = record { numbers = numberWords (firstNumbers (b .workers) (length (b .values)) (wholeNodes (b .pool)) (p .1)) ++ replicate totalCount 0; deques = ds; frames = fs }; pool = p .0 }
-
-abbrev pub quickStart : Start → StateAndPool
-quickStart b = startWords b (deques (0 ∷ []) []) (frames (live none 0 0 0 0 ∷ []))
-
-pub start-quick : (b : Start) → startResult b .result ≡ 0 → afterStart b ≡ quickStart b
-start-quick b e =
-    ap (λ (o : StartResult). record { state = o .state; pool = o .pool }) (started-fit (b .parts) (b .workers) (b .values) (b .pool) e .result)
-    ∙ (λ i. startWords b (first-deques i) (first-frames i))
 
 -- ---- steps and tapes, one after the other
 
@@ -93,13 +123,13 @@ after-sound b cs e = ap (λ (h : StateAndPool). isSound (h .state) (h .pool)) (s
 -- ---- a tape after a start
 
 abbrev pub quickTape : Start → (bytes work answers : List ℕ) → TapeResult
-quickTape b bytes work answers = cond (eqb (startResult b .result) 0) (tapeBy true (quickStart b) bytes work answers) (tapeResult (afterStart b) bytes work answers)
+quickTape b bytes work answers = cond (eqb (startResult b .result) 0) (tapeBy true (afterStart b) bytes work answers) (tapeResult (afterStart b) bytes work answers)
 
 pub tape-quick : (b : Start) (bytes work answers : List ℕ) → tapeResult (afterStart b) bytes work answers ≡ quickTape b bytes work answers
 tape-quick b bytes work answers = elim (decided (eqb (startResult b .result) 0)) [
   | inl e ↦
       let a = eqb-true (startResult b .result) 0 e in
-      rw e (tape-by (afterStart b) bytes work answers (after-sound b [] a) ∙ ap (λ h. tapeBy true h bytes work answers) (start-quick b a))
+      rw e (tape-by (afterStart b) bytes work answers (after-sound b [] a))
   | inr e ↦ rw e refl
 ]
 
@@ -122,7 +152,7 @@ calls-quick [] h f e = refl
 calls-quick (c ∷ cs) h f e =
     calls-quick cs (afterCall h c) (call-fits h c f) (sound-call h c (fits-true (h .state) f) e) ∙ ap (λ g. quickCalls g cs) (call-quick h c e)
 
-pub after-quick : (b : Start) (cs : List HostCall) → startResult b .result ≡ 0 → afterCalls (afterStart b) cs ≡ quickCalls (quickStart b) cs
+pub after-quick : (b : Start) (cs : List HostCall) → startResult b .result ≡ 0 → afterCalls (afterStart b) cs ≡ quickCalls (afterStart b) cs
 after-quick b cs e =
     let A = started-fit (b .parts) (b .workers) (b .values) (b .pool) e in
-    calls-quick cs (afterStart b) (start-fits (b .parts) (A .lengths) (b .workers) (b .values) (b .pool)) (after-sound b [] e) ∙ ap (λ g. quickCalls g cs) (start-quick b e)
+    calls-quick cs (afterStart b) (start-fits (b .parts) (A .lengths) (b .workers) (b .values) (b .pool)) (after-sound b [] e)

@@ -1,28 +1,28 @@
--- Refusals 1 to 6, and the entries' own, 99: each at its condition and beside its nearest accepted neighbour, the order in which
--- they are checked, and what they leave. Two tables, a theorem each: starts, and tapes and steps. (1 to 3 are a start's, 4 a tape's, 5
+-- Refusals 1 to 6, R-6's 21, and the entries' own, 99: each at its condition and beside its nearest accepted neighbour, the order in which
+-- they are checked, and what they leave. Two tables, a theorem each: starts, and tapes and steps. (1, 2, 21 and 3 are a start's, 4 a tape's, 5
 -- and 6 of tapes and steps.)
-use mathlib.Core.Path.{_≡_, refl, sym, ap, _∙_}
+use mathlib.Core.Path.{_≡_, refl, ap, _∙_}
 use mathlib.Core.Bool.{Bool, true, false, cond, _&&_}
 use mathlib.Core.List.{List, [], _∷_, _++_, map}
-use Prim.Native.Nat.{ℕ, _+_, _*_}
+use Prim.Native.Nat.{ℕ, zero, suc, _*_}
 use lib.ListN.{set, replicate}
 use lib.Dec.{eqb}
 use Rattle.words.specs.Basics.{none, same, δ, count}
 use Rattle.sizes.specs.Sizes.{height, width, treeNodes}
 use Rattle.pool.specs.Pool.{refcount, left, right, value, setNode, leafOf, readAt, initLevel, initInner, initLeaves, initFree, initPool}
-use Rattle.frames.specs.Frames.{frameAt}
-use Rattle.frames.specs.Widths.{recordWords}
+use Rattle.frames.specs.declared.Frame.{Frame}
+use Rattle.frames.specs.Frames.{frameAt, setFrame, wordsOf as wordsOfRecord, recordIn, freePlace, initPlaces, initFrames}
 use Rattle.frames.specs.Siblings.{chained}
-use Rattle.frames.specs.Deques.{size, place, bottom}
-use Rattle.soundness.specs.Soundness.{oneMain, parentsLive, countsRight, placedOnce, returningRight, linksRight, totalsRight, holdLive, absentEmpty, restZero, linked, onlyBelow, placesFree, framesSound, treeAt, nodesAt, poolSound, numbersSound, rootsBelow, sound, cleared}
+use Rattle.frames.specs.Deques.{size, setSize, place, setPlace, bottom, push, initDeques}
+use Rattle.soundness.specs.Soundness.{oneMain, parentsLive, countsRight, placedOnce, returningRight, linksRight, totalsRight, holdLive, absentEmpty, linked, onlyBelow, treeAt, nodesAt, rootsBelow, cleared}
 use Rattle.model.specs.Record.{recordOf, decodeAt}
 use Rattle.semantics.specs.Core.{readOn, stepOn}
 use Rattle.semantics.specs.Answers.{wordsIn}
-use Rattle.semantics.specs.Entries.{State, zeros, isSound, StartResult, startOn, startWith, OutsideResult, recordsFrom, runOn, TapeResult}
+use Rattle.semantics.specs.Entries.{State, zeros, isSound, StartResult, startOn, startWith, OutsideResult, runOn, TapeResult}
 use Rattle.semantics.specs.Calls.{Start, startResult, HostCall, outside, tape, StateAndPool, afterStart, afterCall}
 use Rattle.semantics.specs.Demands.{answersAfter, callResult, workAfter}
-use Rattle.starred.specs.Tapes.{reads, anyParts, wordsOf, deques, identities, frame, free, frames}
-use Rattle.starred.specs.Quick.{tapeBy, outsideBy, tape-by, outside-by, quickStart, start-quick, after-sound}
+use Rattle.starred.specs.Tapes.{reads, anyTable, partsWith, anyParts, recordsOf, wordsOf, deques, identities, frame, live, rising, framesIn}
+use Rattle.starred.specs.Quick.{tapeBy, outsideBy, tape-by, outside-by, soundQuick, sound-quick, after-sound}
 
 -- ---- starts
 
@@ -39,9 +39,13 @@ lends parts workers n words k = record { start = record { parts = parts; workers
 abbrev starts : ℕ → ℕ → ℕ → ℕ → StartRow
 starts workers n nodes k = lends anyParts workers n (4 * nodes) k
 
--- "a refused start hands out a state of zeros" and changes nothing else; refused by 99 it leaves the parts too
+-- "a refused start hands out a state of zeros" and changes nothing else, neither table nor pool; refused by 99 it leaves the parts too
 abbrev leftBy : Start → StartResult → Bool
-leftBy b o = same (wordsOf (o .state)) (cond (eqb (o .result) 99) (wordsOf (b .parts)) (replicate 1297 0)) && same (o .pool) (b .pool)
+leftBy b o =
+    same (o .state .numbers) (cond (eqb (o .result) 99) (b .parts .numbers) (replicate 10 0))
+    && same (o .state .deques) (cond (eqb (o .result) 99) (b .parts .deques) (replicate 2056 0))
+    && same (recordsOf (o .state .frames)) (recordsOf (b .parts .frames))
+    && same (o .pool) (b .pool)
 
 -- the result; and whether it left what it must, if it was refused
 abbrev startSeen : Start → ℕ × Bool
@@ -50,9 +54,9 @@ startSeen b =
     let left-right : Bool = leftBy b o in
     (o .result, cond (eqb (o .result) 0) true left-right)
 
--- parts with one word more or less
+-- parts with one word more or less, and a table of so many places
 abbrev sizes : ℕ → ℕ → ℕ → State
-sizes ns ds fs = record { numbers = replicate ns 3; deques = replicate ds 3; frames = replicate fs 3 }
+sizes ns ds ps = record { numbers = replicate ns 3; deques = replicate ds 3; frames = anyTable ps }
 
 pub startTable : List StartRow
 startTable =
@@ -76,24 +80,42 @@ startTable =
     -- ".. or more than 16,384 nodes."
     ∷ starts 1 1 16384 0
     ∷ starts 1 1 16385 3
-    -- 1 before 2 and 3; 2 before 3
+    -- R-6: "21, at a start, the table has 0 or more than 256 places .."
+    ∷ lends (partsWith 0) 1 1 4 21
+    ∷ lends (partsWith 1) 1 1 4 0
+    ∷ lends (partsWith 256) 1 1 4 0
+    ∷ lends (partsWith 257) 1 1 4 21
+    -- 1 before 2, 21 and 3
     ∷ starts 0 0 20 1
     ∷ starts 9 257 521 1
     ∷ starts 1 257 520 1
+    ∷ lends (partsWith 0) 1 0 80 1
+    ∷ lends (partsWith 257) 1 257 2084 1
+    -- 2 before 21 and 3; ".. after 2."
     ∷ starts 0 5 10 2
     ∷ starts 9 5 10 2
-    -- 99: a part has another length
-    ∷ lends (sizes 9 520 768) 1 1 4 0
-    ∷ lends (sizes 8 520 768) 1 1 4 99
-    ∷ lends (sizes 10 520 768) 1 1 4 99
-    ∷ lends (sizes 9 519 768) 1 1 4 99
-    ∷ lends (sizes 9 521 768) 1 1 4 99
-    ∷ lends (sizes 9 520 767) 1 1 4 99
-    ∷ lends (sizes 9 520 769) 1 1 4 99
-    -- 99 before 1, 2 and 3
-    ∷ lends (sizes 8 520 768) 1 0 80 99
-    ∷ lends (sizes 9 519 768) 0 1 4 99
-    ∷ lends (sizes 9 520 767) 1 1 0 99
+    ∷ lends (partsWith 0) 0 1 4 2
+    ∷ lends (partsWith 257) 9 1 4 2
+    -- 21 before 3
+    ∷ lends (partsWith 0) 1 5 40 21
+    ∷ lends (partsWith 257) 1 5 40 21
+    -- wrong in all four ways, in the last three, in the last two, in the last
+    ∷ lends (partsWith 0) 9 257 0 1
+    ∷ lends (partsWith 0) 9 256 0 2
+    ∷ lends (partsWith 0) 8 256 0 21
+    ∷ lends (partsWith 1) 8 256 0 3
+    -- 99: a part of words has another length
+    ∷ lends (sizes 10 2056 64) 1 1 4 0
+    ∷ lends (sizes 9 2056 64) 1 1 4 99
+    ∷ lends (sizes 11 2056 64) 1 1 4 99
+    ∷ lends (sizes 10 2055 64) 1 1 4 99
+    ∷ lends (sizes 10 2057 64) 1 1 4 99
+    -- 99 before 1, 2, 21 and 3
+    ∷ lends (sizes 9 2056 64) 1 0 80 99
+    ∷ lends (sizes 10 2055 64) 0 1 4 99
+    ∷ lends (sizes 9 2056 0) 1 1 4 99
+    ∷ lends (sizes 10 2057 257) 1 1 4 99
+    ∷ lends (sizes 11 2056 64) 1 1 0 99
     ∷ []
 
 pub start-refusals : map (λ (row : StartRow). startSeen (row .start)) startTable ≡ map (λ (row : StartRow). (row .result, true)) startTable
@@ -104,7 +126,7 @@ start-refusals = refl
 
 -- what a call finds
 pub data Before : Type 0 where
-  -- after a start: 2 workers, one splitter of value 1, 2 nodes, in a pool of 9 words
+  -- after a start: 2 workers, one splitter of value 1, 2 nodes, in a pool of 9 words, and a table of 8 places
   started : Before
   -- the same but for the numbers
   withNumbers : List ℕ → Before
@@ -119,20 +141,22 @@ pub data Before : Type 0 where
   siblings : ℕ → ℕ → Before
   -- no frame lives, and these are the totals
   ended : List ℕ → Before
-  -- parts of these lengths, with words that are not sound
-  lengths : ℕ → ℕ → ℕ → Before
+  -- R-6: this is the recorded length, the table has so many places, Main in the first one, and this is the first free place
+  tabled : ℕ → ℕ → ℕ → Before
+  -- numbers and deques of these lengths, with words that are not sound
+  lengths : ℕ → ℕ → Before
   -- a state of zeros and no pool
   nothing : Before
 
 abbrev begun : Start
-begun = record { parts = anyParts; workers = 2; values = 1 ∷ []; pool = replicate 9 7 }
+begun = record { parts = partsWith 8; workers = 2; values = 1 ∷ []; pool = replicate 9 7 }
 
 abbrev numbered : StateAndPool → List ℕ → StateAndPool
 numbered h ks = record { state = record { numbers = ks; deques = h .state .deques; frames = h .state .frames }; pool = h .pool }
 
--- 2 workers, one splitter, 2 nodes, of which 1 is free; the first free place, and the totals
+-- 2 workers, one splitter, 2 nodes, of which 1 is free; the first free place, the totals, and the length 8
 abbrev numbers : ℕ → List ℕ → List ℕ
-numbers p totals = 2 ∷ 1 ∷ 2 ∷ 1 ∷ p ∷ totals
+numbers p totals = 2 ∷ 1 ∷ 2 ∷ 1 ∷ p ∷ (totals ++ (8 ∷ []))
 
 -- R-5: "zero while Main lives"
 abbrev zeroTotals : List ℕ
@@ -143,24 +167,24 @@ abbrev leafHeldBy : ℕ → List ℕ
 leafHeldBy k = k ∷ none ∷ none ∷ 1 ∷ 0 ∷ none ∷ 0 ∷ 0 ∷ 7 ∷ []
 
 -- Main, suspended, with k children
-abbrev suspendedMain : ℕ → ℕ → List ℕ
+abbrev suspendedMain : ℕ → ℕ → Frame
 suspendedMain k returning = frame none 0 k 1 0 returning identities none
 
 -- a child of Main
-abbrev childOf : ℕ → List ℕ
+abbrev childOf : ℕ → Frame
 childOf younger = frame 0 1 0 0 0 0 identities younger
 
 abbrev oneChild : ℕ → ℕ → StateAndPool
 oneChild x y =
     record {
-      state = record { numbers = numbers 2 zeroTotals; deques = deques (1 ∷ []) []; frames = frames (suspendedMain 1 x ∷ childOf y ∷ []) };
+      state = record { numbers = numbers 2 zeroTotals; deques = deques (1 ∷ []) []; frames = framesIn 8 (suspendedMain 1 x ∷ childOf y ∷ []) };
       pool = leafHeldBy 2;
     }
 
 abbrev twoChildren : ℕ → ℕ → StateAndPool
 twoChildren y z =
     record {
-      state = record { numbers = numbers 3 zeroTotals; deques = deques (1 ∷ []) (2 ∷ []); frames = frames (suspendedMain 2 0 ∷ childOf y ∷ childOf z ∷ []) };
+      state = record { numbers = numbers 3 zeroTotals; deques = deques (1 ∷ []) (2 ∷ []); frames = framesIn 8 (suspendedMain 2 0 ∷ childOf y ∷ childOf z ∷ []) };
       pool = leafHeldBy 3;
     }
 
@@ -168,9 +192,22 @@ twoChildren y z =
 abbrev noneLives : List ℕ → StateAndPool
 noneLives totals =
     record {
-      state = record { numbers = 2 ∷ 1 ∷ 2 ∷ 0 ∷ 0 ∷ totals; deques = deques [] []; frames = frames (free 1 ∷ []) };
+      state = record { numbers = 2 ∷ 1 ∷ 2 ∷ 0 ∷ 0 ∷ (totals ++ (8 ∷ [])); deques = deques [] []; frames = framesIn 8 (freePlace 1 ∷ []) };
       pool = 0 ∷ 1 ∷ 0 ∷ 0 ∷ 0 ∷ none ∷ 0 ∷ 0 ∷ 7 ∷ [];
     }
+
+-- Main in the first of so many places
+abbrev mainIn : ℕ → List Frame
+mainIn zero = []
+mainIn (suc k) = live none 0 0 0 0 ∷ rising k 2
+
+abbrev withTable : ℕ → ℕ → ℕ → StateAndPool
+withTable l k p =
+    record { state = record { numbers = 2 ∷ 1 ∷ 2 ∷ 1 ∷ p ∷ (zeroTotals ++ (l ∷ [])); deques = deques (0 ∷ []) []; frames = mainIn k }; pool = leafHeldBy 1 }
+
+-- a record with another word i
+abbrev withWordIn : Frame → ℕ → ℕ → Frame
+withWordIn f i x = recordIn (set (wordsOfRecord f) i x)
 
 -- after the start h
 abbrev foundIn : StateAndPool → Before → StateAndPool
@@ -178,12 +215,13 @@ foundIn h started = h
 foundIn h (withNumbers ks) = numbered h ks
 foundIn h unsound = numbered h (numbers 2 zeroTotals)
 foundIn h (withWord p i x) =
-    record { state = record { numbers = h .state .numbers; deques = h .state .deques; frames = set (h .state .frames) (recordWords * p + i) x }; pool = h .pool }
+    record { state = record { numbers = h .state .numbers; deques = h .state .deques; frames = setFrame (h .state .frames) p (withWordIn (frameAt (h .state .frames) p) i x) }; pool = h .pool }
 foundIn h (suspended x y) = oneChild x y
 foundIn h (siblings y z) = twoChildren y z
 foundIn h (ended totals) = noneLives totals
-foundIn h (lengths ns ds fs) = record { state = sizes ns ds fs; pool = replicate 9 7 }
-foundIn h nothing = record { state = zeros; pool = [] }
+foundIn h (tabled l k p) = withTable l k p
+foundIn h (lengths ns ds) = record { state = sizes ns ds 8; pool = replicate 9 7 }
+foundIn h nothing = record { state = zeros (h .state .frames); pool = [] }
 
 abbrev found : Before → StateAndPool
 found b = foundIn (afterStart begun) b
@@ -196,7 +234,7 @@ pub record CallRow : Type 0 where
   pub answers : List ℕ
   pub work : List ℕ
 
--- what is seen: all this, and whether the state and the pool are as before (accepted steps here are reads)
+-- what is seen: all this, and whether the state, its table and the pool are as before (accepted steps here are reads)
 pub record CallSeen : Type 0 where
   pub result : ℕ
   pub answers : List ℕ
@@ -262,7 +300,7 @@ callTable =
     ∷ steps (withWord 0 6 1) 5 3 6 (0 ∷ 0 ∷ 5 ∷ [])
     ∷ steps (withWord 0 6 2) 5 3 6 (0 ∷ 0 ∷ 5 ∷ [])
     ∷ steps (withWord 1 6 1) 5 3 6 (0 ∷ 0 ∷ 5 ∷ [])
-    ∷ steps (withWord 63 6 1) 5 3 6 (0 ∷ 0 ∷ 5 ∷ [])
+    ∷ steps (withWord 7 6 1) 5 3 6 (0 ∷ 0 ∷ 5 ∷ [])
     -- R-5: the totals are "zero while Main lives"; "Soundness asks for those zeros". Each of the four
     ∷ steps (withNumbers (numbers 1 (1 ∷ 0 ∷ 0 ∷ 0 ∷ []))) 5 3 6 (0 ∷ 0 ∷ 5 ∷ [])
     ∷ steps (withNumbers (numbers 1 (0 ∷ none ∷ 0 ∷ 0 ∷ []))) 5 3 6 (0 ∷ 0 ∷ 5 ∷ [])
@@ -277,8 +315,8 @@ callTable =
     ∷ steps (withWord 0 10 none) 5 3 105 (0 ∷ 0 ∷ 5 ∷ [])
     ∷ steps (withWord 1 7 1) 5 3 6 (0 ∷ 0 ∷ 5 ∷ [])
     ∷ steps (withWord 1 8 none) 5 3 6 (0 ∷ 0 ∷ 5 ∷ [])
-    ∷ steps (withWord 63 9 1) 5 3 6 (0 ∷ 0 ∷ 5 ∷ [])
-    ∷ steps (withWord 63 10 1) 5 3 6 (0 ∷ 0 ∷ 5 ∷ [])
+    ∷ steps (withWord 7 9 1) 5 3 6 (0 ∷ 0 ∷ 5 ∷ [])
+    ∷ steps (withWord 7 10 1) 5 3 6 (0 ∷ 0 ∷ 5 ∷ [])
     ∷ steps (withWord 1 11 none) 5 3 6 (0 ∷ 0 ∷ 5 ∷ [])
     -- "Main's being none"
     ∷ steps (withWord 0 11 0) 5 3 6 (0 ∷ 0 ∷ 5 ∷ [])
@@ -287,7 +325,7 @@ callTable =
     ∷ steps (suspended 0 1) 5 3 6 (0 ∷ 0 ∷ 5 ∷ [])
     ∷ steps (suspended 0 0) 5 3 6 (0 ∷ 0 ∷ 5 ∷ [])
     ∷ steps (suspended 0 2) 5 3 6 (0 ∷ 0 ∷ 5 ∷ [])
-    ∷ steps (suspended 0 64) 5 3 6 (0 ∷ 0 ∷ 5 ∷ [])
+    ∷ steps (suspended 0 8) 5 3 6 (0 ∷ 0 ∷ 5 ∷ [])
     -- of two children either may be the elder
     ∷ plays (siblings 2 none) oneRead 3 3 0 (105 ∷ 1 ∷ 9 ∷ []) (0 ∷ 0 ∷ 5 ∷ [])
     ∷ plays (siblings none 1) oneRead 3 3 0 (105 ∷ 1 ∷ 9 ∷ []) (0 ∷ 0 ∷ 5 ∷ [])
@@ -295,6 +333,28 @@ callTable =
     ∷ steps (siblings 2 1) 5 3 6 (0 ∷ 0 ∷ 5 ∷ [])
     ∷ steps (siblings 1 none) 5 3 6 (0 ∷ 0 ∷ 5 ∷ [])
     ∷ steps (siblings 2 2) 5 3 6 (0 ∷ 0 ∷ 5 ∷ [])
+    -- R-6: "Later, a recorded length not 1 to 256 .. is unsound": 8, 1 and 2 are sound; 0, also with a table of none, 257 with one of 257, none
+    ∷ plays (tabled 8 8 1) oneRead 3 3 0 (105 ∷ 1 ∷ 9 ∷ []) (0 ∷ 0 ∷ 5 ∷ [])
+    ∷ plays (tabled 1 1 none) oneRead 3 3 0 (105 ∷ 1 ∷ 9 ∷ []) (0 ∷ 0 ∷ 5 ∷ [])
+    ∷ steps (tabled 2 2 1) 5 3 105 (0 ∷ 0 ∷ 5 ∷ [])
+    ∷ plays (tabled 0 8 1) oneRead 3 3 6 (9 ∷ 9 ∷ 9 ∷ []) (0 ∷ 0 ∷ 5 ∷ [])
+    ∷ steps (tabled 0 8 1) 5 3 6 (0 ∷ 0 ∷ 5 ∷ [])
+    ∷ steps (tabled 0 0 none) 5 3 6 (0 ∷ 0 ∷ 5 ∷ [])
+    ∷ plays (tabled 257 257 1) oneRead 3 3 6 (9 ∷ 9 ∷ 9 ∷ []) (0 ∷ 0 ∷ 5 ∷ [])
+    ∷ steps (tabled 257 8 1) 5 3 6 (0 ∷ 0 ∷ 5 ∷ [])
+    ∷ steps (tabled none 8 1) 5 3 6 (0 ∷ 0 ∷ 5 ∷ [])
+    -- ".. or a table of another length": one place less or more, the record or the table; no place; all that there can be
+    ∷ plays (tabled 7 8 1) oneRead 3 3 6 (9 ∷ 9 ∷ 9 ∷ []) (0 ∷ 0 ∷ 5 ∷ [])
+    ∷ plays (tabled 8 7 1) oneRead 3 3 6 (9 ∷ 9 ∷ 9 ∷ []) (0 ∷ 0 ∷ 5 ∷ [])
+    ∷ steps (tabled 9 8 1) 5 3 6 (0 ∷ 0 ∷ 5 ∷ [])
+    ∷ steps (tabled 8 9 1) 5 3 6 (0 ∷ 0 ∷ 5 ∷ [])
+    ∷ steps (tabled 2 1 none) 5 3 6 (0 ∷ 0 ∷ 5 ∷ [])
+    ∷ steps (tabled 1 2 1) 5 3 6 (0 ∷ 0 ∷ 5 ∷ [])
+    ∷ steps (tabled 8 0 none) 5 3 6 (0 ∷ 0 ∷ 5 ∷ [])
+    ∷ steps (tabled 256 8 1) 5 3 6 (0 ∷ 0 ∷ 5 ∷ [])
+    ∷ steps (tabled 8 256 1) 5 3 6 (0 ∷ 0 ∷ 5 ∷ [])
+    -- a table of one place has none that is free
+    ∷ steps (tabled 1 1 1) 5 3 6 (0 ∷ 0 ∷ 5 ∷ [])
     -- a state of zeros is not sound; it records no node
     ∷ steps nothing 5 1 6 (5 ∷ [])
     -- 4 before 5 and 6; 5 before 6
@@ -303,22 +363,22 @@ callTable =
     ∷ refuses started oneRead 1 1 4
     ∷ refuses unsound oneRead 3 1 4
     ∷ refuses unsound oneRead 1 3 5
+    ∷ refuses (tabled 0 8 1) (oneRead ++ (0 ∷ [])) 3 3 4
+    ∷ refuses (tabled 8 7 1) oneRead 1 3 5
     ∷ steps unsound 5 1 5 (5 ∷ [])
     -- 5 and 6 before 7
     ∷ steps started 0 2 7 (0 ∷ 0 ∷ [])
     ∷ steps started 0 1 5 (5 ∷ [])
     ∷ steps unsound 0 2 6 (0 ∷ 0 ∷ [])
-    -- 99: a part has another length
+    -- 99: a part of words has another length
     ∷ refuses (withNumbers (numbers 1 (0 ∷ 0 ∷ 0 ∷ []))) oneRead 3 3 99
     ∷ refuses (withNumbers (numbers 1 (0 ∷ 0 ∷ 0 ∷ 0 ∷ 0 ∷ []))) oneRead 3 3 99
     ∷ steps (withNumbers (numbers 1 (0 ∷ 0 ∷ 0 ∷ []))) 5 3 99 (5 ∷ 5 ∷ 5 ∷ [])
     ∷ steps (withNumbers (numbers 1 (0 ∷ 0 ∷ 0 ∷ 0 ∷ 0 ∷ []))) 5 3 99 (5 ∷ 5 ∷ 5 ∷ [])
-    ∷ refuses (lengths 9 519 768) oneRead 3 3 99
-    ∷ refuses (lengths 9 521 768) oneRead 3 3 99
-    ∷ refuses (lengths 9 520 767) oneRead 3 3 99
-    ∷ refuses (lengths 9 520 769) oneRead 3 3 99
-    ∷ steps (lengths 9 519 768) 5 3 99 (5 ∷ 5 ∷ 5 ∷ [])
-    ∷ steps (lengths 9 520 769) 5 3 99 (5 ∷ 5 ∷ 5 ∷ [])
+    ∷ refuses (lengths 10 2055) oneRead 3 3 99
+    ∷ refuses (lengths 10 2057) oneRead 3 3 99
+    ∷ steps (lengths 10 2055) 5 3 99 (5 ∷ 5 ∷ 5 ∷ [])
+    ∷ steps (lengths 10 2057) 5 3 99 (5 ∷ 5 ∷ 5 ∷ [])
     -- 99 before 4, 5, 6 (the words above are not sound) and 7
     ∷ refuses (withNumbers (numbers 1 (0 ∷ 0 ∷ 0 ∷ []))) (0 ∷ []) 3 3 99
     ∷ refuses (withNumbers (numbers 1 (0 ∷ 0 ∷ 0 ∷ []))) oneRead 1 3 99
@@ -348,44 +408,43 @@ begins : startResult begun .result ≡ 0
 unfolding startOn startWith treeNodes height width
 begins = refl
 
-found-quick : (b : Before) → found b ≡ foundIn (quickStart begun) b
-found-quick b = ap (λ h. foundIn h b) (start-quick begun begins)
-
 -- whether state and pool are sound; of those whose lengths are refused it does not matter
 abbrev soundAs : Before → Bool
 soundAs started = true
-soundAs (withNumbers ks) = isSound (foundIn (quickStart begun) (withNumbers ks) .state) (quickStart begun .pool)
+soundAs (withNumbers ks) = soundQuick (found (withNumbers ks) .state) (afterStart begun .pool)
 soundAs unsound = false
-soundAs (withWord p i x) = isSound (foundIn (quickStart begun) (withWord p i x) .state) (quickStart begun .pool)
-soundAs (suspended x y) = isSound (oneChild x y .state) (oneChild x y .pool)
-soundAs (siblings y z) = isSound (twoChildren y z .state) (twoChildren y z .pool)
-soundAs (ended totals) = isSound (noneLives totals .state) (noneLives totals .pool)
-soundAs (lengths ns ds fs) = isSound (sizes ns ds fs) (replicate 9 7)
-soundAs nothing = isSound zeros []
+soundAs (withWord p i x) = soundQuick (found (withWord p i x) .state) (afterStart begun .pool)
+soundAs (suspended x y) = soundQuick (oneChild x y .state) (oneChild x y .pool)
+soundAs (siblings y z) = soundQuick (twoChildren y z .state) (twoChildren y z .pool)
+soundAs (ended totals) = soundQuick (noneLives totals .state) (noneLives totals .pool)
+soundAs (tabled l k p) = soundQuick (withTable l k p .state) (withTable l k p .pool)
+soundAs (lengths ns ds) = soundQuick (sizes ns ds 8) (replicate 9 7)
+soundAs nothing = soundQuick (zeros (afterStart begun .state .frames)) []
 
-not-sound : isSound (foundIn (quickStart begun) unsound .state) (quickStart begun .pool) ≡ false
-unfolding sound numbersSound framesSound oneMain parentsLive countsRight placedOnce returningRight linksRight totalsRight chained holdLive absentEmpty restZero linked onlyBelow placesFree size place frameAt height width treeNodes initPool initFree initLeaves initInner initLevel setNode δ count
+not-sound : soundQuick (found unsound .state) (afterStart begun .pool) ≡ false
+unfolding oneMain parentsLive countsRight placedOnce returningRight linksRight totalsRight chained holdLive absentEmpty linked onlyBelow startOn startWith initDeques push setSize setPlace initFrames initPlaces setFrame initPool initFree initLeaves initInner initLevel setNode height width treeNodes size place frameAt δ count
 not-sound = refl
 
-sound-as : (b : Before) → isSound (foundIn (quickStart begun) b .state) (foundIn (quickStart begun) b .pool) ≡ soundAs b
-sound-as started = ap (λ (h : StateAndPool). isSound (h .state) (h .pool)) (sym (start-quick begun begins)) ∙ after-sound begun [] begins
-sound-as (withNumbers ks) = refl
-sound-as unsound = not-sound
-sound-as (withWord p i x) = refl
-sound-as (suspended x y) = refl
-sound-as (siblings y z) = refl
-sound-as (ended totals) = refl
-sound-as (lengths ns ds fs) = refl
-sound-as nothing = refl
+sound-as : (b : Before) → isSound (found b .state) (found b .pool) ≡ soundAs b
+sound-as started = after-sound begun [] begins
+sound-as (withNumbers ks) = sound-quick (found (withNumbers ks) .state) (afterStart begun .pool)
+sound-as unsound = sound-quick (found unsound .state) (afterStart begun .pool) ∙ not-sound
+sound-as (withWord p i x) = sound-quick (found (withWord p i x) .state) (afterStart begun .pool)
+sound-as (suspended x y) = sound-quick (oneChild x y .state) (oneChild x y .pool)
+sound-as (siblings y z) = sound-quick (twoChildren y z .state) (twoChildren y z .pool)
+sound-as (ended totals) = sound-quick (noneLives totals .state) (noneLives totals .pool)
+sound-as (tabled l k p) = sound-quick (withTable l k p .state) (withTable l k p .pool)
+sound-as (lengths ns ds) = sound-quick (sizes ns ds 8) (replicate 9 7)
+sound-as nothing = sound-quick (zeros (afterStart begun .state .frames)) []
 
 abbrev rowQuick : CallRow → CallSeen
-rowQuick r = seenBy (soundAs (r .before)) (foundIn (quickStart begun) (r .before)) (r .call)
+rowQuick r = seenBy (soundAs (r .before)) (found (r .before)) (r .call)
 
 row-quick : (r : CallRow) → callSeen (found (r .before)) (r .call) ≡ rowQuick r
-row-quick r = ap (λ h. callSeen h (r .call)) (found-quick (r .before)) ∙ seen-by (foundIn (quickStart begun) (r .before)) (r .call) (sound-as (r .before))
+row-quick r = seen-by (found (r .before)) (r .call) (sound-as (r .before))
 
 calls-quickly : map rowQuick callTable ≡ map callSaid callTable
-unfolding callTable runOn recordsFrom recordOf decodeAt readOn stepOn bottom readAt leafOf initPool initFree initLeaves initInner initLevel setNode height width treeNodes size place frameAt cleared sound numbersSound rootsBelow framesSound oneMain parentsLive countsRight placedOnce returningRight linksRight totalsRight chained holdLive absentEmpty restZero linked onlyBelow placesFree poolSound treeAt nodesAt refcount left right value δ count
+unfolding callTable runOn recordOf decodeAt readOn stepOn bottom readAt leafOf startOn startWith initDeques push setSize setPlace initFrames initPlaces setFrame initPool initFree initLeaves initInner initLevel setNode height width treeNodes size place frameAt cleared rootsBelow oneMain parentsLive countsRight placedOnce returningRight linksRight totalsRight chained holdLive absentEmpty linked onlyBelow treeAt nodesAt refcount left right value δ count
 calls-quickly = refl
 
 pub call-refusals : map (λ (row : CallRow). callSeen (found (row .before)) (row .call)) callTable ≡ map callSaid callTable

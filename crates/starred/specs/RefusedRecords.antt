@@ -1,6 +1,6 @@
 -- Refusals 7 to 16 and 20: each at its condition and beside its nearest accepted neighbour, the order in which they are checked, and
--- that they leave state and pool unchanged. Four tables, a theorem each: three through tapes, one through steps from outside. R-3: "14 no
--- longer occurs"; its rows are accepted, and of returns no refusal but 7 to 10 is left. R-5: 20 stands "in the place of 15".
+-- that they leave state and pool unchanged, R-6: "every frame record as it was". Five tables, a theorem each: four through tapes, one through steps
+-- from outside. R-3: "14 no longer occurs"; its rows are accepted, and of returns no refusal but 7 to 10 is left. R-5: 20 stands "in the place of 15".
 --
 -- These never hold together. By the kind of step: 10 (no steal) and 11, 12 (steals); 11, 12, 13 (spawns), 15, 16 (reads, writes) and 20 (folds), but
 -- for 11 with 12 and 15 with 16; 7 and 16 or 20, for a write and a fold have no unused field. By the frames: 8 and 11, for a worker that does not exist
@@ -20,18 +20,18 @@ use Rattle.words.specs.Tests.{decided}
 use Rattle.sizes.specs.Sizes.{height, width, treeNodes, bit}
 use Rattle.pool.specs.Pool.{refcount, left, right, value, setNode, setRefcount, side, child, sibling, leafOf, readAt, retain, release, pathNode, copyPath, setValue, setLink, renew, firstShared, rest, writeFrom, write, initLevel, initInner, initLeaves, initFree, initPool}
 use Rattle.reducers.specs.Reducers.{foldView}
-use Rattle.frames.specs.Frames.{frameAt, setFrame}
-use Rattle.frames.specs.Deques.{size, setSize, place, setPlace, bottom, top, push, pop, shiftUp, dropTop}
+use Rattle.frames.specs.Frames.{frameAt, setFrame, initPlaces, initFrames}
+use Rattle.frames.specs.Deques.{size, setSize, place, setPlace, bottom, top, push, pop, shiftUp, dropTop, initDeques}
 use Rattle.frames.specs.Siblings.{relinkFrom, eldestTo, firstFrom, nextAfter}
 use Rattle.frames.specs.Steps.{addChild, spawn, removeFrame, endFrame, goOn, wentOn, steal, sync, synced, fold}
 use Rattle.soundness.specs.Soundness.{cleared}
 use Rattle.model.specs.Record.{recordOf, decodeAt}
 use Rattle.semantics.specs.Core.{spawnOn, endAt, upward, endBottom, returnOn, stealOn, syncOn, readOn, writeOn, foldOn, stepOn}
 use Rattle.semantics.specs.Answers.{wordsIn}
-use Rattle.semantics.specs.Entries.{wholeNodes, startOn, startWith, OutsideResult, recordsFrom, runOn, TapeResult}
+use Rattle.semantics.specs.Entries.{wholeNodes, startOn, startWith, OutsideResult, runOn, TapeResult}
 use Rattle.semantics.specs.Calls.{Start, startResult, HostCall, tape, StateAndPool, afterStart, outsideResult, tapeResult}
-use Rattle.starred.specs.Tapes.{bytes, spawns, returns, steals, syncs, reads, writes, folds, anyParts, anyPool, wordsOf}
-use Rattle.starred.specs.Quick.{afterCalls, outsideBy, outside-by, quickStart, after-sound, quickTape, tape-quick, quickCalls, after-quick}
+use Rattle.starred.specs.Tapes.{bytes, spawns, returns, steals, syncs, reads, writes, folds, partsWith, anyPool, wordsOf}
+use Rattle.starred.specs.Quick.{afterCalls, outsideBy, outside-by, after-sound, quickTape, tape-quick, quickCalls, after-quick}
 
 -- ---- tapes
 
@@ -91,9 +91,13 @@ seenQuick k = let p : TapeResult = playedQuick (k .start) (k .before ++ k .after
 seen-quick : (k : Case) → seen k ≡ seenQuick k
 seen-quick k i = compared (played-quick (k .start) (k .before ++ k .after) i) (played-quick (k .start) (k .before ++ (k .refused ++ k .after)) i)
 
--- n splitters of value 1
+-- a frame table of so many places, and n splitters of value 1
+abbrev startsIn : ℕ → ℕ → ℕ → ℕ → Start
+startsIn places workers n nodes = record { parts = partsWith places; workers = workers; values = replicate n 1; pool = anyPool nodes }
+
+-- 64 places
 abbrev starts : ℕ → ℕ → ℕ → Start
-starts workers n nodes = record { parts = anyParts; workers = workers; values = replicate n 1; pool = anyPool nodes }
+starts workers n nodes = startsIn 64 workers n nodes
 
 -- c nested spawns, the first to the depth d
 abbrev nested : ℕ → ℕ → List Row
@@ -401,7 +405,7 @@ pub workersTable : List Case
 workersTable = atStart ∷ eightWorkers ∷ mainReturned ∷ twoFrames ∷ []
 
 workers-quickly : map seenQuick workersTable ≡ map said workersTable
-unfolding workersTable startOn startWith runOn recordsFrom recordOf decodeAt spawnOn endAt upward endBottom returnOn stealOn syncOn readOn writeOn foldOn stepOn addChild spawn removeFrame endFrame goOn wentOn steal sync synced fold relinkFrom eldestTo firstFrom nextAfter foldView shiftUp dropTop pop top bottom side child sibling bit leafOf readAt retain release setRefcount pathNode copyPath setValue setLink renew firstShared rest writeFrom write initPool initFree initLeaves initInner initLevel setNode height width treeNodes push setSize setPlace size place setFrame frameAt cleared refcount left right value
+unfolding workersTable startOn startWith runOn recordOf decodeAt spawnOn endAt upward endBottom returnOn stealOn syncOn readOn writeOn foldOn stepOn addChild spawn removeFrame endFrame goOn wentOn steal sync synced fold relinkFrom eldestTo firstFrom nextAfter foldView shiftUp dropTop pop top bottom side child sibling bit leafOf readAt retain release setRefcount pathNode copyPath setValue setLink renew firstShared rest writeFrom write initPool initFree initLeaves initInner initLevel setNode height width treeNodes initDeques initFrames initPlaces push setSize setPlace size place setFrame frameAt cleared refcount left right value
 workers-quickly = refl
 
 pub workers-refusals : map seen workersTable ≡ map said workersTable
@@ -423,18 +427,18 @@ nodesTable =
     ∷ []
 
 nodes-quickly : map seenQuick nodesTable ≡ map said nodesTable
-unfolding nodesTable startOn startWith runOn recordsFrom recordOf decodeAt spawnOn endAt upward endBottom returnOn stealOn syncOn readOn writeOn foldOn stepOn addChild spawn removeFrame endFrame goOn wentOn steal sync synced fold relinkFrom eldestTo firstFrom nextAfter foldView shiftUp dropTop pop top bottom side child sibling bit leafOf readAt retain release setRefcount pathNode copyPath setValue setLink renew firstShared rest writeFrom write initPool initFree initLeaves initInner initLevel setNode height width treeNodes push setSize setPlace size place setFrame frameAt cleared refcount left right value
+unfolding nodesTable startOn startWith runOn recordOf decodeAt spawnOn endAt upward endBottom returnOn stealOn syncOn readOn writeOn foldOn stepOn addChild spawn removeFrame endFrame goOn wentOn steal sync synced fold relinkFrom eldestTo firstFrom nextAfter foldView shiftUp dropTop pop top bottom side child sibling bit leafOf readAt retain release setRefcount pathNode copyPath setValue setLink renew firstShared rest writeFrom write initPool initFree initLeaves initInner initLevel setNode height width treeNodes initDeques initFrames initPlaces push setSize setPlace size place setFrame frameAt cleared refcount left right value
 nodes-quickly = refl
 
 pub nodes-refusals : map seen nodesTable ≡ map said nodesTable
 nodes-refusals = (λ i. map (λ (k : Case). seen-quick k i) nodesTable) ∙ nodes-quickly
 
--- ---- 64 frames
+-- ---- 13: "The step is a spawn and 64 frames live."; R-6: the table's length "is the limit in 13"
 
--- "13. The step is a spawn and 64 frames live.": "The 63rd nested spawn gives 101 63, the 64th 13; after one return it is accepted."
-pub framesTable : List Row
-framesTable =
-    nested 63 1
+-- 64 places: "The 63rd nested spawn gives 101 63, the 64th 13; after one return it is accepted."; the same of 256, the most: a table of so many places and one
+pub framesTable : ℕ → List Row
+framesTable k =
+    nested k 1
     ++ (by (spawns 0) 13
     -- 7, 8 and 10 before 13
     ∷ by (bytes 1 0 1 0) 7
@@ -446,16 +450,80 @@ framesTable =
     ∷ gives (returns 1) 102 4
     ∷ by (spawns 0) 13
     ∷ gives (returns 0) 102 0
-    ∷ gives (spawns 0) 101 63
+    ∷ gives (spawns 0) 101 k
     ∷ by (spawns 0) 13
     ∷ [])
 
-frames-quickly : playedQuick (starts 2 1 1) framesTable .answers ≡ saidOf framesTable
-unfolding framesTable startOn startWith runOn recordsFrom recordOf decodeAt spawnOn endAt upward endBottom returnOn stealOn syncOn readOn writeOn foldOn stepOn addChild spawn removeFrame endFrame goOn wentOn steal sync synced fold relinkFrom eldestTo firstFrom nextAfter foldView shiftUp dropTop pop top bottom side child sibling bit leafOf readAt retain release setRefcount pathNode copyPath setValue setLink renew firstShared rest writeFrom write initPool initFree initLeaves initInner initLevel setNode height width treeNodes push setSize setPlace size place setFrame frameAt cleared refcount left right value
+frames-quickly : map (λ k. playedQuick (startsIn (suc k) 2 1 1) (framesTable k) .answers) (63 ∷ 255 ∷ []) ≡ map (λ k. saidOf (framesTable k)) (63 ∷ 255 ∷ [])
+unfolding framesTable startOn startWith runOn recordOf decodeAt spawnOn endAt upward endBottom returnOn stealOn syncOn readOn writeOn foldOn stepOn addChild spawn removeFrame endFrame goOn wentOn steal sync synced fold relinkFrom eldestTo firstFrom nextAfter foldView shiftUp dropTop pop top bottom side child sibling bit leafOf readAt retain release setRefcount pathNode copyPath setValue setLink renew firstShared rest writeFrom write initPool initFree initLeaves initInner initLevel setNode height width treeNodes initDeques initFrames initPlaces push setSize setPlace size place setFrame frameAt cleared refcount left right value
 frames-quickly = refl
 
-pub frames-refusals : played (starts 2 1 1) framesTable .answers ≡ saidOf framesTable
-frames-refusals = ap (λ (t : TapeResult). t .answers) (played-quick (starts 2 1 1) framesTable) ∙ frames-quickly
+pub frames-refusals : map (λ k. played (startsIn (suc k) 2 1 1) (framesTable k) .answers) (63 ∷ 255 ∷ []) ≡ map (λ k. saidOf (framesTable k)) (63 ∷ 255 ∷ [])
+frames-refusals = (λ i. map (λ k. played-quick (startsIn (suc k) 2 1 1) (framesTable k) i .answers) (63 ∷ 255 ∷ [])) ∙ frames-quickly
+
+-- few places: Main in the only one
+abbrev onePlace : Case
+onePlace = record {
+  start = startsIn 1 2 1 2;
+  before = [];
+  refused = by (spawns 0) 13 ∷ by (bytes 1 0 1 0) 7 ∷ by (spawns 2) 8 ∷ by (spawns 1) 10 ∷ by (steals 1 0) 12 ∷ [];
+  after = [];
+}
+
+-- its place is free when it has returned, but then 9 is given
+abbrev onePlaceReturned : Case
+onePlaceReturned = record {
+  start = startsIn 1 2 1 2;
+  before = gives (writes 0 0 5) 106 1 ∷ gives (folds 0 0 5) 107 0 ∷ gives (returns 0) 102 3 ∷ [];
+  refused = by (spawns 0) 9 ∷ by (spawns 1) 9 ∷ [];
+  after = [];
+}
+
+-- Main and its child in two; "after one return it is accepted"
+abbrev twoPlaces : Case
+twoPlaces = record {
+  start = startsIn 2 2 1 2;
+  before = gives (spawns 0) 101 1 ∷ [];
+  refused = by (spawns 0) 13 ∷ by (bytes 1 0 0 1) 7 ∷ by (spawns 2) 8 ∷ by (spawns 1) 10 ∷ [];
+  after = gives (returns 0) 102 0 ∷ gives (spawns 0) 101 1 ∷ by (spawns 0) 13 ∷ [];
+}
+
+-- the same of both frames, Main being on worker 1
+abbrev twoPlacesElsewhere : Case
+twoPlacesElsewhere = record {
+  start = startsIn 2 2 1 2;
+  before = gives (spawns 0) 101 1 ∷ gives (steals 1 0) 103 0 ∷ [];
+  refused = by (spawns 0) 13 ∷ by (spawns 1) 13 ∷ [];
+  after = gives (returns 0) 102 1 ∷ gives (spawns 1) 101 1 ∷ by (spawns 1) 13 ∷ [];
+}
+
+-- where Main waits in its return, its place is not free
+abbrev twoPlacesWaiting : Case
+twoPlacesWaiting = record {
+  start = startsIn 2 2 1 2;
+  before = mainReturns;
+  refused = by (spawns 0) 13 ∷ by (spawns 1) 10 ∷ [];
+  after = gives (returns 0) 102 3 ∷ by (spawns 0) 9 ∷ [];
+}
+
+-- two children, whose links a refused spawn leaves
+abbrev threePlaces : Case
+threePlaces = record {
+  start = startsIn 3 2 1 2;
+  before = gives (spawns 0) 101 1 ∷ gives (steals 1 0) 103 0 ∷ gives (spawns 1) 101 1 ∷ [];
+  refused = by (spawns 0) 13 ∷ by (spawns 1) 13 ∷ [];
+  after = gives (returns 1) 102 0 ∷ gives (spawns 0) 101 2 ∷ by (spawns 1) 13 ∷ [];
+}
+
+pub placesTable : List Case
+placesTable = onePlace ∷ onePlaceReturned ∷ twoPlaces ∷ twoPlacesElsewhere ∷ twoPlacesWaiting ∷ threePlaces ∷ []
+
+places-quickly : map seenQuick placesTable ≡ map said placesTable
+unfolding placesTable startOn startWith runOn recordOf decodeAt spawnOn endAt upward endBottom returnOn stealOn syncOn readOn writeOn foldOn stepOn addChild spawn removeFrame endFrame goOn wentOn steal sync synced fold relinkFrom eldestTo firstFrom nextAfter foldView shiftUp dropTop pop top bottom side child sibling bit leafOf readAt retain release setRefcount pathNode copyPath setValue setLink renew firstShared rest writeFrom write initPool initFree initLeaves initInner initLevel setNode height width treeNodes initDeques initFrames initPlaces push setSize setPlace size place setFrame frameAt cleared refcount left right value
+places-quickly = refl
+
+pub places-refusals : map seen placesTable ≡ map said placesTable
+places-refusals = (λ i. map (λ (k : Case). seen-quick k i) placesTable) ∙ places-quickly
 
 -- ---- steps from outside
 
@@ -523,6 +591,12 @@ stepTable =
     ∷ enters (starts 2 1 2) [] 7 0 0 0 107 0
     ∷ enters (starts 2 1 2) [] 7 0 1 5 107 0
     ∷ enters (starts 2 1 2) [] 7 0 2 4294967295 107 0
+    -- R-6: 13 by the table's length
+    ∷ enters (startsIn 1 2 1 2) [] 1 0 0 0 13 0
+    ∷ enters (startsIn 2 2 1 2) [] 1 0 0 0 101 1
+    ∷ enters (startsIn 2 2 1 2) (gives (spawns 0) 101 1 ∷ []) 1 0 0 0 13 0
+    ∷ enters (startsIn 2 2 1 2) (gives (spawns 0) 101 1 ∷ gives (returns 0) 102 0 ∷ []) 1 0 0 0 101 1
+    ∷ enters (startsIn 65 2 1 2) (nested 63 1) 1 0 0 0 101 64
     -- a number that its field in a record could not hold
     ∷ enters (starts 2 1 2) [] 257 0 0 0 7 0
     ∷ enters (starts 2 1 2) [] 263 0 0 0 7 0
@@ -537,7 +611,7 @@ abbrev stepDirect : StepRow → StateAndPool → (ℕ × ℕ) × Bool
 stepDirect r h = seenBy r (λ g work. outsideBy true g (r .kind) (r .worker) (r .field) (r .value) work) h
 
 abbrev stepQuick : StepRow → (ℕ × ℕ) × Bool
-stepQuick r = cond (eqb (startResult (r .start) .result) 0) (stepDirect r (quickCalls (quickStart (r .start)) (tapeOf (r .before)))) (stepSeen r)
+stepQuick r = cond (eqb (startResult (r .start) .result) 0) (stepDirect r (quickCalls (afterStart (r .start)) (tapeOf (r .before)))) (stepSeen r)
 
 step-quick : (r : StepRow) → stepSeen r ≡ stepQuick r
 step-quick r = elim (decided (eqb (startResult (r .start) .result) 0)) [
@@ -551,7 +625,7 @@ step-quick r = elim (decided (eqb (startResult (r .start) .result) 0)) [
 ]
 
 step-quickly : map stepQuick stepTable ≡ map (λ (row : StepRow). (row .words, true)) stepTable
-unfolding stepTable startOn startWith runOn recordsFrom recordOf decodeAt spawnOn endAt upward endBottom returnOn stealOn syncOn readOn writeOn foldOn stepOn addChild spawn removeFrame endFrame goOn wentOn steal sync synced fold relinkFrom eldestTo firstFrom nextAfter foldView shiftUp dropTop pop top bottom side child sibling bit leafOf readAt retain release setRefcount pathNode copyPath setValue setLink renew firstShared rest writeFrom write initPool initFree initLeaves initInner initLevel setNode height width treeNodes push setSize setPlace size place setFrame frameAt cleared refcount left right value
+unfolding stepTable startOn startWith runOn recordOf decodeAt spawnOn endAt upward endBottom returnOn stealOn syncOn readOn writeOn foldOn stepOn addChild spawn removeFrame endFrame goOn wentOn steal sync synced fold relinkFrom eldestTo firstFrom nextAfter foldView shiftUp dropTop pop top bottom side child sibling bit leafOf readAt retain release setRefcount pathNode copyPath setValue setLink renew firstShared rest writeFrom write initPool initFree initLeaves initInner initLevel setNode height width treeNodes initDeques initFrames initPlaces push setSize setPlace size place setFrame frameAt cleared refcount left right value
 step-quickly = refl
 
 pub step-refusals : map stepSeen stepTable ≡ map (λ (row : StepRow). (row .words, true)) stepTable

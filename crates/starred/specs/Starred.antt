@@ -9,20 +9,21 @@ use Rattle.words.specs.Basics.{joined}
 use Rattle.sizes.specs.Sizes.{height, width, treeNodes, bit}
 use Rattle.pool.specs.Pool.{refcount, left, right, value, setNode, setRefcount, side, child, sibling, leafOf, readAt, retain, release, pathNode, copyPath, setValue, setLink, renew, firstShared, rest, writeFrom, write, initLevel, initInner, initLeaves, initFree, initPool}
 use Rattle.reducers.specs.Reducers.{foldView}
-use Rattle.frames.specs.Frames.{frameAt, setFrame}
-use Rattle.frames.specs.Deques.{size, setSize, place, setPlace, bottom, top, push, pop, shiftUp, dropTop}
+use Rattle.frames.specs.Frames.{frameAt, setFrame, initPlaces, initFrames}
+use Rattle.frames.specs.Deques.{size, setSize, place, setPlace, bottom, top, push, pop, shiftUp, dropTop, initDeques}
 use Rattle.frames.specs.Siblings.{relinkFrom, eldestTo, firstFrom, nextAfter}
 use Rattle.frames.specs.Steps.{addChild, spawn, removeFrame, endFrame, goOn, wentOn, steal, sync, synced, fold}
 use Rattle.soundness.specs.Soundness.{cleared}
 use Rattle.model.specs.Record.{recordOf, decodeAt}
 use Rattle.semantics.specs.Core.{spawnOn, endAt, upward, endBottom, returnOn, stealOn, syncOn, readOn, writeOn, foldOn, stepOn}
-use Rattle.semantics.specs.Entries.{totalsOf, startOn, startWith, recordsFrom, runOn, TapeResult}
+use Rattle.semantics.specs.Entries.{totalsOf, startOn, startWith, runOn, TapeResult}
 use Rattle.semantics.specs.Calls.{Start, startResult, afterStart, tapeResult}
-use Rattle.starred.specs.Tapes.{bytes, spawns, returns, steals, syncs, reads, writes, folds, foldsMap, foldsLargest, anyParts, anyPool, five, identities}
+use Rattle.starred.specs.Tapes.{bytes, spawns, returns, steals, syncs, reads, writes, folds, foldsMap, foldsLargest, partsWith, anyPool, five, identities}
 use Rattle.starred.specs.Quick.{quickTape, tape-quick}
 
--- a start, then a tape
+-- a start, with a frame table of so many places, then a tape
 pub record Case : Type 0 where
+  pub places : ℕ
   pub workers : ℕ
   pub values : List ℕ
   pub nodes : ℕ
@@ -43,7 +44,7 @@ abbrev pub refusedBy : ℕ → Outcome
 refusedBy k = record { refused = k; answers = []; work = []; totals = [] }
 
 abbrev startOf : Case → Start
-startOf k = record { parts = anyParts; workers = k .workers; values = k .values; pool = anyPool (k .nodes) }
+startOf k = record { parts = partsWith (k .places); workers = k .workers; values = k .values; pool = anyPool (k .nodes) }
 
 abbrev works : Case → List ℕ
 works k = replicate (k .nodes + 1) 5
@@ -61,8 +62,12 @@ outcome k = told k (tapeResult (afterStart (startOf k)) (joined (k .records)) (w
 
 -- ---- the table
 
+abbrev startsIn : ℕ → ℕ → List ℕ → ℕ → List (List ℕ) → Case
+startsIn ps w vs n rs = record { places = ps; workers = w; values = vs; nodes = n; records = rs }
+
+-- 64 places
 abbrev starts : ℕ → List ℕ → ℕ → List (List ℕ) → Case
-starts w vs n rs = record { workers = w; values = vs; nodes = n; records = rs }
+starts w vs n rs = startsIn 64 w vs n rs
 
 -- the answer words, and after them the two that were lent besides; the work words zero, and after them the one besides; the totals
 abbrev ends : ℕ → List ℕ → List ℕ → Outcome
@@ -210,11 +215,22 @@ table =
       starts 2 (7 ∷ []) 1 (foldsMap 0 2 1 ∷ spawns 0 ∷ steals 1 0 ∷ foldsMap 1 3 0 ∷ syncs 1 ∷ foldsMap 0 5 1 ∷ returns 0 ∷ foldsMap 0 1 4 ∷ returns 0 ∷ []),
       ends 1 (107 ∷ 0 ∷ 101 ∷ 1 ∷ 103 ∷ 0 ∷ 107 ∷ 0 ∷ 104 ∷ 1 ∷ 107 ∷ 0 ∷ 102 ∷ 2 ∷ 107 ∷ 0 ∷ 102 ∷ 3 ∷ []) (0 ∷ 4294967295 ∷ 30 ∷ 22 ∷ []),
     )
+    -- R-6: "21, at a start, the table has 0 or more than 256 places"
+    ∷ (startsIn 0 1 five 20 [], refusedBy 21)
+    ∷ (startsIn 257 1 five 20 [], refusedBy 21)
+    ∷ (startsIn 256 1 (7 ∷ []) 1 (spawns 0 ∷ []), answered 1 (101 ∷ 1 ∷ []))
+    -- "Its length, 1 to 256, is the limit in 13": 1, Main's place is the only one, and free again once Main has returned
+    ∷ (startsIn 1 1 (7 ∷ []) 2 (spawns 0 ∷ writes 0 0 5 ∷ reads 0 0 ∷ returns 0 ∷ spawns 0 ∷ []), returned 2 (13 ∷ 0 ∷ 106 ∷ 1 ∷ 105 ∷ 5 ∷ 102 ∷ 3 ∷ 9 ∷ 0 ∷ []))
+    -- 2: one spawn is accepted and the next refused, by whichever frame, also while Main waits; after one return it is accepted
+    ∷ (
+      startsIn 2 2 (7 ∷ []) 2 (spawns 0 ∷ spawns 0 ∷ steals 1 0 ∷ spawns 1 ∷ spawns 0 ∷ returns 0 ∷ spawns 1 ∷ spawns 1 ∷ steals 0 1 ∷ returns 0 ∷ spawns 1 ∷ returns 1 ∷ []),
+      returned 2 (101 ∷ 1 ∷ 13 ∷ 0 ∷ 103 ∷ 0 ∷ 13 ∷ 0 ∷ 13 ∷ 0 ∷ 102 ∷ 1 ∷ 101 ∷ 1 ∷ 13 ∷ 0 ∷ 103 ∷ 0 ∷ 102 ∷ 4 ∷ 13 ∷ 0 ∷ 102 ∷ 3 ∷ []),
+    )
     ∷ []
 
 -- without the check
 quickly : map (λ (row : Case × Outcome). told (row .0) (quickTape (startOf (row .0)) (joined (row .0 .records)) (works (row .0)) (replies (row .0)))) table ≡ map (λ (row : Case × Outcome). row .1) table
-unfolding table startOn startWith runOn recordsFrom recordOf decodeAt spawnOn endAt upward endBottom returnOn stealOn syncOn readOn writeOn foldOn stepOn addChild spawn removeFrame endFrame goOn wentOn steal sync synced fold relinkFrom eldestTo firstFrom nextAfter foldView shiftUp dropTop pop top bottom side child sibling bit leafOf readAt retain release setRefcount pathNode copyPath setValue setLink renew firstShared rest writeFrom write initPool initFree initLeaves initInner initLevel setNode height width treeNodes push setSize setPlace size place setFrame frameAt cleared refcount left right value
+unfolding table startOn startWith runOn recordOf decodeAt spawnOn endAt upward endBottom returnOn stealOn syncOn readOn writeOn foldOn stepOn addChild spawn removeFrame endFrame goOn wentOn steal sync synced fold relinkFrom eldestTo firstFrom nextAfter foldView shiftUp dropTop pop top bottom side child sibling bit leafOf readAt retain release setRefcount pathNode copyPath setValue setLink renew firstShared rest writeFrom write initPool initFree initLeaves initInner initLevel setNode height width treeNodes initDeques initFrames initPlaces push setSize setPlace size place setFrame frameAt cleared refcount left right value
 quickly = refl
 
 pub starred : map (λ (row : Case × Outcome). outcome (row .0)) table ≡ map (λ (row : Case × Outcome). row .1) table

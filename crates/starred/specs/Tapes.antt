@@ -1,11 +1,13 @@
--- Records, tapes and lent words that the tables are written with.
+-- Records, tapes, lent words and frame records that the tables are written with.
 use mathlib.Core.Bool.{cond}
 use mathlib.Core.List.{List, [], _∷_, _++_, map}
 use Prim.Native.Nat.{ℕ, zero, suc, _-_, _*_}
 use lib.ListN.{length, replicate}
 use lib.Dec.{eqb}
 use Rattle.words.specs.Basics.{none, joined}
-use Rattle.frames.specs.Widths.{frameWords, dequeStride, dequeWords}
+use Rattle.frames.specs.declared.Frame.{Frame}
+use Rattle.frames.specs.Widths.{recordWords, dequePlaces, dequeStride, dequeWords}
+use Rattle.frames.specs.Frames.{wordsOf as wordsOfRecord, recordIn, freePlace}
 use Rattle.soundness.specs.Numbers.{numberCount}
 use Rattle.semantics.specs.Entries.{State}
 
@@ -47,27 +49,38 @@ foldsLargest w r = 7 ∷ w ∷ r ∷ 0 ∷ 255 ∷ 255 ∷ 255 ∷ 255 ∷ []
 
 -- ---- lent words
 
--- parts of the state with their exact lengths, which hold anything before a start
+-- "1 to 256": a frame table of so many places, which hold anything before a start
+abbrev pub anyTable : ℕ → List Frame
+anyTable places = replicate places (recordIn (replicate recordWords 3))
+
+-- parts of the state, the words with their exact lengths, which hold anything before a start
+abbrev pub partsWith : ℕ → State
+partsWith places = record { numbers = replicate numberCount 3; deques = replicate dequeWords 3; frames = anyTable places }
+
+-- "splitrun lends 64 places"
 abbrev pub anyParts : State
-anyParts = record { numbers = replicate numberCount 3; deques = replicate dequeWords 3; frames = replicate frameWords 3 }
+anyParts = partsWith 64
 
 -- a pool of so many nodes, which holds anything before a start
 abbrev pub anyPool : ℕ → List ℕ
 anyPool nodes = replicate (4 * nodes) 7
 
--- the words of a state, one after another
+-- the words of a frame table, and of a state, one after another
+abbrev pub recordsOf : List Frame → List ℕ
+recordsOf fs = joined (map wordsOfRecord fs)
+
 abbrev pub wordsOf : State → List ℕ
-wordsOf s = s .numbers ++ (s .deques ++ s .frames)
+wordsOf s = s .numbers ++ (s .deques ++ recordsOf (s .frames))
 
 -- document 01's five values
 abbrev pub five : List ℕ
 five = 10 ∷ 20 ∷ 30 ∷ 40 ∷ 50 ∷ []
 
--- ---- words
+-- ---- deques
 
 -- a deque's length and its frames from the top; "deque places past a deque's frames are zero"
 abbrev pub deque : List ℕ → List ℕ
-deque ps = length ps ∷ (ps ++ replicate (64 - length ps) 0)
+deque ps = length ps ∷ (ps ++ replicate (dequePlaces - length ps) 0)
 
 -- of the first workers; the others have none
 abbrev pub dequesOf : List (List ℕ) → List ℕ
@@ -76,31 +89,32 @@ dequesOf pss = joined (map deque pss) ++ replicate (dequeWords - dequeStride * l
 abbrev pub deques : List ℕ → List ℕ → List ℕ
 deques ps qs = dequesOf (ps ∷ qs ∷ [])
 
+-- ---- frame records
+
 -- "the sum, the minimum, the multiplier and the addend" of the identities
 abbrev pub identities : List ℕ
 identities = 0 ∷ none ∷ 1 ∷ 0 ∷ []
 
 -- live, parent, depth, outstanding, suspended, root, returning (R-3), "the four view words and the next younger live sibling or none" (R-5)
-abbrev pub frame : ℕ → ℕ → ℕ → ℕ → ℕ → ℕ → List ℕ → ℕ → List ℕ
-frame parent depth outstanding suspended root returning view younger = 1 ∷ parent ∷ depth ∷ outstanding ∷ suspended ∷ root ∷ returning ∷ (view ++ younger ∷ [])
+abbrev pub frame : ℕ → ℕ → ℕ → ℕ → ℕ → ℕ → List ℕ → ℕ → Frame
+frame parent depth outstanding suspended root returning view younger = recordIn (1 ∷ parent ∷ depth ∷ outstanding ∷ suspended ∷ root ∷ returning ∷ (view ++ younger ∷ []))
 
 -- where nothing was folded, and without a younger sibling
-abbrev pub live : ℕ → ℕ → ℕ → ℕ → ℕ → List ℕ
+abbrev pub live : ℕ → ℕ → ℕ → ℕ → ℕ → Frame
 live parent depth outstanding suspended root = frame parent depth outstanding suspended root 0 identities none
 
 -- R-3: a live frame that waits in its return: "1 on a frame waiting so, which is suspended"
-abbrev pub waiting : ℕ → ℕ → ℕ → ℕ → List ℕ
+abbrev pub waiting : ℕ → ℕ → ℕ → ℕ → Frame
 waiting parent depth outstanding root = frame parent depth outstanding 1 root 1 identities none
 
--- "Free frame places .., all but the link to the next being zero"
-abbrev pub free : ℕ → List ℕ
-free next = 0 ∷ next ∷ replicate 10 0
-
 -- c free places in rising order, the second being p
-abbrev pub rising : ℕ → ℕ → List ℕ
+abbrev pub rising : ℕ → ℕ → List Frame
 rising zero p = []
-rising (suc c) p = free (cond (eqb c 0) none p) ++ rising c (suc p)
+rising (suc c) p = freePlace (cond (eqb c 0) none p) ∷ rising c (suc p)
 
--- the first places, then the rest, free in rising order
-abbrev pub frames : List (List ℕ) → List ℕ
-frames fs = joined fs ++ rising (64 - length fs) (suc (length fs))
+-- a table of so many places: the first ones, then the rest, free in rising order
+abbrev pub framesIn : ℕ → List Frame → List Frame
+framesIn places fs = fs ++ rising (places - length fs) (suc (length fs))
+
+abbrev pub frames : List Frame → List Frame
+frames fs = framesIn 64 fs

@@ -2,22 +2,26 @@
 use mathlib.Core.Path.{_≡_, sym, subst}
 use mathlib.Core.Bool.{Bool, true, false, cond, _&&_}
 use mathlib.Core.Logic.{inl, inr}
-use mathlib.Core.List.{List, [], _∷_}
-use Prim.Native.Nat.{ℕ, zero, suc, _+_, _/_, _≤_, _<_}
+use mathlib.Core.List.{List, [], _∷_, _++_}
+use Prim.Native.Nat.{ℕ, zero, suc, _+_, _-_, _/_, _≤_, _<_}
 use native.Mathlib.Omega.{arith}
-use lib.ListN.{length, getD, replicate}
+use native.Mathlib.Decide.{ℕ-discrete, decLt}
+use lib.ListN.{length, getD, drop, replicate}
 use lib.Dec.{eqb, ltb}
 use Rattle.words.specs.Basics.{none}
 use Rattle.words.specs.Tests.{decided}
-use Rattle.words.specs.Below.{Words, Bytes, below-append, below-drop, words-set, words-zeros}
+use Rattle.words.specs.Below.{Words, Bytes, below-append, below-take, below-drop, words-set, words-zeros, cond-word}
 use Rattle.pool.specs.Theory.Words.{words-retain, words-release, words-write, words-initPool}
 use Rattle.reducers.specs.Law.{ViewWord}
 use Rattle.frames.specs.declared.Frame.{Frame}
-use Rattle.frames.specs.Widths.{frameWords, dequeWords}
-use Rattle.frames.specs.Frames.{frameAt, withRoot}
+use Rattle.frames.specs.Widths.{maxPlaces, dequeWords}
+use Rattle.frames.specs.Frames.{frameAt, withRoot, initFrames}
 use Rattle.frames.specs.Deques.{size, bottom}
 use Rattle.frames.specs.Steps.{Table, endsToo}
-use Rattle.frames.specs.Theory.Words.{words-view, words-frameAt, words-setFrame, words-root, TableWords, words-acting, words-spawn, words-waiting, bottom-word, words-endFrame, words-goOn, words-steal, words-sync, words-fold, words-initFrames, words-initDeques}
+use Rattle.frames.specs.Theory.Words.{RecordWords as FramesWords, words-view, words-setFrame, words-root, TableWords, words-acting, words-spawn, words-waiting, bottom-word, words-endFrame, words-goOn, words-steal, words-sync, words-fold, words-initDeques}
+use Rattle.frames.specs.Theory.RecordWords.{words-mainFrame, words-freePlace}
+use Rattle.frames.specs.Theory.Records.{frame-past}
+use Rattle.frames.specs.Theory.Start.{length-init, init-main, init-free}
 use Rattle.soundness.specs.declared.Numbers.{Numbers}
 use Rattle.soundness.specs.declared.Checked.{Checked}
 use Rattle.soundness.specs.declared.Checked.the-variants.{NoRoom, Sound}
@@ -32,34 +36,45 @@ use Rattle.semantics.specs.Core.{Core, StepResult, tableOf, actingIn, wi
 use Rattle.semantics.specs.Entries.{State, fits, coreOf, stateOf, checkedState, wholeNodes, firstNumbers, startAccepted, StartResult, recordOn, outsideChecked, outsideWith, outsideOn, recordsFrom, recordsOf, recordsResult, runOn, unfitTape, tapeChecked, tapeWith, tapeOn}
 use Rattle.semantics.specs.Calls.{Start, afterStart, startResult, HostCall, outside, tape, StateAndPool, afterCall}
 use Rattle.semantics.specs.Demands.{StateWords, HostWords}
-use Rattle.semantics.specs.Theory.Starts.{started-fit}
+use Rattle.semantics.specs.Theory.Starts.{Fit, started-fit}
 
 -- ---- words of a core, and of a state with a pool
 
+-- the numbers without the totals
+abbrev six : Numbers → List ℕ
+six s = s .workers ∷ s .splitters ∷ s .nodes ∷ s .«free_node» ∷ s .«free_place» ∷ s .places ∷ []
+
 pub record CoreWords (c : Core) : Type 0 where
-  pub numbers : Words (numberWords (c .head .numbers))
+  pub numbers : Words (six (c .head .numbers))
   pub totals : Words (c .totals)
   pub deques : Words (c .deques)
-  pub frames : Words (c .frames)
+  pub frames : FramesWords (c .frames)
   pub pool : Words (c .pool)
 
-number-words : (s : Numbers) → s .workers < 4294967296 → s .splitters < 4294967296 → s .nodes < 4294967296 → s .«free_node» < 4294967296 → s .«free_place» < 4294967296 → Words (numberWords s)
-number-words s a b c d e zero = a
-number-words s a b c d e (suc zero) = b
-number-words s a b c d e (suc (suc zero)) = c
-number-words s a b c d e (suc (suc (suc zero))) = d
-number-words s a b c d e (suc (suc (suc (suc zero)))) = e
-number-words s a b c d e (suc (suc (suc (suc (suc i))))) = omega arith
+number-words : (s : Numbers) → s .workers < 4294967296 → s .splitters < 4294967296 → s .nodes < 4294967296 → s .«free_node» < 4294967296 → s .«free_place» < 4294967296 → s .places < 4294967296 → Words (six s)
+number-words s a b c d e f zero = a
+number-words s a b c d e f (suc zero) = b
+number-words s a b c d e f (suc (suc zero)) = c
+number-words s a b c d e f (suc (suc (suc zero))) = d
+number-words s a b c d e f (suc (suc (suc (suc zero)))) = e
+number-words s a b c d e f (suc (suc (suc (suc (suc zero))))) = f
+number-words s a b c d e f (suc (suc (suc (suc (suc (suc i)))))) = omega arith
+
+-- with the totals among them
+with-totals : (s : Numbers) (ts : List ℕ) → Words (six s) → Words ts → Words (numberWords s ts)
+with-totals s ts h k =
+    below-append 4294967296 (s .workers ∷ s .splitters ∷ s .nodes ∷ s .«free_node» ∷ s .«free_place» ∷ []) (ts ++ (s .places ∷ [])) (below-take 4294967296 headCount (six s) (omega arith) h)
+    (below-append 4294967296 ts (s .places ∷ []) k (below-drop 4294967296 headCount (six s) h))
 
 pub state-words : (c : Core) → CoreWords c → StateWords (stateOf c) (c .pool)
 state-words c C =
-    record { numbers = below-append 4294967296 (numberWords (c .head .numbers)) (c .totals) (C .numbers) (C .totals); deques = C .deques; frames = C .frames; pool = C .pool }
+    record { numbers = with-totals (c .head .numbers) (c .totals) (C .numbers) (C .totals); deques = C .deques; frames = C .frames; pool = C .pool }
 
 pub core-words : (s : State) (ws : List ℕ) (k : ℕ) → StateWords s ws → CoreWords (coreOf s ws k)
 core-words s ws k S =
     record {
-      numbers = number-words _ (S .numbers 0) (S .numbers 1) (S .numbers 2) (S .numbers 3) (S .numbers 4);
-      totals = below-drop 4294967296 headCount (s .numbers) (S .numbers);
+      numbers = number-words _ (S .numbers 0) (S .numbers 1) (S .numbers 2) (S .numbers 3) (S .numbers 4) (S .numbers (headCount + totalCount));
+      totals = below-take 4294967296 totalCount (drop headCount (s .numbers)) (omega arith) (below-drop 4294967296 headCount (s .numbers) (S .numbers));
       deques = S .deques;
       frames = S .frames;
       pool = S .pool;
@@ -120,7 +135,7 @@ table-words c C = record { deques = C .deques; frames = C .frames; place = C .nu
 
 -- another table
 table-kept : (c : Core) (t : Table) → CoreWords c → TableWords t → CoreWords (withTable c t)
-table-kept c t C T = record { numbers = words-set (numberWords (c .head .numbers)) 4 _ (C .numbers) (T .place); totals = C .totals; deques = T .deques; frames = T .frames; pool = C .pool }
+table-kept c t C T = record { numbers = words-set (six (c .head .numbers)) 4 _ (C .numbers) (T .place); totals = C .totals; deques = T .deques; frames = T .frames; pool = C .pool }
 
 -- the one result or the other
 either-result : (b : Bool) (x y : StepResult) → CoreWords (x .core) → CoreWords (y .core) → CoreWords (cond b x y .core)
@@ -136,10 +151,10 @@ totals-words c f h C = elim (decided (eqb (f .parent) none)) [ inl e ↦ rw e (w
 endAt-words : (c : Core) (p : ℕ) → p < 4294967296 → CoreWords c → CoreWords (endAt c p)
 unfolding endAt
 endAt-words c p h C =
-    let f = words-frameAt (c .frames) p (C .frames) in
+    let f = C .frames p in
     let P = words-release (c .head .height) (c .pool) (c .head .numbers .«free_node») (c .head .«free_count») (frameAt (c .frames) p .root) (C .pool) (C .numbers 3) (f .root) in
     record {
-      numbers = words-set (numberWords (setFreePlace (c .head .numbers) p)) 3 _ (words-set (numberWords (c .head .numbers)) 4 p (C .numbers) h) (P .free);
+      numbers = words-set (six (setFreePlace (c .head .numbers) p)) 3 _ (words-set (six (c .head .numbers)) 4 p (C .numbers) h) (P .free);
       totals = totals-words c (frameAt (c .frames) p) (f .view) C;
       deques = C .deques;
       frames = words-endFrame (c .frames) (c .head .numbers .«free_place») p (C .numbers 4) (C .frames);
@@ -151,7 +166,7 @@ unfolding upward
 upward-words zero c w q h C = C
 upward-words (suc d) c w q h C =
     either-result (endsToo (frameAt (c .frames) q)) _ _
-    (upward-words d (endAt c q) w (frameAt (c .frames) q .parent) (words-frameAt (c .frames) q (C .frames) .parent) (endAt-words c q h C))
+    (upward-words d (endAt c q) w (frameAt (c .frames) q .parent) (C .frames q .parent) (endAt-words c q h C))
     (table-kept c _ C (words-goOn (tableOf c) w (table-words c C) q h))
 
 endBottom-words : (c : Core) (w : ℕ) → CoreWords c → CoreWords (endBottom c w .core)
@@ -178,7 +193,7 @@ module _ (c : Core) (C : CoreWords c) where
       let T = words-spawn (tableOf c) w (table-words c C) in
       unfold spawnOn in
       record {
-        numbers = words-set (numberWords (c .head .numbers)) 4 _ (C .numbers) (T .place);
+        numbers = words-set (six (c .head .numbers)) 4 _ (C .numbers) (T .place);
         totals = C .totals;
         deques = T .deques;
         frames = T .frames;
@@ -198,7 +213,7 @@ module _ (c : Core) (C : CoreWords c) where
       let P = words-write (c .head .height) (c .pool) (c .head .numbers .«free_node») (c .head .«free_count») (actingIn c w .root) x v (C .pool) (C .numbers 3) (root-word w) h in
       unfold writeOn in
       record {
-        numbers = words-set (numberWords (c .head .numbers)) 3 _ (C .numbers) (P .free);
+        numbers = words-set (six (c .head .numbers)) 3 _ (C .numbers) (P .free);
         totals = C .totals;
         deques = C .deques;
         frames = words-setFrame (c .frames) (bottom (c .deques) w) (withRoot (actingIn c w) _) (C .frames) (words-root (actingIn c w) (words-acting (tableOf c) w (table-words c C)) _ (P .root));
@@ -228,14 +243,27 @@ run-words (d ∷ ds) c answers k C h = run-words ds (recordOn c d .core) _ (k + 
 
 -- ---- a start
 
-pub start-words : (workers : ℕ) (vs ws : List ℕ) → workers < 4294967296 → Words vs → Words ws → length vs ≤ 256 → wholeNodes ws ≤ 16384 → StateWords (startAccepted workers vs ws .state) (startAccepted workers vs ws .pool)
-start-words workers vs ws a h k l m =
+-- the first table, whatever the lent one holds
+first-words : (fs : List Frame) → 1 ≤ length fs → length fs ≤ maxPlaces → FramesWords (initFrames fs)
+first-words fs some few p = elim (ℕ-discrete p 0) [
+  | yes e ↦ rw (e, init-main fs some few) words-mainFrame
+  | no e ↦ elim (decLt p (length fs)) [
+    | yes b ↦ rw (init-free fs some few p (omega arith) b) (words-freePlace _ (cond-word (eqb p (length fs - 1)) none (suc p) (omega arith) (omega arith)))
+    | no b ↦ rw (frame-past (initFrames fs) p (omega (arith, length-init fs))) (words-freePlace 0 (omega arith))
+  ]
+]
+
+pub start-words : (workers : ℕ) (vs : List ℕ) (fs : List Frame) (ws : List ℕ) → Words vs → Words ws → Fit workers vs fs ws → StateWords (startAccepted workers vs fs ws .state) (startAccepted workers vs fs ws .pool)
+start-words workers vs fs ws h k F =
     let P = words-initPool ws (length vs) (wholeNodes ws) vs k h in
-    let s : Numbers = firstNumbers workers (length vs) (wholeNodes ws) _ in
+    let s : Numbers = firstNumbers workers (length vs) (wholeNodes ws) _ (length fs) in
+    let free : s .«free_place» < 4294967296 = cond-word (eqb (length fs) 1) none 1 (omega arith) (omega arith) in
     record {
-      numbers = below-append 4294967296 (numberWords s) (replicate totalCount 0) (number-words s a (omega arith) (omega arith) (P .1) (omega arith)) (words-zeros totalCount);
+      numbers =
+          with-totals s (replicate totalCount 0)
+          (number-words s (omega (arith, F .workers-le)) (omega (arith, F .values-le)) (omega (arith, F .nodes-le)) (P .1) free (omega (arith, F .places-le))) (words-zeros totalCount);
       deques = words-initDeques dequeWords;
-      frames = words-initFrames frameWords;
+      frames = first-words fs (F .places-positive) (F .places-le);
       pool = P .0;
     }
 
@@ -243,7 +271,7 @@ start-words workers vs ws a h k l m =
 pub started-words : (b : Start) → startResult b .result ≡ 0 → Words (b .values) → Words (b .pool) → StateWords (afterStart b .state) (afterStart b .pool)
 started-words b e h k =
     let A = started-fit (b .parts) (b .workers) (b .values) (b .pool) e in
-    subst (λ (o : StartResult). StateWords (o .state) (o .pool)) (sym (A .result)) (start-words (b .workers) (b .values) (b .pool) (omega (arith, A .fit .workers-le)) h k (A .fit .values-le) (A .fit .nodes-le))
+    subst (λ (o : StartResult). StateWords (o .state) (o .pool)) (sym (A .result)) (start-words (b .workers) (b .values) (b .parts .frames) (b .pool) h k (A .fit))
 
 -- ---- calls
 

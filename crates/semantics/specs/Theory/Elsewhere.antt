@@ -41,7 +41,7 @@ relates-elsewhere {M = M} {c} ws' E r S =
     record {
       at = r .at;
       gs = r .gs;
-      numbers = same-numbers M c (withPool c ws') (M .deques) (M .suspended) refl (r .numbers) refl refl refl refl;
+      numbers = same-numbers M c (withPool c ws') (M .deques) (M .suspended) refl (r .numbers) refl refl refl refl refl refl;
       formed = r .formed;
       deques = r .deques;
       running = r .running;

@@ -17,9 +17,8 @@ use Rattle.words.specs.Distinct.{same-eq, same-ne, same-refl, same-differ}
 use Rattle.words.specs.Counting.{δ-other, count, count-cons, hit, miss}
 use Rattle.sizes.specs.Sizes.{height}
 use Rattle.pool.specs.Pool.{readAt, release}
-use Rattle.frames.specs.Widths.{places, frameWords}
 use Rattle.frames.specs.Deques.{dequeList}
-use Rattle.frames.specs.declared.Frame.{Frame as FrameWords}
+use Rattle.frames.specs.declared.Frame.{Frame as FrameRecord}
 use Rattle.frames.specs.Frames.{frameAt, withoutChild, freePlace}
 use Rattle.frames.specs.Siblings.{nextAfter}
 use Rattle.frames.specs.Steps.{removeFrame, endFrame}
@@ -37,8 +36,8 @@ use Rattle.semantics.specs.Theory.Places.{count-perm, childCount-perm, m
 use Rattle.semantics.specs.Theory.AlikeTables.{relates-alike}
 
 -- the frame table after the end of g, the others being R
-pub record FramesAfter {P : Trees} {M : Machine} {c : Core} (r : Relates P M c) (g : Frame) (R : List Frame) (fs′ : List ℕ) : Type 0 where
-  pub long : length fs′ ≡ frameWords
+pub record FramesAfter {P : Trees} {M : Machine} {c : Core} (r : Relates P M c) (g : Frame) (R : List Frame) (fs′ : List FrameRecord) : Type 0 where
+  pub same-length : length fs′ ≡ length (c .frames)
   pub places : FreePlaces fs′ (r .at (g .name)) (r .at (g .name) ∷ r .gs)
   pub freed : frameAt fs′ (r .at (g .name)) ≡ freePlace (c .head .numbers .«free_place»)
   pub same-free : (p : ℕ) → 0 < count p (r .gs) → frameAt fs′ p ≡ frameAt (c .frames) p
@@ -49,7 +48,7 @@ module _ {P : Trees} {M : Machine} {c : Core} (r : Relates P M c) (tree : FrameT
   abbrev own : ℕ
   own = r .at (g .name)
 
-  abbrev fs′ : List ℕ
+  abbrev fs′ : List FrameRecord
   fs′ = removeFrame (c .frames) (c .head .numbers .«free_place») own
 
   old : (f : Frame) → In f (g ∷ R) → In f (live M)
@@ -81,13 +80,13 @@ module _ {P : Trees} {M : Machine} {c : Core} (r : Relates P M c) (tree : FrameT
 
     main-after : FramesAfter r g R fs′
     main-after = record {
-      long = F .after .formed .long;
+      same-length = F .after .same-length;
       places = F .after .formed .places;
       freed = F .freed;
       same-free = λ p h. F .after .records p ((λ z. omega (arith, h, taken g (here refl), ap (λ (x : ℕ). count x (r .gs)) z)), tt);
-      same-root = λ f i. ap (λ (G : FrameWords). G .root) (main-same f i);
+      same-root = λ f i. ap (λ (G : FrameRecord). G .root) (main-same f i);
       kept = λ L′ π f i s.
-          recorded-kept (c .frames) fs′ (r .at) (r .at) (live M) L′ s f refl (main-same f i) refl
+          recorded-kept (c .frames) fs′ (r .at) (r .at) (live M) L′ s f (F .after .same-length) refl (main-same f i) refl
           (omega (arith, counts (f .name) L′ π, miss {b = isChild (f .name) (g .name)} (ap (isChild (f .name)) main)));
     }
 
@@ -97,8 +96,8 @@ module _ {P : Trees} {M : Machine} {c : Core} (r : Relates P M c) (tree : FrameT
     abbrev upper : ℕ
     upper = r .at p
 
-    parent-inside : upper < places
-    parent-inside = subst (λ (n : Name). r .at n < places) eh (placed-inside r h (old h (there mh)))
+    parent-inside : upper < length (c .frames)
+    parent-inside = subst (λ (n : Name). r .at n < length (c .frames)) eh (placed-inside r h (old h (there mh)))
 
     parent-taken : count upper (own ∷ r .gs) ≡ 0
     parent-taken =
@@ -132,22 +131,22 @@ module _ {P : Trees} {M : Machine} {c : Core} (r : Relates P M c) (tree : FrameT
     parent-kept L′ π f z s W =
         recorded-as fs′ (r .at) L′ s f (r .at (f .name)) (withoutChild (frameAt (c .frames) (r .at (f .name)))) refl
         (subst (λ (n : Name). frameAt fs′ (r .at n) ≡ withoutChild (frameAt (c .frames) (r .at n))) (sym z) (X .1))
-        (W .inside) (W .live) (W .parent) (W .depth)
+        (omega (arith, X .0 .after .same-length, W .inside)) (W .live) (W .parent) (W .depth)
         (omega (arith, W .outstanding, subst (λ (n : Name). childCount n (live M) ≡ 1 + childCount n L′) (sym z) (counts-parent L′ π))) (W .suspended) (W .returning)
 
     child-after : FramesAfter r g R fs′
     child-after = record {
-      long = X .0 .after .formed .long;
+      same-length = X .0 .after .same-length;
       places = X .0 .after .formed .places;
       freed = X .0 .freed;
       same-free = child-free;
       same-root = λ f i. elim (decided (same (f .name) p)) [
-        | inl z ↦ subst (λ (n : Name). frameAt fs′ (r .at n) .root ≡ frameAt (c .frames) (r .at n) .root) (sym (same-eq (f .name) p z)) (ap (λ (G : FrameWords). G .root) (X .1))
-        | inr z ↦ ap (λ (G : FrameWords). G .root) (child-same f i (same-ne z))
+        | inl z ↦ subst (λ (n : Name). frameAt fs′ (r .at n) .root ≡ frameAt (c .frames) (r .at n) .root) (sym (same-eq (f .name) p z)) (ap (λ (G : FrameRecord). G .root) (X .1))
+        | inr z ↦ ap (λ (G : FrameRecord). G .root) (child-same f i (same-ne z))
       ];
       kept = λ L′ π f i s W. elim (decided (same (f .name) p)) [
         | inl z ↦ parent-kept L′ π f (same-eq (f .name) p z) s W
-        | inr z ↦ recorded-kept (c .frames) fs′ (r .at) (r .at) (live M) L′ s f refl (child-same f i (same-ne z)) refl (counts-other (f .name) (same-ne z) L′ π) W
+        | inr z ↦ recorded-kept (c .frames) fs′ (r .at) (r .at) (live M) L′ s f (X .0 .after .same-length) refl (child-same f i (same-ne z)) refl (counts-other (f .name) (same-ne z) L′ π) W
       ];
     }
 
@@ -195,28 +194,28 @@ module _ {P : Trees} {M : Machine} {c : Core} (r : Relates P M c) (tree : FrameT
   A : FramesAfter r g R (fs′ r tree g R before)
   A = frames-after r tree g R before
 
-  abbrev after-words : List ℕ
-  after-words = fs′ r tree g R before
+  abbrev after-table : List FrameRecord
+  after-table = fs′ r tree g R before
 
   -- the pool after the release of the tree of g
   abbrev pool′ : List ℕ × ℕ × ℕ
   pool′ = release (c .head .height) (c .pool) (c .head .numbers .«free_node») (c .head .«free_count») (rootOf (c .frames) (r .at) g)
 
-  once-left : PlacedOnce (r .at) (r .at (g .name) ∷ r .gs) (live M′)
+  once-left : PlacedOnce (length after-table) (r .at) (r .at (g .name) ∷ r .gs) (live M′)
   once-left p b =
       let at : Frame → ℕ = λ f. r .at (f .name) in
-      omega (arith, r .once p b, count-perm p (Permᴰ·map at before), count-perm p (Permᴰ·map at (X .frames)), count-cons p (r .at (g .name)) (placesOf (r .at) R), count-cons p (r .at (g .name)) (r .gs))
+      omega (arith, r .once p (omega (arith, A .same-length, b)), count-perm p (Permᴰ·map at before), count-perm p (Permᴰ·map at (X .frames)), count-cons p (r .at (g .name)) (placesOf (r .at) R), count-cons p (r .at (g .name)) (r .gs))
 
-  vacant-left : (p : ℕ) → p < places → 0 < count p (r .at (g .name) ∷ r .gs) → (x : ℕ) × (frameAt after-words p ≡ freePlace x)
+  vacant-left : (p : ℕ) → p < length after-table → 0 < count p (r .at (g .name) ∷ r .gs) → (x : ℕ) × (frameAt after-table p ≡ freePlace x)
   vacant-left p b h =
       elim (ℕ-discrete p (r .at (g .name))) [
-        | yes z ↦ (c .head .numbers .«free_place», ap (frameAt after-words) z ∙ A .freed)
+        | yes z ↦ (c .head .numbers .«free_place», ap (frameAt after-table) z ∙ A .freed)
         | no z ↦ (let h′ : 0 < count p (r .gs) = omega (arith, h, count-cons p (r .at (g .name)) (r .gs), δ-other p (r .at (g .name)) z) in
-            let o = r .vacant p b h′ in (o .0, A .same-free p h′ ∙ o .1))
+            let o = r .vacant p (omega (arith, A .same-length, b)) h′ in (o .0, A .same-free p h′ ∙ o .1))
       ]
 
-  roots-left : rootsOf after-words (r .at) R ≡ rootsOf (c .frames) (r .at) R
-  roots-left = map-cong (treeOf after-words (r .at)) (treeOf (c .frames) (r .at)) R (λ f i. ap (λ (x : ℕ). (x, f .history)) (A .same-root f i))
+  roots-left : rootsOf after-table (r .at) R ≡ rootsOf (c .frames) (r .at) R
+  roots-left = map-cong (treeOf after-table (r .at)) (treeOf (c .frames) (r .at)) R (λ f i. ap (λ (x : ℕ). (x, f .history)) (A .same-root f i))
 
   module _ (laws : TreeLaws (c .head .numbers .nodes) (M .splitters) P) where
     pool-left : P (pool′ .0) (pool′ .1) (pool′ .2) (rootsOf (c .frames) (r .at) R)
@@ -227,15 +226,15 @@ module _ {P : Trees} {M : Machine} {c : Core} (r : Relates P M c) (tree : FrameT
         (laws .perm (c .pool) (c .head .numbers .«free_node») (c .head .«free_count») (rootsOf (c .frames) (r .at) (live M)) (rootsOf (c .frames) (r .at) (g ∷ R))
         (Permᴰ·map (treeOf (c .frames) (r .at)) before) (r .trees)))
 
-    trees-left : P (pool′ .0) (pool′ .1) (pool′ .2) (rootsOf after-words (r .at) (live M′))
+    trees-left : P (pool′ .0) (pool′ .1) (pool′ .2) (rootsOf after-table (r .at) (live M′))
     trees-left =
         laws .perm (pool′ .0) (pool′ .1) (pool′ .2)
-        (rootsOf after-words (r .at) R) (rootsOf after-words (r .at) (live M′))
-        (Permᴰ·map (treeOf after-words (r .at)) (Permᴰ·symm (X .frames)))
+        (rootsOf after-table (r .at) R) (rootsOf after-table (r .at) (live M′))
+        (Permᴰ·map (treeOf after-table (r .at)) (Permᴰ·symm (X .frames)))
         (subst (P (pool′ .0) (pool′ .1) (pool′ .2)) (sym roots-left) (pool-left .0))
 
     values-left : (f : Frame) → In f (live M′) → (x : ℕ) → x < M .splitters
-        → readAt (height (M .splitters)) (pool′ .0) (rootOf after-words (r .at) f) x ≡ getD (f .values) x 0
+        → readAt (height (M .splitters)) (pool′ .0) (rootOf after-table (r .at) f) x ≡ getD (f .values) x 0
     values-left f m x b =
         let i = In-perm (X .frames) m in
         ap (λ (z : ℕ). readAt (height (M .splitters)) (pool′ .0) z x) (A .same-root f i)
@@ -248,7 +247,7 @@ module _ {P : Trees} {M : Machine} {c : Core} (r : Relates P M c) (tree : FrameT
       head = withFreeNodes (withFreePlace (c .head) (r .at (g .name))) (pool′ .1) (pool′ .2);
       totals = totalsAfter c (frameAt (c .frames) (r .at (g .name)));
       deques = dsw;
-      frames = after-words;
+      frames = after-table;
       pool = pool′ .0;
     }
 
@@ -262,7 +261,7 @@ module _ {P : Trees} {M : Machine} {c : Core} (r : Relates P M c) (tree : FrameT
     not-main : (k : ℕ) (p : Name) → g .name ≡ k ∷ p → frameAt (c .frames) (r .at (g .name)) .parent ≢ none
     not-main k p z m =
         let h = parent-lives r tree g R before k p z in
-        omega (arith, m, own-parent ∙ ap (parentPlace (r .at)) z, ap (r .at) (h .2), placed-inside r (h .0) (old r tree g R before (h .0) (there (h .1))))
+        omega (arith, m, r .formed .few, own-parent ∙ ap (parentPlace (r .at)) z, ap (r .at) (h .2), placed-inside r (h .0) (old r tree g R before (h .0) (there (h .1))))
 
     totals-left : TotalsKept (removed .totals) (live M′)
     totals-left = by-name (g .name) refl
@@ -277,8 +276,8 @@ module _ {P : Trees} {M : Machine} {c : Core} (r : Relates P M c) (tree : FrameT
     relates-left = record {
       at = r .at;
       gs = r .at (g .name) ∷ r .gs;
-      numbers = same-numbers M c removed ds ss (X .workers) (r .numbers) refl refl refl refl;
-      formed = record { shaped = X .shaped; long = A .long; places = A .places };
+      numbers = same-numbers M c removed ds ss (X .workers) (r .numbers) refl refl refl refl refl (A .same-length);
+      formed = record { shaped = X .shaped; few = omega (arith, A .same-length, r .formed .few); places = A .places };
       deques = X .deques;
       running = λ f m. (let x = X .running f m in A .kept (live M′) (X .frames) f (x .0) 0 (r .running f (x .1)));
       waiting = λ f m. (let x = X .waiting f m in A .kept (live M′) (X .frames) f (x .0) 1 (r .waiting f (x .1)));
@@ -290,22 +289,22 @@ module _ {P : Trees} {M : Machine} {c : Core} (r : Relates P M c) (tree : FrameT
     }
 
     -- the frame table afterwards
-    abbrev ended-words : List ℕ
-    ended-words = endFrame (c .frames) (c .head .numbers .«free_place») (r .at (g .name))
+    abbrev ended-table : List FrameRecord
+    ended-table = endFrame (c .frames) (c .head .numbers .«free_place») (r .at (g .name))
 
-    alike : NextIn r g R → Alike after-words ended-words
+    alike : NextIn r g R → Alike after-table ended-table
     alike next = by-name (g .name) refl
       where
-        by-name : (n : Name) → g .name ≡ n → Alike after-words ended-words
-        by-name [] z = rw (end-last (c .frames) (c .head .numbers .«free_place») (r .at (g .name)) (is-main z)) (alike-refl after-words)
+        by-name : (n : Name) → g .name ≡ n → Alike after-table ended-table
+        by-name [] z = rw (end-last (c .frames) (c .head .numbers .«free_place») (r .at (g .name)) (is-main z)) (alike-refl after-table)
         by-name (k ∷ p) z =
             let x = next k p z in
             let i = In-perm (Permᴰ·symm before) (there (x .1)) in
             let W = A .kept (live M′) (X .frames) (x .0) (x .1) (recorded r (x .0) i .0) (recorded r (x .0) i .1) in
-            end-alike (c .frames) (c .head .numbers .«free_place») (r .at (g .name)) (r .formed .long) (not-main k p z)
-            (subst (λ (y : ℕ). y < places) (sym (x .2)) (W .inside)) (subst (λ (y : ℕ). frameAt after-words y .live ≡ 1) (sym (x .2)) (W .live))
+            end-alike (c .frames) (c .head .numbers .«free_place») (r .at (g .name)) (not-main k p z)
+            (subst (λ (y : ℕ). y < length (c .frames)) (sym (x .2)) (omega (arith, A .same-length, W .inside))) (subst (λ (y : ℕ). frameAt after-table y .live ≡ 1) (sym (x .2)) (W .live))
 
     -- the frames that are left keep their places
     pub end-relates : NextIn r g R → (r′ : Relates P (withFrames M ds ss) (endAt (withDeques c dsw) (r .at (g .name)))) × (r′ .at ≡ r .at)
     unfolding endAt
-    end-relates next = (relates-alike relates-left ended-words (alike next), refl)
+    end-relates next = (relates-alike relates-left ended-table (alike next), refl)

@@ -14,8 +14,7 @@ use Rattle.sizes.specs.Heights.{height-covers}
 use Rattle.pool.specs.Links.{Link, LinksIn}
 use Rattle.pool.specs.Theory.LiveLinks.{live-links, live-free}
 use Rattle.pool.specs.Theory.Sharing.{root-of}
-use Rattle.frames.specs.Widths.{places}
-use Rattle.frames.specs.declared.Frame.{Frame as FrameWords}
+use Rattle.frames.specs.declared.Frame.{Frame as FrameRecord}
 use Rattle.frames.specs.Frames.{frameAt}
 use Rattle.frames.specs.Deques.{size, bottom}
 use Rattle.frames.specs.Steps.{endsToo}
@@ -43,7 +42,7 @@ module _ (N n : ℕ) (most : N ≤ 16384) (some : 1 ≤ n) where
   -- ---- one frame
 
   module _ (M : Machine) (c : Core) (r : Relates P M c) (tree : FrameTree M) (e : c .head .numbers .nodes ≡ N) (g : Frame) (m : In g (live M)) where
-    abbrev F : FrameWords
+    abbrev F : FrameRecord
     F = frameAt (c .frames) (r .at (g .name))
 
     R : (s : ℕ) × Recorded (c .frames) (r .at) (live M) s g
@@ -52,17 +51,17 @@ module _ (N n : ℕ) (most : N ≤ 16384) (some : 1 ≤ n) where
     parent-of : (k : ℕ) (p : Name) → g .name ≡ k ∷ p → (h : Frame) × In h (live M) × (h .name ≡ p)
     parent-of k p z = tree .rooted g m k p z
 
-    parent-at : ParentOf (r .at (g .name)) F
+    parent-at : ParentOf (c .frames) (r .at (g .name)) F
     parent-at = by-name (g .name) refl
       where
-        by-name : (z : Name) → g .name ≡ z → ParentOf (r .at (g .name)) F
+        by-name : (z : Name) → g .name ≡ z → ParentOf (c .frames) (r .at (g .name)) F
         by-name [] z = inr (R .1 .depth ∙ ap length z, R .1 .parent ∙ ap (parentPlace (r .at)) z)
         by-name (k ∷ p) z =
             let h = parent-of k p z in
             let up : F .parent ≡ r .at (h .0 .name) = R .1 .parent ∙ ap (parentPlace (r .at)) z ∙ ap (r .at) (sym (h .2)) in
             inl (
               omega (arith, R .1 .depth, ap length z),
-              subst (λ (x : ℕ). x < places) (sym up) (placed-inside r (h .0) (h .1)),
+              subst (λ (x : ℕ). x < length (c .frames)) (sym up) (placed-inside r (h .0) (h .1)),
               λ y. placed-apart r (h .0) g (h .1) m (λ x. omega (arith, ap length x, ap length z, ap length (h .2))) (sym up ∙ y),
             )
 
@@ -70,7 +69,7 @@ module _ (N n : ℕ) (most : N ≤ 16384) (some : 1 ≤ n) where
     parent-counts b = by-name (g .name) refl
       where
         by-name : (z : Name) → g .name ≡ z → 0 < frameAt (c .frames) (F .parent) .outstanding
-        by-name [] z = absurd (omega (arith, b, R .1 .parent, ap (parentPlace (r .at)) z))
+        by-name [] z = absurd (omega (arith, b, r .formed .few, R .1 .parent, ap (parentPlace (r .at)) z))
         by-name (k ∷ p) z =
             let h = parent-of k p z in
             let up : F .parent ≡ r .at (h .0 .name) = R .1 .parent ∙ ap (parentPlace (r .at)) z ∙ ap (r .at) (sym (h .2)) in
@@ -83,7 +82,7 @@ module _ (N n : ℕ) (most : N ≤ 16384) (some : 1 ≤ n) where
       links = subst (λ (x : ℕ). LinksIn x (c .pool)) (sym e) (live-links N (height n) n small (height-covers n) (r .trees .live));
       free-node = subst (λ (x : ℕ). Link x (c .head .numbers .«free_node»)) (sym e) (live-free N (height n) n small (height-covers n) (r .trees .live));
       root = subst (λ (x : ℕ). F .root < x) (sym e) (r .trees .live .roots (F .root) (root-of (treeOf (c .frames) (r .at) g) (rootsOf (c .frames) (r .at) (live M)) (In-map (treeOf (c .frames) (r .at)) m)) .inside);
-      frame = record { long-frames = r .formed .long; within = R .1 .inside; up = refl; parent = parent-at; counts = parent-counts };
+      frame = record { within = R .1 .inside; up = refl; parent = parent-at; counts = parent-counts };
     }
 
   -- ---- and so on upward
@@ -114,7 +113,7 @@ module _ (N n : ℕ) (most : N ≤ 16384) (some : 1 ≤ n) where
         let is = acting-frame r w q d lt z in
         let childless : hasChild (q .name) (live M) ≡ false =
         elim (decided (hasChild (q .name) (live M))) [
-          | inl t ↦ absurd (parent-count (q .name) (live M) t (sym (own .outstanding) ∙ sym (ap (λ (f : FrameWords). f .outstanding) is) ∙ free))
+          | inl t ↦ absurd (parent-count (q .name) (live M) t (sym (own .outstanding) ∙ sym (ap (λ (f : FrameRecord). f .outstanding) is) ∙ free))
           | inr t ↦ t
         ] in
         rw (is, acting-place r w q d lt z, own .depth, own .parent) (ends-by P Rising (λ x y u. tt) turn M c r laws tree K w q d lt z childless (same-nodes (popped c w) (r .at (q .name)) e))

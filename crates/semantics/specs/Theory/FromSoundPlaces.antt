@@ -15,7 +15,7 @@ use Rattle.words.specs.Tests.{decided, both, ltb-of}
 use Rattle.words.specs.Counting.{δ-same, δ-other, count-nil, count-cons, count-append, sum-cong, sum-pos, sum-first, hit, miss, range, when, when-zero, when-pos}
 use Rattle.words.specs.Tallies.{and-of}
 pub use Rattle.words.specs.Tallies.{total, total-sum}
-use Rattle.frames.specs.Widths.{places}
+use Rattle.frames.specs.declared.Frame.{Frame as FrameRecord}
 use Rattle.frames.specs.Frames.{frameAt}
 use Rattle.frames.specs.Deques.{size, place, dequeList, placesTo}
 use Rattle.frames.specs.Theory.Lists.{list-empty}
@@ -67,7 +67,7 @@ joined-range f (suc c) a p =
 
 -- ---- the frames that wait
 
-abbrev waitTest : List ℕ → List ℕ → ℕ → Bool
+abbrev waitTest : List ℕ → List FrameRecord → ℕ → Bool
 waitTest ds fs p = lives fs p && eqb (inDeques ds p) 0
 
 count-pick : (t : Bool) (p c : ℕ) → count p (cond t (c ∷ []) []) ≡ cond t (δ p c) 0
@@ -78,7 +78,7 @@ cond-zero : (t : Bool) (x : ℕ) → x ≡ 0 → cond t x 0 ≡ 0
 cond-zero true x e = e
 cond-zero false x e = refl
 
-module _ (ds fs : List ℕ) where
+module _ (ds : List ℕ) (fs : List FrameRecord) where
   waiting-above : (c p : ℕ) → c ≤ p → count p (waitingBelow ds fs c) ≡ 0
   unfolding waitingBelow
   waiting-above zero p h = count-nil p
@@ -112,18 +112,18 @@ module _ (ds fs : List ℕ) where
     )
   ]
 
-  pub waiting-of : (p : ℕ) → In p (waitingPlaces ds fs) → (p < places) × Lives fs p × (stands ds p ≡ 0)
-  waiting-of p m = elim (decLt p places) [
+  pub waiting-of : (p : ℕ) → In p (waitingPlaces ds fs) → (p < length fs) × Lives fs p × (stands ds p ≡ 0)
+  waiting-of p m = elim (decLt p (length fs)) [
     | yes b ↦ (elim (decided (waitTest ds fs p)) [
       | inl t ↦ (let r = both (lives fs p) (eqb (inDeques ds p) 0) t in (b, eqb-true (frameAt fs p .live) 1 (r .0), sym (stands-is ds p) ∙ eqb-true (inDeques ds p) 0 (r .1)))
-      | inr t ↦ absurd (omega (arith, In-count (waitingPlaces ds fs) m, waiting-is places p b, miss t))
+      | inr t ↦ absurd (omega (arith, In-count (waitingPlaces ds fs) m, waiting-is (length fs) p b, miss t))
     ])
-    | no b ↦ absurd (omega (arith, In-count (waitingPlaces ds fs) m, waiting-above places p (omega arith)))
+    | no b ↦ absurd (omega (arith, In-count (waitingPlaces ds fs) m, waiting-above (length fs) p (omega arith)))
   ]
 
-  pub of-waiting : (p : ℕ) → p < places → Lives fs p → stands ds p ≡ 0 → count p (waitingPlaces ds fs) ≡ 1
+  pub of-waiting : (p : ℕ) → p < length fs → Lives fs p → stands ds p ≡ 0 → count p (waitingPlaces ds fs) ≡ 1
   of-waiting p b l z =
-      waiting-is places p b ∙ hit (and-of (eq-eqb (frameAt fs p .live) 1 l) (eq-eqb (inDeques ds p) 0 (stands-is ds p ∙ z)))
+      waiting-is (length fs) p b ∙ hit (and-of (eq-eqb (frameAt fs p .live) 1 l) (eq-eqb (inDeques ds p) 0 (stands-is ds p ∙ z)))
 
 -- ---- all live frames
 
@@ -138,29 +138,29 @@ count-map : (i : ℕ) (h : ℕ → ℕ) (L : List ℕ) → count i (map h L) ≡
 count-map i h [] = count-nil i
 count-map i h (x ∷ L) = omega (arith, count-cons i (h x) (map h L), count-map i h L)
 
-pub roots-below : (i c : ℕ) (fs : List ℕ) → count i (rootsBelow fs c) ≡ sum c (λ p. cond (lives fs p) (δ i (frameAt fs p .root)) 0)
+pub roots-below : (i c : ℕ) (fs : List FrameRecord) → count i (rootsBelow fs c) ≡ sum c (λ p. cond (lives fs p) (δ i (frameAt fs p .root)) 0)
 unfolding rootsBelow
 roots-below i zero fs = count-nil i
 roots-below i (suc c) fs = count-append i (rootsBelow fs c) (cond (lives fs c) (frameAt fs c .root ∷ []) []) ∙ ap₂ _+_ (roots-below i c fs) (count-pick (lives fs c) i (frameAt fs c .root))
 
-module _ {workers first : ℕ} {ds fs : List ℕ} (F : FramesFacts workers first ds fs) (few : workers ≤ 8) where
+module _ {workers first : ℕ} {ds : List ℕ} {fs : List FrameRecord} (F : FramesFacts workers first ds fs) (few : workers ≤ 8) where
   running-count : (p : ℕ) → count p (joined (runningPlaces workers ds)) ≡ stands ds p
   running-count p =
       joined-range (dequeList ds) workers 0 p
       ∙ sum-cong workers (λ k. count p (dequeList ds (0 + k))) (λ w. count p (dequeList ds w)) (λ w b. (let e : 0 + w ≡ w = omega arith in ap (λ q. count p (dequeList ds q)) e))
       ∙ sum-more (λ w. count p (dequeList ds w)) workers 8 few (λ w a b. ap (count p) (list-empty ds w (F .absent w b a)) ∙ count-nil p)
 
-  pub deque-live : (w p : ℕ) → w < 8 → In p (dequeList ds w) → (p < places) × Lives fs p
+  pub deque-live : (w p : ℕ) → w < 8 → In p (dequeList ds w) → (p < length fs) × Lives fs p
   unfolding dequeList
   deque-live w p b m =
       let r = placesTo-in (size ds w) ds w p m in
       let h = F .hold-live w b (r .0) (r .1) in
       (omega (arith, r .2, h .0), subst (Lives fs) (sym (r .2)) (h .1))
 
-  running-live : (p : ℕ) → 0 < stands ds p → (p < places) × Lives fs p
+  running-live : (p : ℕ) → 0 < stands ds p → (p < length fs) × Lives fs p
   running-live p h = (let r = sum-pos 8 (λ w. count p (dequeList ds w)) h in deque-live (r .0) p (r .1) (count-In p (dequeList ds (r .0)) (r .2)))
 
-  pub running-of : (p : ℕ) → In p (joined (runningPlaces workers ds)) → (p < places) × Lives fs p × (0 < stands ds p)
+  pub running-of : (p : ℕ) → In p (joined (runningPlaces workers ds)) → (p < length fs) × Lives fs p × (0 < stands ds p)
   running-of p m =
       let h : 0 < stands ds p = omega (arith, In-count (joined (runningPlaces workers ds)) m, running-count p) in
       let r = running-live p h in
@@ -169,13 +169,13 @@ module _ {workers first : ℕ} {ds fs : List ℕ} (F : FramesFacts workers first
   live-count : (p : ℕ) → count p (livePlaces workers ds fs) ≡ count p (waitingPlaces ds fs) + stands ds p
   live-count p = count-append p (waitingPlaces ds fs) (joined (runningPlaces workers ds)) ∙ ap (λ s. count p (waitingPlaces ds fs) + s) (running-count p)
 
-  pub live-of : (p : ℕ) → In p (livePlaces workers ds fs) → (p < places) × Lives fs p
+  pub live-of : (p : ℕ) → In p (livePlaces workers ds fs) → (p < length fs) × Lives fs p
   live-of p m = elim (ℕ-discrete (stands ds p) 0) [
     | yes e ↦ (let r = waiting-of ds fs p (count-In p (waitingPlaces ds fs) (omega (arith, In-count (livePlaces workers ds fs) m, live-count p))) in (r .0, r .1))
     | no e ↦ running-live p (omega arith)
   ]
 
-  pub live-one : (p : ℕ) → p < places → Lives fs p → count p (livePlaces workers ds fs) ≡ 1
+  pub live-one : (p : ℕ) → p < length fs → Lives fs p → count p (livePlaces workers ds fs) ≡ 1
   live-one p b l = elim (F .placed p b l) [
     | inl r ↦ (elim (ℕ-discrete (count p (waitingPlaces ds fs)) 0) [
       | yes z ↦ omega (arith, live-count p, r .0)
@@ -184,38 +184,38 @@ module _ {workers first : ℕ} {ds fs : List ℕ} (F : FramesFacts workers first
     | inr r ↦ omega (arith, live-count p, r .0, of-waiting ds fs p b l (r .0))
   ]
 
-  pub of-live : (p : ℕ) → p < places → Lives fs p → In p (livePlaces workers ds fs)
+  pub of-live : (p : ℕ) → p < length fs → Lives fs p → In p (livePlaces workers ds fs)
   of-live p b l = count-In p (livePlaces workers ds fs) (omega (arith, live-one p b l))
 
   pub live-none : (p : ℕ) → (Lives fs p → ⊥) → count p (livePlaces workers ds fs) ≡ 0
   live-none p h = elim (ℕ-discrete (count p (livePlaces workers ds fs)) 0) [ yes z ↦ z | no z ↦ absurd (h (live-of p (count-In p (livePlaces workers ds fs) (omega arith)) .1)) ]
 
-  pub live-once : (p : ℕ) → p < places → count p (livePlaces workers ds fs) ≤ 1
+  pub live-once : (p : ℕ) → p < length fs → count p (livePlaces workers ds fs) ≤ 1
   live-once p b = elim (ℕ-discrete (frameAt fs p .live) 1) [ yes l ↦ omega (arith, live-one p b l) | no l ↦ omega (arith, live-none p l) ]
 
-  pub live-below : below places (livePlaces workers ds fs) ≡ true
-  live-below = below-of places (livePlaces workers ds fs) (λ p m. live-of p m .0)
+  pub live-below : below (length fs) (livePlaces workers ds fs) ≡ true
+  live-below = below-of (length fs) (livePlaces workers ds fs) (λ p m. live-of p m .0)
 
-  pub live-short : length (livePlaces workers ds fs) ≤ places
-  live-short = once-short (λ p. p) places (livePlaces workers ds fs) live-below live-once
+  pub live-short : length (livePlaces workers ds fs) ≤ length fs
+  live-short = once-short (λ p. p) (length fs) (livePlaces workers ds fs) live-below live-once
 
   -- a sum over the live places
-  live-total : (g : ℕ → ℕ) → total g (livePlaces workers ds fs) ≡ sum places (λ p. cond (lives fs p) (g p) 0)
+  live-total : (g : ℕ → ℕ) → total g (livePlaces workers ds fs) ≡ sum (length fs) (λ p. cond (lives fs p) (g p) 0)
   live-total g =
-      total-sum places g (livePlaces workers ds fs) live-below live-once
-      ∙ sum-cong places (λ p. when (count p (livePlaces workers ds fs)) (g p)) (λ p. cond (lives fs p) (g p) 0) (λ p b. elim (ℕ-discrete (frameAt fs p .live) 1) [
+      total-sum (length fs) g (livePlaces workers ds fs) live-below live-once
+      ∙ sum-cong (length fs) (λ p. when (count p (livePlaces workers ds fs)) (g p)) (λ p. cond (lives fs p) (g p) 0) (λ p b. elim (ℕ-discrete (frameAt fs p .live) 1) [
         | yes l ↦ when-pos (count p (livePlaces workers ds fs)) (g p) (omega (arith, live-one p b l)) ∙ sym (rw (eq-eqb (frameAt fs p .live) 1 l))
         | no l ↦ when-zero (count p (livePlaces workers ds fs)) (g p) (live-none p l) ∙ sym (rw (ne-eqb (frameAt fs p .live) 1 l))
       ])
 
   pub live-roots : (i : ℕ) → count i (liveRoots fs) ≡ count i (map (λ p. frameAt fs p .root) (livePlaces workers ds fs))
   live-roots i =
-      roots-below i places fs ∙ sym (count-map i (λ p. frameAt fs p .root) (livePlaces workers ds fs) ∙ live-total (λ p. δ i (frameAt fs p .root)))
+      roots-below i (length fs) fs ∙ sym (count-map i (λ p. frameAt fs p .root) (livePlaces workers ds fs) ∙ live-total (λ p. δ i (frameAt fs p .root)))
 
   pub live-children : (p : ℕ) → total (λ q. cond (isChild fs p q) 1 0) (livePlaces workers ds fs) ≡ children fs p
   live-children p =
       live-total (λ q. cond (isChild fs p q) 1 0)
-      ∙ sum-cong places (λ q. cond (lives fs q) (cond (isChild fs p q) 1 0) 0) (λ q. cond (isChild fs p q) 1 0) (λ q b. twice (lives fs q) (eqb (frameAt fs q .parent) p))
+      ∙ sum-cong (length fs) (λ q. cond (lives fs q) (cond (isChild fs p q) 1 0) 0) (λ q. cond (isChild fs p q) 1 0) (λ q b. twice (lives fs q) (eqb (frameAt fs q .parent) p))
     where
       twice : (a b : Bool) → _≡_ {A = ℕ} (cond a (cond (a && b) 1 0) 0) (cond (a && b) 1 0)
       twice true b = refl

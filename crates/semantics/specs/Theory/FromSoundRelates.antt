@@ -15,7 +15,8 @@ use Rattle.words.specs.Counting.{range}
 use Rattle.sizes.specs.Sizes.{height, treeNodes}
 use Rattle.pool.specs.Pool.{readAt}
 use Rattle.pool.specs.Theory.Sharing.{rootsOf as treeRoots}
-use Rattle.frames.specs.Widths.{places, frameWords, dequeWords}
+use Rattle.frames.specs.declared.Frame.{Frame as FrameRecord}
+use Rattle.frames.specs.Widths.{dequeWords}
 use Rattle.frames.specs.Deques.{dequeList}
 use Rattle.frames.specs.Siblings.{younger, Children}
 use Rattle.soundness.specs.Numbers.{totalCount}
@@ -35,7 +36,7 @@ use Rattle.semantics.specs.Entries.{headOf}
 use Rattle.semantics.specs.Theory.Relation.{childCount, rootsOf, placesOf, bit, Recorded, Relates, Links, TotalsKept}
 use Rattle.semantics.specs.Theory.Places.{in-deque}
 use Rattle.semantics.specs.Theory.Pools.{LiveTrees}
-use Rattle.soundness.specs.Theory.Sentences.{Lives, FramesFacts, SoundFacts, sound-facts}
+use Rattle.soundness.specs.Theory.Sentences.{Lives, FramesFacts, few-places, SoundFacts, sound-facts}
 use Rattle.semantics.specs.Theory.PoolSentences.{pool-live}
 use Rattle.semantics.specs.SoundMachine.{nameOf, placeOf, frameOf, framesOf, waitingPlaces, runningPlaces, livePlaces, machineOf, nameFrom}
 use Rattle.semantics.specs.Theory.FromSoundNames.{Rooted, rooted-facts, length-name, place-name, parent-name}
@@ -69,23 +70,23 @@ word-bit : (x : ℕ) → (x ≡ 0) ⊎ (x ≡ 1) → x ≡ bit (eqb x 1)
 word-bit x (inl e) = e ∙ ap bit (sym (ne-eqb x 1 (λ d. omega arith)))
 word-bit x (inr e) = e ∙ ap bit (sym (eq-eqb x 1 e))
 
--- ---- the core of numbers and words, with the free nodes counted
+-- ---- the core of numbers, words and records, with the free nodes counted
 
-abbrev pub countedCore : Numbers → List ℕ → List ℕ → List ℕ → List ℕ → Core
+abbrev pub countedCore : Numbers → List ℕ → List ℕ → List FrameRecord → List ℕ → Core
 countedCore s ts ds fs ws = record { head = headOf s (freeCount s ws); totals = ts; deques = ds; frames = fs; pool = ws }
 
 -- a frame without a name's number is of depth 0
-flat-from : (d : ℕ) (fs : List ℕ) (p : ℕ) → nameFrom d fs p ≡ [] → d ≡ 0
+flat-from : (d : ℕ) (fs : List FrameRecord) (p : ℕ) → nameFrom d fs p ≡ [] → d ≡ 0
 unfolding nameFrom
 flat-from zero fs p e = refl
 flat-from (suc d) fs p e = absurd (cons≢nil e)
 
-flat : (fs : List ℕ) (p : ℕ) → nameOf fs p ≡ [] → frameAt fs p .depth ≡ 0
+flat : (fs : List FrameRecord) (p : ℕ) → nameOf fs p ≡ [] → frameAt fs p .depth ≡ 0
 flat fs p e = flat-from (frameAt fs p .depth) fs p e
 
 -- ---- the machine's lists
 
-module _ (s : Numbers) (ds fs ws : List ℕ) where
+module _ (s : Numbers) (ds : List ℕ) (fs : List FrameRecord) (ws : List ℕ) where
   abbrev M : Machine
   M = machineOf s ds fs ws
 
@@ -119,7 +120,7 @@ module _ (s : Numbers) (ds fs ws : List ℕ) where
     few = S .numbers .workers-le
 
     R : Rooted fs
-    R = rooted-facts F
+    R = rooted-facts (few-places (S .numbers)) F
 
     abbrev at : List ℕ → ℕ
     at = placeOf (R .main)
@@ -127,7 +128,7 @@ module _ (s : Numbers) (ds fs ws : List ℕ) where
     live-there : AllLive fs L
     live-there p m = live-of F few p m
 
-    recorded : (p z : ℕ) → p < places → Lives fs p → frameAt fs p .suspended ≡ z → Recorded fs at (live M) z (framed p)
+    recorded : (p z : ℕ) → p < length fs → Lives fs p → frameAt fs p .suspended ≡ z → Recorded fs at (live M) z (framed p)
     recorded p z b l e =
         let q = place-name fs R p b l in
         record {
@@ -160,7 +161,7 @@ module _ (s : Numbers) (ds fs ws : List ℕ) where
       | no h ↦ list-empty ds w (F .absent w b (omega arith)) ∙ ap (placesOf at) (sym (deque-none w (omega arith)))
     ]
 
-    once-there : (p : ℕ) → p < places → count p (F .places .gs) + count p (placesOf at (live M)) ≡ 1
+    once-there : (p : ℕ) → p < length fs → count p (F .places .gs) + count p (placesOf at (live M)) ≡ 1
     once-there p b =
         let e : placesOf at (live M) ≡ L = ap (placesOf at) live-frames ∙ places-frames (s .splitters) fs ws R L live-there in
         elim (F .places .each p b) [
@@ -193,8 +194,8 @@ module _ (s : Numbers) (ds fs ws : List ℕ) where
           S .totals (x .0) (l .0) (l .1);
     }
 
-    relates-there : length ts ≡ totalCount → length ds ≡ dequeWords → length fs ≡ frameWords → Relates (LiveTrees (s .nodes) (s .splitters)) M (countedCore s ts ds fs ws)
-    relates-there tlen dlen flen = record {
+    relates-there : length ts ≡ totalCount → length ds ≡ dequeWords → Relates (LiveTrees (s .nodes) (s .splitters)) M (countedCore s ts ds fs ws)
+    relates-there tlen dlen = record {
       at = at;
       gs = F .places .gs;
       numbers = record {
@@ -207,8 +208,11 @@ module _ (s : Numbers) (ds fs ws : List ℕ) where
         height-is = refl;
         enough = S .numbers .enough;
         nodes-le = S .numbers .nodes-le;
+        places = sym (S .numbers .table);
+        places-positive = omega (arith, S .numbers .places-positive, S .numbers .table);
+        table = refl;
       };
-      formed = record { shaped = record { long = dlen; within = F .within; zeros = F .zeros }; long = flen; places = F .places .chain };
+      formed = record { shaped = record { long = dlen; within = λ w b. omega (arith, F .within w b, few-places (S .numbers)); zeros = F .zeros }; few = few-places (S .numbers); places = F .places .chain };
       deques = deques-places;
       running = running-recorded;
       waiting = waiting-recorded;
@@ -269,7 +273,7 @@ module _ (s : Numbers) (ds fs ws : List ℕ) where
     marks-there : MarkInvariant (live M)
     marks-there f m v i g k = (let x = In-unmap framed L (subst (In f) live-frames m) in absurd (not-in-nil (subst (λ (g : Frame). In v (g .history)) (sym (x .2)) i)))
 
-    bounds-there : Bounded (s .splitters) (live M)
+    bounds-there : Bounded (s .splitters) (length fs) (live M)
     bounds-there = rw live-frames (
       omega (arith, length-map L framed, live-short F few),
       λ f m.
@@ -284,22 +288,22 @@ module _ (s : Numbers) (ds fs ws : List ℕ) where
 
 -- ---- the theorem
 
-pub from-sound : (s : Numbers) (ts ds fs ws : List ℕ) → sound s ts ds fs ws ≡ true → length ts ≡ totalCount → length ds ≡ dequeWords → length fs ≡ frameWords
+pub from-sound : (s : Numbers) (ts ds : List ℕ) (fs : List FrameRecord) (ws : List ℕ) → sound s ts ds fs ws ≡ true → length ts ≡ totalCount → length ds ≡ dequeWords
     → let M : Machine = machineOf s ds fs ws in
     let c : Core = countedCore s ts ds fs ws in
-    (r : Relates (LiveTrees (s .nodes) (s .splitters)) M c) × Links fs (r .at) (live M) × FrameTree M × DequeInvariant M × MarkInvariant (live M) × Bounded (M .splitters) (live M) × (c .head .«free_count» ≡ freeNodes M)
+    (r : Relates (LiveTrees (s .nodes) (s .splitters)) M c) × Links fs (r .at) (live M) × FrameTree M × DequeInvariant M × MarkInvariant (live M) × Bounded (M .splitters) (M .places) (live M) × (c .head .«free_count» ≡ freeNodes M)
 unfolding relates-there
-from-sound s ts ds fs ws e tlen dlen flen =
+from-sound s ts ds fs ws e tlen dlen =
     let S = sound-facts s ts ds fs ws e in
-    (relates-there s ds fs ws ts S tlen dlen flen, links-there s ds fs ws ts S, tree-there s ds fs ws ts S, deques-there s ds fs ws ts S, marks-there s ds fs ws ts S, bounds-there s ds fs ws ts S, free-count-there s ds fs ws ts S)
+    (relates-there s ds fs ws ts S tlen dlen, links-there s ds fs ws ts S, tree-there s ds fs ws ts S, deques-there s ds fs ws ts S, marks-there s ds fs ws ts S, bounds-there s ds fs ws ts S, free-count-there s ds fs ws ts S)
 
 -- ---- the machine's nodes: a tree's worth while a frame lives, and those on the free chain
 
-module _ (s : Numbers) (ts ds fs ws : List ℕ) (S : SoundFacts s ts ds fs ws) where
+module _ (s : Numbers) (ts ds : List ℕ) (fs : List FrameRecord) (ws : List ℕ) (S : SoundFacts s ts ds fs ws) where
   framed-history : (L : List ℕ) (f : Frame) → In f (framesOf (s .splitters) fs ws L) → f .history ≡ []
   framed-history L f m = (let x = In-unmap (frameOf (s .splitters) fs ws) L m in ap (λ (g : Frame). g .history) (sym (x .2)))
 
-  pub nodes-alive : (p : ℕ) → p < places → Lives fs p → machineOf s ds fs ws .nodes ≡ treeNodes (s .splitters) + freeCount s ws
+  pub nodes-alive : (p : ℕ) → p < length fs → Lives fs p → machineOf s ds fs ws .nodes ≡ treeNodes (s .splitters) + freeCount s ws
   nodes-alive p b l =
       let n = s .splitters in
       let A : List Frame = framesOf n fs ws (livePlaces (s .workers) ds fs) in
@@ -313,7 +317,7 @@ module _ (s : Numbers) (ts ds fs ws : List ℕ) (S : SoundFacts s ts ds fs ws) w
         subst (λ k. inUse k B ≡ treeNodes k) (length-range n 0) (inUse-main vs),
       )
 
-  pub nodes-ended : ((p : ℕ) → p < places → Lives fs p → ⊥) → machineOf s ds fs ws .nodes ≡ freeCount s ws
+  pub nodes-ended : ((p : ℕ) → p < length fs → Lives fs p → ⊥) → machineOf s ds fs ws .nodes ≡ freeCount s ws
   nodes-ended h = go (livePlaces (s .workers) ds fs) (live-of (S .frames) (S .numbers .workers-le))
     where
       go : (L : List ℕ) → AllLive fs L → inUse (s .splitters) (framesOf (s .splitters) fs ws L) + freeCount s ws ≡ freeCount s ws

@@ -6,9 +6,10 @@ use mathlib.Core.List.{List·Memᴰ as In, List·Memᴰ·head as here, List·Mem
 use mathlib.Core.List.{List, [], _∷_, map, nil≢cons, tail-eq-of-cons-eq}
 use Prim.Native.Nat.{ℕ, zero, suc, _+_, _≤_, _<_}
 use native.Mathlib.Omega.{arith}
+use lib.ListN.{length}
 use Rattle.words.specs.Basics.{count}
 use Rattle.words.specs.Counting.{δ-same, count-cons, howMany-some}
-use Rattle.frames.specs.Widths.{places}
+use Rattle.frames.specs.declared.Frame.{Frame as FrameRecord}
 use Rattle.frames.specs.Frames.{frameAt}
 use Rattle.frames.specs.Deques.{size, place, dequeList, placesTo}
 use Rattle.soundness.specs.Soundness.{children}
@@ -26,14 +27,14 @@ use Rattle.semantics.specs.Theory.FromSoundNames.{Rooted, owns-same, nam
 use Rattle.semantics.specs.Theory.FromSoundPlaces.{In-count, total}
 
 -- every place of the list is a live frame's
-abbrev pub AllLive : List ℕ → List ℕ → Type 0
-AllLive fs L = (p : ℕ) → In p L → (p < places) × Lives fs p
+abbrev pub AllLive : List FrameRecord → List ℕ → Type 0
+AllLive fs L = (p : ℕ) → In p L → (p < length fs) × Lives fs p
 
 -- every live frame's place is in the list
-abbrev pub AllThere : List ℕ → List ℕ → Type 0
-AllThere fs L = (p : ℕ) → p < places → Lives fs p → In p L
+abbrev pub AllThere : List FrameRecord → List ℕ → Type 0
+AllThere fs L = (p : ℕ) → p < length fs → Lives fs p → In p L
 
-module _ (n : ℕ) (fs ws : List ℕ) (R : Rooted fs) where
+module _ (n : ℕ) (fs : List FrameRecord) (ws : List ℕ) (R : Rooted fs) where
   -- ---- a list of live places
 
   pub places-frames : (L : List ℕ) → AllLive fs L → placesOf (placeOf (R .main)) (framesOf n fs ws L) ≡ L
@@ -44,20 +45,20 @@ module _ (n : ℕ) (fs ws : List ℕ) (R : Rooted fs) where
   roots-frames [] h = refl
   roots-frames (p ∷ L) h = (let l = h p (here refl) in ap₂ _∷_ (ap (λ q. frameAt fs q .root) (place-name fs R p (l .0) (l .1))) (roots-frames L (λ q m. h q (there m))))
 
-  pub children-frames : (L : List ℕ) → AllLive fs L → (p : ℕ) → p < places → Lives fs p → childCount (nameOf fs p) (framesOf n fs ws L) ≡ total (λ q. cond (isChildAt fs p q) 1 0) L
+  pub children-frames : (L : List ℕ) → AllLive fs L → (p : ℕ) → p < length fs → Lives fs p → childCount (nameOf fs p) (framesOf n fs ws L) ≡ total (λ q. cond (isChildAt fs p q) 1 0) L
   children-frames [] h p b l = refl
   children-frames (q ∷ L) h p b l =
       let k = h q (here refl) in
       ap₂ _+_ (ap (λ (t : Bool). cond t 1 0) (child-test fs R p q b (k .0) l (k .1))) (children-frames L (λ r m. h r (there m)) p b l)
 
-  pub disjoint-frames : (L : List ℕ) → AllLive fs L → ((p : ℕ) → p < places → count p L ≤ 1) → Disjoint (framesOf n fs ws L)
+  pub disjoint-frames : (L : List ℕ) → AllLive fs L → ((p : ℕ) → p < length fs → count p L ≤ 1) → Disjoint (framesOf n fs ws L)
   disjoint-frames [] h o = tt
   disjoint-frames (p ∷ L) h o = (
     (λ g m r a b.
         let x = In-unmap (frameOf n fs ws) L m in
         let k = h p (here refl) in
         let j = h (x .0) (there (x .1)) in
-        let e = owns-same (nameOf fs p) (nameOf fs (x .0)) r (small-name fs R p (k .0) (k .1)) (small-name fs R (x .0) (j .0) (j .1)) a (subst (λ f. Owns f r) (sym (x .2)) b) in
+        let e = owns-same (length fs) (nameOf fs p) (nameOf fs (x .0)) r (small-name fs R p (k .0) (k .1)) (small-name fs R (x .0) (j .0) (j .1)) a (subst (λ f. Owns f r) (sym (x .2)) b) in
         let i = In-count L (Memᴰ·cast (name-injective fs R p (x .0) (k .0) (j .0) (k .1) (j .1) e) (x .1)) in
         omega (arith, o p (k .0), count-cons p p L, δ-same p)),
     disjoint-frames L (λ q m. h q (there m)) (λ q b. omega (arith, o q b, count-cons q p L)),
@@ -79,9 +80,9 @@ module _ (n : ℕ) (fs ws : List ℕ) (R : Rooted fs) where
         )
 
     -- "suspended with a live child"
-    pub waits-frames : (p : ℕ) → p < places → 0 < children fs p → hasChild (nameOf fs p) (framesOf n fs ws L) ≡ true
+    pub waits-frames : (p : ℕ) → p < length fs → 0 < children fs p → hasChild (nameOf fs p) (framesOf n fs ws L) ≡ true
     waits-frames p b c =
-        let q = howMany-some places (isChildAt fs p) c in
+        let q = howMany-some (length fs) (isChildAt fs p) c in
         let k = child-at fs p (q .0) (q .2) in
         In-hasChild (suc (q .0)) (nameOf fs p) (In-map (frameOf n fs ws) (all-there (q .0) (q .1) (k .0))) (name-of-child fs R p (q .0) b (q .1) (k .0) (k .1))
 

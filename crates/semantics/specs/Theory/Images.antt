@@ -1,32 +1,35 @@
 -- Saves and readings: their ways out, and what an accepted reading of a saved image gives.
 use mathlib.Core.Path.{_≡_, refl, sym, ap, _∙_, subst}
 use mathlib.Core.Logic.{_≢_, _⊎_, inl, inr}
-use mathlib.Core.Bool.{Bool, true, false, cond}
+use mathlib.Core.Bool.{Bool, true, false, cond, _&&_}
 use mathlib.Core.List.{List, [], _++_}
 use Prim.Native.Nat.{ℕ, _+_, _*_, _≤_, _<_}
 use native.Mathlib.Omega.{arith}
-use lib.ListN.{length, take, drop, length-append, length-drop, List·getD-append}
+use lib.ListN.{length, take, drop, length-append, length-drop, length-replicate, List·getD-append}
 use lib.Seq.{take-at, drop-at, length-take-le, getD-take}
 use lib.Dec.{eqb, leb, ltb}
-use borrow.Author.Tests.{eqb-false, leb-true, le-leb, le-ltb, ltb-false}
+use borrow.Author.Tests.{eqb-true, eqb-false, eq-eqb, leb-true, le-leb, le-ltb, ltb-false}
 use Rattle.words.specs.Tests.{decided, both, true≢false}
 use Rattle.words.specs.Below.{Words, below-take, below-drop, below-append}
+use Rattle.frames.specs.Widths.{maxPlaces}
+use Rattle.frames.specs.declared.Frame.{Frame}
+use Rattle.frames.specs.Frames.{freePlace}
 use Rattle.soundness.specs.declared.Checked.{Checked}
 use Rattle.soundness.specs.declared.Checked.the-variants.{NoRoom}
 use Rattle.soundness.specs.Soundness.{numbersSound, sound, checked, cleared}
-use Rattle.soundness.specs.Theory.Sentences.{numbers-facts}
+use Rattle.soundness.specs.Theory.Sentences.{NumbersFacts, few-places, sound-facts}
 use Rattle.image.specs.declared.ImageCheck.{ImageCheck}
 use Rattle.image.specs.declared.ImageCheck.the-variants.{WrongLength, WrongCheck, Good}
 use Rattle.image.specs.Widths.{versionStep}
-use Rattle.image.specs.Image.{Lengths, imageBytes, imageCheck, nodesIn, poolIn, stored, IsRead}
-use Rattle.image.specs.Theory.Promises.{Says, image-length, saved-front, saved-rest, says-what-was-written, parts-lengths, same-nodes, pool-length, saved-again}
+use Rattle.image.specs.Image.{Lengths, ZeroPast, imageCheck, nodesIn, placesIn, poolIn, stored, IsRead}
+use Rattle.image.specs.Theory.Promises.{Says, sound-past, image-length, saved-front, saved-rest, says-what-was-written, parts-lengths, same-nodes, same-places, pool-length, saved-again}
 use Rattle.pool.specs.Theory.Elsewhere.{SameNodes}
 use Rattle.semantics.specs.declared.Refusal.{Refusal}
 use Rattle.semantics.specs.declared.Refusal.the-variants.{Work, Blocks, BlockCheck}
 use Rattle.semantics.specs.Answers.{refusalNumber}
 use Rattle.semantics.specs.Core.{Core}
-use Rattle.semantics.specs.Entries.{State, fits, zeros, numbersOf, stateOf, isSound, checkedState, outsideWith, outsideOn, tapeWith, tapeOn, unfitTape}
-use Rattle.semantics.specs.Images.{savedImage, saveWith, saveOn, LoadResult, stateIn, poolWith, nodesZero, loadRefused, loadWith, loadOn}
+use Rattle.semantics.specs.Entries.{State, fits, zeros, numbersOf, totalsOf, stateOf, isSound, checkedState, outsideWith, outsideOn, tapeWith, tapeOn, unfitTape}
+use Rattle.semantics.specs.Images.{savedImage, savedBytes, saveWith, saveOn, LoadResult, stateIn, poolWith, recordsZero, nodesZero, loadRefused, loadWith, loadOn}
 use Rattle.semantics.specs.Calls.{HostCall, outside, tape, StateAndPool, afterCall, exchangesOf, saveResult}
 use Rattle.semantics.specs.Demands.{AcceptedSave, RefusedLoad, AcceptedLoad, beforeCheck, WorkAfterSave, WorkAfterLoad, StateWords}
 use Rattle.semantics.specs.Promises.{Fits}
@@ -85,7 +88,7 @@ pub record SaveTaken (h : StateAndPool) (work target : List ℕ) : Type 0 where
   pub parts : Fits (h .state)
   pub still : isSound (h .state) (h .pool) ≡ true
   pub stores : saveResult h work target .target ≡ stored (savedImage (h .state) (h .pool)) target
-  pub fits-in : imageBytes (numbersOf (h .state) .nodes) ≤ length target
+  pub fits-in : savedBytes (h .state) ≤ length target
 
 pub save-taken : (h : StateAndPool) (work target : List ℕ) → saveResult h work target .result ≡ 0 → SaveTaken h work target
 unfolding saveOn saveWith checked
@@ -97,58 +100,66 @@ save-taken h work target e = go (fits (h .state)) refl
       | inr l ↦ absurd (omega (arith, rw (f, l) at e))
       | inl l ↦ elim (decided (isSound (h .state) (h .pool))) [
         | inr q ↦ absurd (omega (arith, rw (f, l, q) at e))
-        | inl q ↦ elim (decided (ltb (length target) (imageBytes (numbersOf (h .state) .nodes)))) [
+        | inl q ↦ elim (decided (ltb (length target) (savedBytes (h .state)))) [
           | inl t ↦ absurd (omega (arith, rw (f, l, q, t) at e))
-          | inr t ↦ record { parts = true-fits (h .state) f; still = q; stores = rw (f, l, q, t) refl; fits-in = ltb-false (length target) (imageBytes (numbersOf (h .state) .nodes)) t }
+          | inr t ↦ record { parts = true-fits (h .state) f; still = q; stores = rw (f, l, q, t) refl; fits-in = ltb-false (length target) (savedBytes (h .state)) t }
         ]
       ]
     ]
 
+-- the numbers of a sound state
+pub sound-numbers : (s : State) (ws : List ℕ) → isSound s ws ≡ true → NumbersFacts (numbersOf s) (s .frames) ws
+sound-numbers s ws e = sound-facts (numbersOf s) (totalsOf s) (s .deques) (s .frames) ws e .numbers
+
 -- the nodes of a sound state are in the pool
 pub sound-room : (s : State) (ws : List ℕ) → isSound s ws ≡ true → 4 * numbersOf s .nodes ≤ length ws
-unfolding sound
-sound-room s ws e = numbers-facts (numbersOf s) ws (both (numbersSound (numbersOf s) ws) _ e .0) .room
+sound-room s ws e = sound-numbers s ws e .room
 
 -- its workers leave the version room in the image's first word
 pub sound-few : (s : State) (ws : List ℕ) → isSound s ws ≡ true → numbersOf s .workers < versionStep
-unfolding sound
-sound-few s ws e = omega (arith, numbers-facts (numbersOf s) ws (both (numbersSound (numbersOf s) ws) _ e .0) .workers-le)
+sound-few s ws e = omega (arith, sound-numbers s ws e .workers-le)
 
 -- stored in the front of a slice that is long enough
 stored-long : (new old : List ℕ) → length new ≤ length old → length (stored new old) ≡ length old
 stored-long new old h = omega (arith, length-append new (drop (length new) old), length-drop (length new) old)
 
 -- the image's parts
-lengths-of : (s : State) → Fits s → Lengths (s .numbers) (s .deques) (s .frames)
-lengths-of s F = record { numbers = F .numbers; deques = F .deques; frames = F .frames }
+lengths-of : (s : State) (ws : List ℕ) → Fits s → isSound s ws ≡ true → Lengths (s .numbers) (s .deques) (s .frames)
+lengths-of s ws F e = let N = sound-numbers s ws e in record { numbers = F .numbers; deques = F .deques; frames = N .table; most = few-places N }
+
+-- past the frames of its deques there are zeros
+zero-past : (s : State) (ws : List ℕ) → isSound s ws ≡ true → ZeroPast (numbersOf s .places) (s .deques)
+zero-past s ws e =
+    let S = sound-facts (numbersOf s) (totalsOf s) (s .deques) (s .frames) ws e in
+    subst (λ (k : ℕ). ZeroPast k (s .deques)) (S .numbers .table) (sound-past (S .frames))
 
 pub accepted-save : (h : StateAndPool) (work target : List ℕ) → saveResult h work target .result ≡ 0 → AcceptedSave h work target
 accepted-save h work target e =
     let T = save-taken h work target e in
     let s = h .state in
-    let L = lengths-of s (T .parts) in
+    let L = lengths-of s (h .pool) (T .parts) (T .still) in
     let room = sound-room s (h .pool) (T .still) in
-    let N = numbersOf s .nodes in
     record {
-      image = ap (take (imageBytes N)) (T .stores) ∙ saved-front (s .numbers) (s .deques) (s .frames) (h .pool) L room target;
+      image = ap (take (savedBytes s)) (T .stores) ∙ saved-front (s .numbers) (s .deques) (s .frames) (h .pool) L room target;
       same-length = ap length (T .stores) ∙ stored-long (savedImage s (h .pool)) target (omega (arith, T .fits-in, image-length (s .numbers) (s .deques) (s .frames) (h .pool) L room));
-      past = ap (drop (imageBytes N)) (T .stores) ∙ saved-rest (s .numbers) (s .deques) (s .frames) (h .pool) L room target;
+      past = ap (drop (savedBytes s)) (T .stores) ∙ saved-rest (s .numbers) (s .deques) (s .frames) (h .pool) L room target;
     }
 
 -- ---- a reading that is accepted
 
 pub record LoadTaken (s : State) (ws work image : List ℕ) : Type 0 where
   pub good : imageCheck image ≡ Good
+  pub as-many : length (s .frames) ≡ placesIn image
   pub sound-read : isSound (stateIn image) (poolWith ws image) ≡ true
   pub is : loadOn s ws work image ≡ record { state = stateIn image; pool = poolWith ws image; work = cleared (nodesIn image) work; result = 0 }
 
 -- the ways out
 data LoadCase (s : State) (ws work image : List ℕ) : Type 0 where
   by-lengths : fits s ≡ false → loadOn s ws work image ≡ record { state = s; pool = ws; work = work; result = 99 } → LoadCase s ws work image
-  by-blocks : loadOn s ws work image ≡ loadRefused ws work Blocks → LoadCase s ws work image
-  by-check : loadOn s ws work image ≡ loadRefused ws work BlockCheck → LoadCase s ws work image
-  by-work : loadOn s ws work image ≡ loadRefused ws work Work → LoadCase s ws work image
-  by-soundness : loadOn s ws work image ≡ loadRefused (nodesZero ws) (cleared (nodesIn image) work) Refusal.Unsound → LoadCase s ws work image
+  by-blocks : loadOn s ws work image ≡ loadRefused (s .frames) ws work Blocks → LoadCase s ws work image
+  by-check : loadOn s ws work image ≡ loadRefused (s .frames) ws work BlockCheck → LoadCase s ws work image
+  by-work : loadOn s ws work image ≡ loadRefused (s .frames) ws work Work → LoadCase s ws work image
+  by-soundness : loadOn s ws work image ≡ loadRefused (recordsZero (s .frames)) (nodesZero ws) (cleared (nodesIn image) work) Refusal.Unsound → LoadCase s ws work image
   taken : LoadTaken s ws work image → LoadCase s ws work image
 
 load-cases : (s : State) (ws work image : List ℕ) → LoadCase s ws work image
@@ -161,8 +172,10 @@ load-cases s ws work image = go (fits s) refl (imageCheck image) refl
     go true f WrongCheck e = by-check (rw (f, e) refl)
     go true f Good e = elim (decided (ltb (length work) (nodesIn image))) [
       | inl l ↦ by-work (rw (f, e, l) refl)
-      | inr l ↦ elim (decided (isSound (stateIn image) (poolWith ws image))) [
-        | inl q ↦ taken (record { good = e; sound-read = q; is = rw (f, e, l, q) refl })
+      | inr l ↦ elim (decided (eqb (length (s .frames)) (placesIn image) && isSound (stateIn image) (poolWith ws image))) [
+        | inl q ↦ (
+            let b = both (eqb (length (s .frames)) (placesIn image)) (isSound (stateIn image) (poolWith ws image)) q in
+            taken (record { good = e; as-many = eqb-true (length (s .frames)) (placesIn image) (b .0); sound-read = b .1; is = rw (f, e, l, q) refl }))
         | inr q ↦ by-soundness (rw (f, e, l, q) refl)
       ]
     ]
@@ -181,10 +194,11 @@ abbrev result-of : {a b : LoadResult} → a ≡ b → a .result ≡ b .result
 result-of q = ap (λ (o : LoadResult). o .result) q
 
 -- refused before anything is read
-early : (s : State) (ws work image : List ℕ) (r : Refusal) → refusalNumber r < 99 → refusalNumber r ≢ 6 → loadOn s ws work image ≡ loadRefused ws work r → RefusedLoad s ws work image
+early : (s : State) (ws work image : List ℕ) (r : Refusal) → refusalNumber r < 99 → refusalNumber r ≢ 6 → loadOn s ws work image ≡ loadRefused (s .frames) ws work r → RefusedLoad s ws work image
 early s ws work image r low other q = record {
   state = λ t. absurd (omega (arith, t, result-of q, low));
-  zero = λ t. ap (λ (o : LoadResult). o .state) q;
+  zero = λ t u. ap (λ (o : LoadResult). o .state) q;
+  zero-table = λ t. absurd (other (sym (result-of q) ∙ t));
   pool = λ t. ap (λ (o : LoadResult). o .pool) q;
   zero-nodes = λ t. absurd (other (sym (result-of q) ∙ t));
 }
@@ -193,7 +207,8 @@ pub refused-load : (s : State) (ws work image : List ℕ) → 0 < loadOn s ws wo
 refused-load s ws work image h = elim (load-cases s ws work image) [
   | by-lengths f q ↦ record {
     state = λ t. ap (λ (o : LoadResult). o .state) q;
-    zero = λ t. absurd (omega (arith, t, result-of q));
+    zero = λ t u. absurd (omega (arith, t, result-of q));
+    zero-table = λ t. absurd (omega (arith, t, result-of q));
     pool = λ t. ap (λ (o : LoadResult). o .pool) q;
     zero-nodes = λ t. absurd (omega (arith, t, result-of q));
   }
@@ -202,7 +217,8 @@ refused-load s ws work image h = elim (load-cases s ws work image) [
   | by-work q ↦ early s ws work image Work (omega arith) (λ t. omega (arith, t)) q
   | by-soundness q ↦ record {
     state = λ t. absurd (omega (arith, t, result-of q));
-    zero = λ t. ap (λ (o : LoadResult). o .state) q;
+    zero = λ t u. absurd (u (result-of q));
+    zero-table = λ t. ap (λ (o : LoadResult). o .state) q;
     pool = λ t. absurd (t (result-of q));
     zero-nodes = λ t. ap (λ (o : LoadResult). o .pool) q;
   }
@@ -220,26 +236,30 @@ work-after-load s ws work image = elim (load-cases s ws work image) [
 ]
 
 -- a state of zeros has no worker
-zeros-unsound : (ws : List ℕ) → isSound zeros ws ≡ false
+zeros-unsound : (fs : List Frame) (ws : List ℕ) → isSound (zeros fs) ws ≡ false
 unfolding sound numbersSound
-zeros-unsound ws = refl
+zeros-unsound fs ws = refl
 
 -- a reading that is refused leaves no state
 abbrev leftBy : State → List ℕ → List ℕ → List ℕ → StateAndPool
 leftBy s ws work image = record { state = loadOn s ws work image .state; pool = loadOn s ws work image .pool }
 
-no-state : (s : State) (ws work image ws′ work′ : List ℕ) (r : Refusal) → loadOn s ws work image ≡ loadRefused ws′ work′ r → Refuses (leftBy s ws work image)
-no-state s ws work image ws′ work′ r q = subst Refuses (ap (λ (o : LoadResult). record { state = o .state; pool = o .pool }) (sym q)) (unsound (zeros-unsound ws′))
+no-state : (s : State) (ws work image : List ℕ) (fs′ : List Frame) (ws′ work′ : List ℕ) (r : Refusal) → loadOn s ws work image ≡ loadRefused fs′ ws′ work′ r → Refuses (leftBy s ws work image)
+no-state s ws work image fs′ ws′ work′ r q = subst Refuses (ap (λ (o : LoadResult). record { state = o .state; pool = o .pool }) (sym q)) (unsound (zeros-unsound fs′ ws′))
 
 pub load-leaves-none : (s : State) (ws work image : List ℕ) → eqb (loadOn s ws work image .result) 0 ≡ false → Refuses (leftBy s ws work image)
 load-leaves-none s ws work image e = elim (load-cases s ws work image) [
   | by-lengths f q ↦ subst Refuses (ap (λ (o : LoadResult). record { state = o .state; pool = o .pool }) (sym q)) (unfit f)
-  | by-blocks q ↦ no-state s ws work image ws work Blocks q
-  | by-check q ↦ no-state s ws work image ws work BlockCheck q
-  | by-work q ↦ no-state s ws work image ws work Work q
-  | by-soundness q ↦ no-state s ws work image (nodesZero ws) (cleared (nodesIn image) work) Refusal.Unsound q
+  | by-blocks q ↦ no-state s ws work image (s .frames) ws work Blocks q
+  | by-check q ↦ no-state s ws work image (s .frames) ws work BlockCheck q
+  | by-work q ↦ no-state s ws work image (s .frames) ws work Work q
+  | by-soundness q ↦ no-state s ws work image (recordsZero (s .frames)) (nodesZero ws) (cleared (nodesIn image) work) Refusal.Unsound q
   | taken T ↦ absurd (eqb-false (loadOn s ws work image .result) 0 e (result-of (T .is)))
 ]
+
+-- the places that were read are 256 at most
+load-few : (s : State) (ws work image : List ℕ) → LoadTaken s ws work image → placesIn image ≤ maxPlaces
+load-few s ws work image T = omega (arith, sound-numbers (stateIn image) (poolWith ws image) (T .sound-read) .places-le, same-places image (T .good))
 
 -- parts that had their lengths have them after it
 pub load-fits : (s : State) (ws work image : List ℕ) → Fits s → Fits (loadOn s ws work image .state)
@@ -250,12 +270,23 @@ load-fits s ws work image F = elim (load-cases s ws work image) [
   | by-work q ↦ zeroed Work q
   | by-soundness q ↦ zeroed Refusal.Unsound q
   | taken T ↦ (
-      let L = parts-lengths image (T .good) in
-      subst Fits (ap (λ (o : LoadResult). o .state) (sym (T .is))) (record { numbers = L .numbers; deques = L .deques; frames = L .frames }))
+      let L = parts-lengths image (T .good) (load-few s ws work image T) in
+      subst Fits (ap (λ (o : LoadResult). o .state) (sym (T .is))) (record { numbers = L .numbers; deques = L .deques }))
 ]
   where
-    zeroed : {ws′ work′ : List ℕ} (r : Refusal) → loadOn s ws work image ≡ loadRefused ws′ work′ r → Fits (loadOn s ws work image .state)
-    zeroed r q = subst Fits (ap (λ (o : LoadResult). o .state) (sym q)) (record { numbers = refl; deques = refl; frames = refl })
+    zeroed : {fs′ : List Frame} {ws′ work′ : List ℕ} (r : Refusal) → loadOn s ws work image ≡ loadRefused fs′ ws′ work′ r → Fits (loadOn s ws work image .state)
+    zeroed r q = subst Fits (ap (λ (o : LoadResult). o .state) (sym q)) (record { numbers = refl; deques = refl })
+
+-- R-6: and a table of as many places
+pub load-places : (s : State) (ws work image : List ℕ) → length (loadOn s ws work image .state .frames) ≡ length (s .frames)
+load-places s ws work image = elim (load-cases s ws work image) [
+  | by-lengths f q ↦ rw q refl
+  | by-blocks q ↦ rw q refl
+  | by-check q ↦ rw q refl
+  | by-work q ↦ rw q refl
+  | by-soundness q ↦ rw q (length-replicate {A = Frame} (length (s .frames)) (freePlace 0))
+  | taken T ↦ ap (λ (o : LoadResult). length (o .state .frames)) (T .is) ∙ parts-lengths image (T .good) (load-few s ws work image T) .frames ∙ same-places image (T .good) ∙ sym (T .as-many)
+]
 
 -- the pool holds the nodes that were read, and has them in its front
 module _ (s : State) (ws work image : List ℕ) (T : LoadTaken s ws work image) where
@@ -280,7 +311,8 @@ accepted-load s ws work image e =
     record {
       state = state;
       sound = ap (isSound (stateIn image)) (ap (λ (o : LoadResult). o .pool) (T .is)) ∙ T .sound-read;
-      again = λ h. ap (λ (t : State). savedImage t (loadOn s ws work image .pool)) state ∙ saved-again image (T .good) h _ _ _ ws (loadOn s ws work image .pool) read;
+      again = λ h. ap (λ (t : State). savedImage t (loadOn s ws work image .pool)) state ∙ saved-again image (T .good) (load-few s ws work image T) h _ _ _ ws (loadOn s ws work image .pool) read;
+      same-places = load-places s ws work image;
       same-length = ap length pool ∙ stored-long (poolIn image) ws (omega (arith, long, load-room s ws work image T));
       beyond = ap (drop (4 * nodesIn image)) pool ∙ drop-at (poolIn image) (drop (length (poolIn image)) ws) (4 * nodesIn image) long ∙ ap (λ (k : ℕ). drop k ws) long;
     }
@@ -303,7 +335,7 @@ save-cases h work target = go (fits (h .state)) refl
       | inr l ↦ before (rw (f, l) refl) (rw (f, l) refl) (rw (f, l) refl)
       | inl l ↦ elim (decided (isSound (h .state) (h .pool))) [
         | inr q ↦ after (rw (f, l, q) refl) (rw (f, l, q) refl) (inl (rw (f, l, q) refl))
-        | inl q ↦ elim (decided (ltb (length target) (imageBytes (numbersOf (h .state) .nodes)))) [
+        | inl q ↦ elim (decided (ltb (length target) (savedBytes (h .state)))) [
           | inl t ↦ after (rw (f, l, q, t) refl) (rw (f, l, q, t) refl) (inl (rw (f, l, q, t) refl))
           | inr t ↦ after (rw (f, l, q, t) refl) (rw (f, l, q, t) refl) (inr (rw (f, l, q, t) refl))
         ]
@@ -331,15 +363,16 @@ SaysCore image c = Says image (stateOf c .numbers) (c .deques) (c .frames) (c .p
 
 pub saved-says : (c : Core) → StateWords (stateOf c) (c .pool) → Fits (stateOf c) → isSound (stateOf c) (c .pool) ≡ true → SaysCore (savedImage (stateOf c) (c .pool)) c
 saved-says c W F e =
-    says-what-was-written (stateOf c .numbers) (c .deques) (c .frames) (c .pool) (lengths-of (stateOf c) F) (sound-room (stateOf c) (c .pool) e)
-    (record { numbers = W .numbers; deques = W .deques; frames = W .frames; pool = W .pool }) (sound-few (stateOf c) (c .pool) e)
+    says-what-was-written (stateOf c .numbers) (c .deques) (c .frames) (c .pool) (lengths-of (stateOf c) (c .pool) F e) (sound-room (stateOf c) (c .pool) e)
+    (record { numbers = W .numbers; deques = W .deques; frames = W .frames; pool = W .pool }) (sound-few (stateOf c) (c .pool) e) (zero-past (stateOf c) (c .pool) e)
 
--- parts that fit and a work slice that is long enough: nothing is refused, if state and nodes are sound there
-pub load-takes : (image : List ℕ) (c : Core) → SaysCore image c → (s : State) (ws work : List ℕ) → fits s ≡ true → c .head .numbers .nodes ≤ length work → isSound (stateIn image) (poolWith ws image) ≡ true → LoadTaken s ws work image
+-- parts that fit, with a table of as many places, and a work slice that is long enough: nothing is refused, if state and nodes are sound there
+pub load-takes : (image : List ℕ) (c : Core) → SaysCore image c → (s : State) (ws work : List ℕ) → fits s ≡ true → length (s .frames) ≡ numbersOf (stateOf c) .places → c .head .numbers .nodes ≤ length work → isSound (stateIn image) (poolWith ws image) ≡ true → LoadTaken s ws work image
 unfolding loadOn loadWith
-load-takes image c Y s ws work f long q =
+load-takes image c Y s ws work f as-many long q =
+    let k = eq-eqb (length (s .frames)) (placesIn image) (as-many ∙ sym (Y .places)) in
     let l : ltb (length work) (nodesIn image) ≡ false = le-ltb (length work) (nodesIn image) (omega (arith, long, Y .nodes)) in
-    record { good = Y .good; sound-read = q; is = rw (f, Y .good, l, q) refl }
+    record { good = Y .good; as-many = as-many ∙ sym (Y .places); sound-read = q; is = rw (f, Y .good, l, k, q) refl }
 
 -- the lent pool with the saved nodes in its front
 pub pool-with : (image : List ℕ) (c : Core) → SaysCore image c → 4 * c .head .numbers .nodes ≤ length (c .pool) → (ws : List ℕ) → 4 * c .head .numbers .nodes ≤ length ws

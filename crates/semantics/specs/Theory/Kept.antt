@@ -7,7 +7,8 @@ use native.Mathlib.Omega.{arith}
 use lib.ListN.{length}
 use lib.Dec.{leb}
 use Rattle.sizes.specs.Sizes.{height}
-use Rattle.frames.specs.Widths.{frameWords, dequeWords}
+use Rattle.frames.specs.declared.Frame.{Frame as FrameRecord}
+use Rattle.frames.specs.Widths.{dequeWords}
 use Rattle.soundness.specs.declared.Numbers.{Numbers}
 use Rattle.soundness.specs.declared.Checked.{Checked}
 use Rattle.soundness.specs.declared.Checked.the-variants.{NoRoom, Sound}
@@ -22,7 +23,7 @@ use Rattle.semantics.specs.Ranges.{Kept}
 use Rattle.semantics.specs.Theory.FromSoundRelates.{countedCore}
 use Rattle.semantics.specs.SoundMachine.{machineOf}
 use Rattle.semantics.specs.Theory.Simulation.{numbers-kept}
-use Rattle.semantics.specs.Theory.SoundSteps.{is-sound, sound-carried, step-carried}
+use Rattle.semantics.specs.Theory.SoundSteps.{core-sound, sound-carried, step-carried}
 
 -- ---- the check finds it so
 
@@ -36,12 +37,12 @@ sound-answer false p free k e = absurd (let z : _≡_ {A = ℕ} 0 1 = cc in omeg
 sound-answer true false free k e = absurd (let z : _≡_ {A = ℕ} 0 1 = cc in omega arith)
 sound-answer true true free k e = (refl, ap freeOf e)
 
-pub kept-start : (s : Numbers) (ts ds fs ws ks : List ℕ) (free : ℕ) → length ts ≡ totalCount → length ds ≡ dequeWords → length fs ≡ frameWords → Sound free ≡ checked s ts ds fs ws ks
+pub kept-start : (s : Numbers) (ts ds : List ℕ) (fs : List FrameRecord) (ws ks : List ℕ) (free : ℕ) → length ts ≡ totalCount → length ds ≡ dequeWords → Sound free ≡ checked s ts ds fs ws ks
     → Kept (record { head = headOf s free; totals = ts; deques = ds; frames = fs; pool = ws })
 unfolding checked
-kept-start s ts ds fs ws ks free tlen dlen flen e =
+kept-start s ts ds fs ws ks free tlen dlen e =
     let r = sound-answer (leb (s .nodes) (length ks)) (sound s ts ds fs ws) free (freeCount s ws) e in
-    record { is-sound = r .0; counted = r .1; height-is = refl; long-totals = tlen; long-deques = dlen; long-frames = flen }
+    record { is-sound = r .0; counted = r .1; height-is = refl; long-totals = tlen; long-deques = dlen }
 
 -- ---- every step keeps it
 
@@ -56,17 +57,16 @@ pub kept-step : (c : Core) → Kept c → (st : Step) → Kept (stepOn c st .cor
 kept-step c K st =
     let s = c .head .numbers in
     let c₀ = countedCore s (c .totals) (c .deques) (c .frames) (c .pool) in
-    let C₀ = sound-carried s (c .totals) (c .deques) (c .frames) (c .pool) (K .long-totals) (K .long-deques) (K .long-frames) (K .is-sound) in
+    let C₀ = sound-carried s (c .totals) (c .deques) (c .frames) (c .pool) (K .long-totals) (K .long-deques) (K .is-sound) in
     let C = step-carried (machineOf s (c .deques) (c .frames) (c .pool)) c₀ st C₀ in
     let n = numbers-kept c₀ st in
     subst (λ (d : Core). Kept (stepOn d st .core)) (core-counted c K)
     (record {
-      is-sound = is-sound C .0;
-      counted = sym (is-sound C .1);
+      is-sound = core-sound C .0;
+      counted = sym (core-sound C .1);
       height-is = n .height ∙ ap height (sym (n .splitters));
       long-totals = C .related .totals .long;
       long-deques = C .related .formed .shaped .long;
-      long-frames = C .related .formed .long;
     })
 
 pub kept-record : (c : Core) → Kept c → (d : Decoded) → Kept (recordOn c d .core)

@@ -1,11 +1,11 @@
--- Every entry leaves a state whose parts have their lengths, if it had one.
-use mathlib.Core.Path.{_≡_, refl, ap, _∙_}
+-- Every entry leaves a state whose parts have their lengths, if it had one, and a table of as many places.
+use mathlib.Core.Path.{_≡_, refl, _∙_}
 use mathlib.Core.Bool.{Bool, cond, _||_}
 use mathlib.Core.Logic.{inl, inr}
 use mathlib.Core.List.{List, [], _∷_}
 use Prim.Native.Nat.{ℕ, zero, suc, _+_, _-_}
 use native.Mathlib.Omega.{arith}
-use lib.ListN.{length, replicate, length-replicate}
+use lib.ListN.{length, replicate, length-replicate, length-append}
 use lib.Dec.{eqb, ltb}
 use Rattle.words.specs.Basics.{none, plus}
 use Rattle.words.specs.Tests.{decided}
@@ -13,7 +13,7 @@ use Rattle.sizes.specs.Sizes.{treeNodes}
 use Rattle.pool.specs.Pool.{refcount, left, right, freed, release}
 use Rattle.pool.specs.Theory.Nodes.{length-setNode, length-setRefcount}
 use Rattle.frames.specs.declared.Frame.{Frame}
-use Rattle.frames.specs.Widths.{frameWords, dequeWords}
+use Rattle.frames.specs.Widths.{maxPlaces, dequeWords}
 use Rattle.frames.specs.Frames.{frameAt, setFrame}
 use Rattle.frames.specs.Deques.{size, setPlace, bottom, push, pop, shiftUp, dropTop, initDeques}
 use Rattle.frames.specs.Steps.{Table, acting, linkChild, addChild, withFrames, spawn, suspend, endsToo, resumes, goOn, steal, sync, fold}
@@ -21,7 +21,6 @@ use Rattle.frames.specs.Theory.Records.{length-setFrame}
 use Rattle.frames.specs.Theory.Links.{length-link}
 use Rattle.frames.specs.Theory.Ends.{length-end}
 use Rattle.frames.specs.Theory.Cells.{length-setSize, length-setPlace}
-use Rattle.frames.specs.Theory.Start.{length-init}
 use Rattle.soundness.specs.declared.Checked.{Checked}
 use Rattle.soundness.specs.declared.Checked.the-variants.{NoRoom, Sound}
 use Rattle.soundness.specs.Numbers.{totalCount}
@@ -32,7 +31,7 @@ use Rattle.model.specs.declared.Decoded.the-variants.{Valid, Invalid}
 use Rattle.model.specs.Record.{recordOf}
 use Rattle.semantics.specs.declared.Refusal.{Refusal}
 use Rattle.semantics.specs.Core.{Core, StepResult, tableOf, actingIn, withTable, judged, testsOf, spawnOn, totalsAfter, endAt, upward, popped, endBottom, returnOn, stealOn, syncOn, readOn, writeOn, foldOn, doneBy, stepOn}
-use Rattle.semantics.specs.Entries.{State, coreOf, stateOf, checkedState, zeros, StartResult, wholeNodes, firstState, startWith, startOn, outsideChecked, outsideWith, outsideOn, recordOn, recordsResult, runOn, recordsOf, unfitTape, tapeChecked, tapeWith, tapeOn}
+use Rattle.semantics.specs.Entries.{State, fits, coreOf, stateOf, checkedState, zeros, StartResult, wholeNodes, firstState, startWith, startOn, outsideChecked, outsideWith, outsideOn, recordOn, recordsResult, runOn, recordsOf, unfitTape, tapeChecked, tapeWith, tapeOn}
 use Rattle.semantics.specs.Promises.{Fits}
 use Rattle.semantics.specs.Calls.{HostCall, outside, tape, StateAndPool, afterCall}
 pub use Rattle.semantics.specs.Theory.Fitting.{fits-true, true-fits, state-back}
@@ -193,76 +192,90 @@ return-pool c w = return-long c w .pool
 -- ---- a step
 
 -- of a core: its totals and the parts of its table
-core-fits : (c : Core) → length (c .totals) ≡ totalCount → length (c .deques) ≡ dequeWords → length (c .frames) ≡ frameWords → Fits (stateOf c)
-core-fits c t d f = record { numbers = omega (arith, t); deques = d; frames = f }
+core-fits : (c : Core) → length (c .totals) ≡ totalCount → length (c .deques) ≡ dequeWords → Fits (stateOf c)
+core-fits c t d = record { numbers = omega (arith, t, length-append (c .totals) (c .head .numbers .places ∷ [])); deques = d }
 
 fits-totals : (c : Core) → Fits (stateOf c) → length (c .totals) ≡ totalCount
-fits-totals c f = omega (arith, f .numbers)
+fits-totals c f = omega (arith, f .numbers, length-append (c .totals) (c .head .numbers .places ∷ []))
 
--- the totals stay, and the table is as long as before
-table-fits : (c c′ : Core) → c′ .totals ≡ c .totals → AsLong (tableOf c) (tableOf c′) → Fits (stateOf c) → Fits (stateOf c′)
-table-fits c c′ t L f = core-fits c′ (ap length t ∙ fits-totals c f) (L .deques ∙ f .deques) (L .frames ∙ f .frames)
+-- its table is as long as before, and its totals have their length if they had it
+record PartsAsLong (c c′ : Core) : Type 0 where
+  table : AsLong (tableOf c) (tableOf c′)
+  totals : length (c .totals) ≡ totalCount → length (c′ .totals) ≡ totalCount
 
-done-fits : (c : Core) (st : Step) → Fits (stateOf c) → Fits (stateOf (doneBy c st .core))
-done-fits c (Spawn w) f = let L = spawn-long (tableOf c) w in unfold spawnOn in table-fits c (spawnOn c w .core) refl (record { deques = L .deques; frames = L .frames }) f
-done-fits c (Return w) f =
-    let L = return-long c w in
-    core-fits (returnOn c w .core) (L .totals (fits-totals c f)) (L .table .deques ∙ f .deques) (L .table .frames ∙ f .frames)
-done-fits c (Steal w v) f = let L = steal-long (tableOf c) w v in unfold stealOn in table-fits c (stealOn c w v .core) refl (record { deques = L .deques; frames = refl }) f
-done-fits c (Sync w) f = let L = sync-long (tableOf c) w in unfold syncOn in table-fits c (syncOn c w .core) refl (record { deques = L .deques; frames = L .frames }) f
-done-fits c (Read w x) f = unfold readOn in f
-done-fits c (Write w x v) f = unfold writeOn in table-fits c (writeOn c w x v .core) refl (record { deques = refl; frames = length-setFrame (c .frames) (bottom (c .deques) w) _ }) f
-done-fits c (Fold w r v) f = let L = fold-long (tableOf c) w r v in unfold foldOn in table-fits c (foldOn c w r v .core) refl (record { deques = refl; frames = L .frames }) f
+parts-fit : {c c′ : Core} → PartsAsLong c c′ → Fits (stateOf c) → Fits (stateOf c′)
+parts-fit {c} {c′} L f = core-fits c′ (L .totals (fits-totals c f)) (L .table .deques ∙ f .deques)
 
-judged-fits : (ts : List (Bool × Refusal)) (c : Core) (d : StepResult) → Fits (stateOf c) → Fits (stateOf (d .core)) → Fits (stateOf (judged ts c d .core))
-judged-fits [] c d f g = g
-judged-fits (t ∷ ts) c d f g = elim (decided (t .0)) [ inl e ↦ rw e f | inr e ↦ rw e (judged-fits ts c d f g) ]
+parts-refl : (c : Core) → PartsAsLong c c
+parts-refl c = record { table = as-long-refl (tableOf c); totals = λ h. h }
 
-step-fits : (c : Core) (st : Step) → Fits (stateOf c) → Fits (stateOf (stepOn c st .core))
+done-long : (c : Core) (st : Step) → PartsAsLong c (doneBy c st .core)
+done-long c (Spawn w) = let L = spawn-long (tableOf c) w in unfold spawnOn in record { table = record { deques = L .deques; frames = L .frames }; totals = λ h. h }
+done-long c (Return w) = let L = return-long c w in record { table = L .table; totals = L .totals }
+done-long c (Steal w v) = let L = steal-long (tableOf c) w v in unfold stealOn in record { table = record { deques = L .deques; frames = refl }; totals = λ h. h }
+done-long c (Sync w) = let L = sync-long (tableOf c) w in unfold syncOn in record { table = record { deques = L .deques; frames = L .frames }; totals = λ h. h }
+done-long c (Read w x) = unfold readOn in parts-refl c
+done-long c (Write w x v) = unfold writeOn in record { table = record { deques = refl; frames = length-setFrame (c .frames) (bottom (c .deques) w) _ }; totals = λ h. h }
+done-long c (Fold w r v) = let L = fold-long (tableOf c) w r v in unfold foldOn in record { table = record { deques = refl; frames = L .frames }; totals = λ h. h }
+
+judged-long : (ts : List (Bool × Refusal)) (c : Core) (d : StepResult) → PartsAsLong c (d .core) → PartsAsLong c (judged ts c d .core)
+judged-long [] c d L = L
+judged-long (t ∷ ts) c d L = elim (decided (t .0)) [ inl e ↦ rw e (parts-refl c) | inr e ↦ rw e (judged-long ts c d L) ]
+
+record-long : (c : Core) (d : Decoded) → PartsAsLong c (recordOn c d .core)
 unfolding stepOn
-step-fits c st f = judged-fits (testsOf c st) c (doneBy c st) f (done-fits c st f)
+record-long c (Valid st) = judged-long (testsOf c st) c (doneBy c st) (done-long c st)
+record-long c Invalid = parts-refl c
 
 pub record-fits : (c : Core) (d : Decoded) → Fits (stateOf c) → Fits (stateOf (recordOn c d .core))
-record-fits c (Valid st) f = step-fits c st f
-record-fits c Invalid f = f
+record-fits c d f = parts-fit (record-long c d) f
+
+-- R-6: the table has as many places as before
+pub record-places : (c : Core) (d : Decoded) → length (recordOn c d .core .frames) ≡ length (c .frames)
+record-places c d = record-long c d .table .frames
 
 run-fits : (ds : List Decoded) (c : Core) (as′ : List ℕ) (k : ℕ) → Fits (stateOf c) → Fits (stateOf (runOn (recordsResult c as′) k ds .core))
 unfolding runOn
 run-fits [] c as′ k f = f
 run-fits (d ∷ ds) c as′ k f = run-fits ds (recordOn c d .core) _ (k + 2) (record-fits c d f)
 
+pub run-places : (ds : List Decoded) (c : Core) (as′ : List ℕ) (k : ℕ) → length (runOn (recordsResult c as′) k ds .core .frames) ≡ length (c .frames)
+unfolding runOn
+run-places [] c as′ k = refl
+run-places (d ∷ ds) c as′ k = run-places ds (recordOn c d .core) _ (k + 2) ∙ record-places c d
+
 -- ---- the entries
 
-zeros-fit : Fits zeros
-zeros-fit = record { numbers = refl; deques = length-replicate {A = ℕ} dequeWords 0; frames = length-replicate {A = ℕ} frameWords 0 }
+zeros-fit : (fs : List Frame) → Fits (zeros fs)
+zeros-fit fs = record { numbers = refl; deques = length-replicate {A = ℕ} dequeWords 0 }
 
-first-fits : (workers n nodes free : ℕ) → Fits (firstState workers n nodes free)
+first-fits : (workers n nodes free : ℕ) (fs : List Frame) → Fits (firstState workers n nodes free fs)
 unfolding initDeques
-first-fits workers n nodes free =
-    record { numbers = refl; deques = length-push (replicate dequeWords 0) 0 0 ∙ zeros-fit .deques; frames = length-init (replicate frameWords 0) (zeros-fit .frames) }
+first-fits workers n nodes free fs = record { numbers = refl; deques = length-push (replicate dequeWords 0) 0 0 ∙ zeros-fit fs .deques }
 
 either-start : (b : Bool) (x y : StartResult) → Fits (x .state) → Fits (y .state) → Fits (cond b x y .state)
 either-start b x y f g = elim (decided b) [ inl e ↦ rw e f | inr e ↦ rw e g ]
 
 -- whatever the lent parts hold
-pub start-with-fits : (workers : ℕ) (vs ws : List ℕ) → Fits (startWith workers vs ws .state)
+pub start-with-fits : (workers : ℕ) (vs : List ℕ) (fs : List Frame) (ws : List ℕ) → Fits (startWith workers vs fs ws .state)
 unfolding startWith
-start-with-fits workers vs ws =
-    either-start (eqb (length vs) 0 || ltb 256 (length vs)) _ _ zeros-fit
-    (either-start (eqb workers 0 || ltb 8 workers) _ _ zeros-fit
-    (either-start (ltb (wholeNodes ws) (treeNodes (length vs)) || ltb 16384 (wholeNodes ws)) _ _ zeros-fit
-    (first-fits workers (length vs) (wholeNodes ws) _)))
+start-with-fits workers vs fs ws =
+    either-start (eqb (length vs) 0 || ltb 256 (length vs)) _ _ (zeros-fit fs)
+    (either-start (eqb workers 0 || ltb 8 workers) _ _ (zeros-fit fs)
+    (either-start (eqb (length fs) 0 || ltb maxPlaces (length fs)) _ _ (zeros-fit fs)
+    (either-start (ltb (wholeNodes ws) (treeNodes (length vs)) || ltb 16384 (wholeNodes ws)) _ _ (zeros-fit fs)
+    (first-fits workers (length vs) (wholeNodes ws) _ fs))))
 
 module _ (s : State) (f : Fits s) where
   pub start-fits : (workers : ℕ) (vs ws : List ℕ) → Fits (startOn s workers vs ws .state)
   unfolding startOn
-  start-fits workers vs ws = rw (fits-true s f) (start-with-fits workers vs ws)
+  start-fits workers vs ws = rw (fits-true s f) (start-with-fits workers vs (s .frames) ws)
 
   module _ (ws work : List ℕ) where
     outside-checked-fits : (k : Checked) (d : Decoded) → Fits (outsideChecked k s ws work d .state)
     outside-checked-fits NoRoom d = f
     outside-checked-fits Checked.Unsound d = f
-    outside-checked-fits (Sound n) d = record-fits (coreOf s ws n) d (core-fits (coreOf s ws n) (totals-long s f) (f .deques) (f .frames))
+    outside-checked-fits (Sound n) d = record-fits (coreOf s ws n) d (core-fits (coreOf s ws n) (totals-long s f) (f .deques))
 
     pub outside-fits : (d : Decoded) → Fits (outsideOn s ws work d .state)
     unfolding outsideOn outsideWith
@@ -272,11 +285,39 @@ module _ (s : State) (f : Fits s) where
       tape-checked-fits : (k : Checked) → Fits (tapeChecked k s ws work bytes rs .state)
       tape-checked-fits NoRoom = f
       tape-checked-fits Checked.Unsound = f
-      tape-checked-fits (Sound n) = run-fits (recordsOf bytes) (coreOf s ws n) rs 0 (core-fits (coreOf s ws n) (totals-long s f) (f .deques) (f .frames))
+      tape-checked-fits (Sound n) = run-fits (recordsOf bytes) (coreOf s ws n) rs 0 (core-fits (coreOf s ws n) (totals-long s f) (f .deques))
 
       pub tape-fits : Fits (tapeOn s ws work bytes rs .state)
       unfolding tapeOn tapeWith
       tape-fits = rw (fits-true s f) (elim (decided (unfitTape bytes rs)) [ inl e ↦ rw e f | inr e ↦ rw e (tape-checked-fits (checkedState s ws work)) ])
+
+-- ---- R-6: the table has as many places as before, refused or not
+
+module _ (s : State) (ws work : List ℕ) where
+  outside-checked-places : (k : Checked) (d : Decoded) → length (outsideChecked k s ws work d .state .frames) ≡ length (s .frames)
+  outside-checked-places NoRoom d = refl
+  outside-checked-places Checked.Unsound d = refl
+  outside-checked-places (Sound n) d = record-places (coreOf s ws n) d
+
+  outside-places : (d : Decoded) → length (outsideOn s ws work d .state .frames) ≡ length (s .frames)
+  unfolding outsideOn outsideWith
+  outside-places d = elim (decided (fits s)) [ inl e ↦ rw e (outside-checked-places (checkedState s ws work) d) | inr e ↦ rw e refl ]
+
+  tape-checked-places : (k : Checked) (bytes rs : List ℕ) → length (tapeChecked k s ws work bytes rs .state .frames) ≡ length (s .frames)
+  tape-checked-places NoRoom bytes rs = refl
+  tape-checked-places Checked.Unsound bytes rs = refl
+  tape-checked-places (Sound n) bytes rs = run-places (recordsOf bytes) (coreOf s ws n) rs 0
+
+  tape-places : (bytes rs : List ℕ) → length (tapeOn s ws work bytes rs .state .frames) ≡ length (s .frames)
+  unfolding tapeOn tapeWith
+  tape-places bytes rs = elim (decided (fits s)) [
+    | inl e ↦ elim (decided (unfitTape bytes rs)) [ inl t ↦ rw (e, t) refl | inr t ↦ rw (e, t) (tape-checked-places (checkedState s ws work) bytes rs) ]
+    | inr e ↦ rw e refl
+  ]
+
+pub call-places : (h : StateAndPool) (c : HostCall) → length (afterCall h c .state .frames) ≡ length (h .state .frames)
+call-places h (outside kind worker field value work) = outside-places (h .state) (h .pool) work (recordOf kind worker field value)
+call-places h (tape bytes work answers) = tape-places (h .state) (h .pool) work bytes answers
 
 -- ---- calls
 

@@ -16,9 +16,10 @@ use Rattle.words.specs.Linked.{without, parted}
 use Rattle.words.specs.Tests.{decided, true≢false}
 use Rattle.words.specs.Distinct.{same-eq, same-ne}
 use Rattle.words.specs.Lists.{In-perm}
-use Rattle.frames.specs.Widths.{places}
+use Rattle.frames.specs.declared.Frame.{Frame as FrameRecord}
 use Rattle.frames.specs.Frames.{frameAt}
 use Rattle.frames.specs.Siblings.{liveChild, younger, names, firstFrom, onlyChild, nextAfter, Children}
+use Rattle.frames.specs.Theory.Ends.{length-end}
 use Rattle.frames.specs.Theory.EndRecords.{ended-live, ended-parent, ended-own, ended-link}
 use Rattle.frames.specs.Theory.Siblings.{liveChildren, children-at, children-in, children-has, children-length, one-child, named-once}
 use Rattle.frames.specs.Theory.Relinked.{ChildRemoved, children-same, children-less}
@@ -47,7 +48,7 @@ twice : (x : ℕ) (xs ys : List ℕ) → count x (xs ++ (x ∷ (x ∷ ys))) ≡ 
 twice x xs ys e = omega (arith, e, count-append x xs (x ∷ (x ∷ ys)), count-cons x x (x ∷ ys), count-cons x x ys, δ-same x)
 
 module _ {P : Trees} {M : Machine} {c : Core} (r : Relates P M c) (tree : FrameTree M) (K : Links (c .frames) (r .at) (live M)) where
-  abbrev fs : List ℕ
+  abbrev fs : List FrameRecord
   fs = c .frames
 
   -- "Outstanding counts are right."
@@ -55,14 +56,14 @@ module _ {P : Trees} {M : Machine} {c : Core} (r : Relates P M c) (tree : FrameT
   counted f m = outstanding r tree (r .at (f .name)) (inside r f m) (alive r f m)
 
   -- a live child of f is a live frame, one deeper
-  child-frame : (f : Frame) → In f (live M) → (x : ℕ) → x < places → liveChild fs (r .at (f .name)) x ≡ true → (h : Frame) × In h (live M) × (r .at (h .name) ≡ x) × (length (f .name) < length (h .name))
+  child-frame : (f : Frame) → In f (live M) → (x : ℕ) → x < length fs → liveChild fs (r .at (f .name)) x ≡ true → (h : Frame) × In h (live M) × (r .at (h .name) ≡ x) × (length (f .name) < length (h .name))
   child-frame f m x b t =
       let y = child-at fs (r .at (f .name)) x t in
       let h = live-frame r x b (y .0) in
       (h .0, h .1, h .2, deeper (h .0) (h .1) (ap (λ (z : ℕ). frameAt fs z .parent) (h .2) ∙ y .1) (h .0 .name) refl)
     where
       deeper : (h : Frame) → In h (live M) → frameAt fs (r .at (h .name)) .parent ≡ r .at (f .name) → (n : Name) → h .name ≡ n → length (f .name) < length (h .name)
-      deeper h i e [] z = absurd (omega (arith, inside r f m, e, parent-is r h i, ap (parentPlace (r .at)) z))
+      deeper h i e [] z = absurd (omega (arith, inside r f m, r .formed .few, e, parent-is r h i, ap (parentPlace (r .at)) z))
       deeper h i e (k ∷ p) z =
           let g = tree .rooted h i k p z in
           let one : r .at (g .0 .name) ≡ r .at (f .name) = ap (r .at) (g .2) ∙ ap (parentPlace (r .at)) (sym z) ∙ sym (parent-is r h i) ∙ e in
@@ -126,11 +127,11 @@ module _ {P : Trees} {M : Machine} {c : Core} (r : Relates P M c) (tree : FrameT
       pub own-child : liveChild fs q own ≡ true
       own-child = at-child fs q own (alive r g lives) up
 
-      q-inside : q < places
+      q-inside : q < length fs
       q-inside = inside r (h .0) (h .1)
 
       q-some : q ≢ none
-      q-some e = omega (arith, q-inside, e)
+      q-some e = omega (arith, q-inside, e, r .formed .few)
 
       h-other : In (h .0) R
       h-other = other (h .0) (h .1) (λ e. omega (arith, ap length named, ap length (h .2), ap (λ (z : Frame). length (z .name)) e))
@@ -146,13 +147,13 @@ module _ {P : Trees} {M : Machine} {c : Core} (r : Relates P M c) (tree : FrameT
           let D = subst (Children fs q) e C in
           let at-y = children-in D y (omega (arith, count-append y xs (own ∷ (y ∷ ys)), count-cons y own (y ∷ ys), count-cons y y ys, δ-same y)) in
           let f = child-frame (h .0) (h .1) y (at-y .0) (at-y .1) in
-          let d = goes-down places (f .0) (f .1) in
+          let d = goes-down (length fs) (f .0) (f .1) in
           let not-own : y ≢ own = λ z. twice own xs ys (subst (λ (x : ℕ). count own (xs ++ (own ∷ (x ∷ ys))) ≡ 1) z (children-has D own (inside r g lives) own-child)) in
           let not-g : d .0 ≢ g = λ z. elim (d .3) [
             | inl w ↦ not-own (sym (f .2) ∙ ap (λ (x : Frame). r .at (x .name)) (sym w ∙ z))
             | inr w ↦ omega (arith, w, f .3, ap (λ (x : Frame). length (x .name)) z, ap length named, ap length (h .2))
           ] in
-          (d .0, other (d .0) (d .1) not-g, after-elder xs own y ys D (counted (h .0) (h .1)) ∙ ap (firstFrom places fs) (sym (f .2)) ∙ sym (d .2))
+          (d .0, other (d .0) (d .1) not-g, after-elder xs own y ys D (counted (h .0) (h .1)) ∙ ap (firstFrom (length fs) fs) (sym (f .2)) ∙ sym (d .2))
 
       next-frame : (n : Frame) × In n R × (nextAfter fs own ≡ r .at (n .name))
       next-frame =
@@ -166,11 +167,14 @@ module _ {P : Trees} {M : Machine} {c : Core} (r : Relates P M c) (tree : FrameT
     -- ---- the links
 
     module _ {M′ : Machine} {c′ : Core} (r′ : Relates P M′ c′) (E : Ended r r′ g R) (childless : hasChild (g .name) (live M) ≡ false) where
-      abbrev es : List ℕ
+      abbrev es : List FrameRecord
       es = c′ .frames
 
       abbrev free : ℕ
       free = c .head .numbers .«free_place»
+
+      same-length : length es ≡ length fs
+      same-length = ap length (E .frames) ∙ length-end fs free own
 
       left : (f : Frame) → In f (live M′) → In f R
       left f m = In-perm (E .after) m
@@ -182,28 +186,28 @@ module _ {P : Trees} {M : Machine} {c : Core} (r : Relates P M c) (tree : FrameT
         abbrev u₀ : ℕ
         u₀ = q k p named
 
-        n-inside : r .at (n .0 .name) < places
+        n-inside : r .at (n .0 .name) < length fs
         n-inside = inside r (n .0) (old (n .0) (there (n .1)))
 
         live-after : (x : ℕ) → x ≢ own → frameAt es x .live ≡ frameAt fs x .live
         live-after x d =
-            ap (λ (l : List ℕ). frameAt l x .live) (E .frames)
-            ∙ ended-live fs free own (r .formed .long) (inside r g lives) u₀ (up k p named) (q-some k p named) (q-inside k p named) (q-apart k p named) (r .at (n .0 .name)) (n .2) n-inside x d
+            ap (λ (l : List FrameRecord). frameAt l x .live) (E .frames)
+            ∙ ended-live fs free own (inside r g lives) u₀ (up k p named) (q-some k p named) (q-inside k p named) (q-apart k p named) (r .at (n .0 .name)) (n .2) n-inside x d
 
         parent-after : (x : ℕ) → x ≢ own → frameAt es x .parent ≡ frameAt fs x .parent
         parent-after x d =
-            ap (λ (l : List ℕ). frameAt l x .parent) (E .frames)
-            ∙ ended-parent fs free own (r .formed .long) (inside r g lives) u₀ (up k p named) (q-some k p named) (q-inside k p named) (q-apart k p named) (r .at (n .0 .name)) (n .2) n-inside x d
+            ap (λ (l : List FrameRecord). frameAt l x .parent) (E .frames)
+            ∙ ended-parent fs free own (inside r g lives) u₀ (up k p named) (q-some k p named) (q-inside k p named) (q-apart k p named) (r .at (n .0 .name)) (n .2) n-inside x d
 
         own-after : frameAt es own .live ≡ 0
         own-after =
-            ap (λ (l : List ℕ). frameAt l own .live) (E .frames)
-            ∙ ended-own fs free own (r .formed .long) (inside r g lives) u₀ (up k p named) (q-some k p named) (q-inside k p named) (q-apart k p named) (r .at (n .0 .name)) (n .2) n-inside
+            ap (λ (l : List FrameRecord). frameAt l own .live) (E .frames)
+            ∙ ended-own fs free own (inside r g lives) u₀ (up k p named) (q-some k p named) (q-inside k p named) (q-apart k p named) (r .at (n .0 .name)) (n .2) n-inside
 
         link-after : (x : ℕ) → x ≢ own → younger es x ≡ cond (onlyChild fs own) (younger fs x) (cond (names fs u₀ own x) (younger fs own) (younger fs x))
         link-after x d =
-            ap (λ (l : List ℕ). younger l x) (E .frames)
-            ∙ ended-link fs free own (r .formed .long) (inside r g lives) u₀ (up k p named) (q-some k p named) (q-inside k p named) (q-apart k p named) (r .at (n .0 .name)) (n .2) n-inside
+            ap (λ (l : List FrameRecord). younger l x) (E .frames)
+            ∙ ended-link fs free own (inside r g lives) u₀ (up k p named) (q-some k p named) (q-inside k p named) (q-apart k p named) (r .at (n .0 .name)) (n .2) n-inside
             (named-once (K .children (h k p named .0) (h k p named .1) .1) own) x d
 
         child-after : (u x : ℕ) → x ≢ own → liveChild es u x ≡ liveChild fs u x
@@ -221,13 +225,14 @@ module _ {P : Trees} {M : Machine} {c : Core} (r : Relates P M c) (tree : FrameT
             both-same false = refl
 
         -- with another live child its parent has more than one
-        more : (x : ℕ) → x < places → x ≢ own → liveChild fs u₀ x ≡ true → onlyChild fs own ≡ false
+        more : (x : ℕ) → x < length fs → x ≢ own → liveChild fs u₀ x ≡ true → onlyChild fs own ≡ false
         more x b d t =
             ne-eqb (frameAt fs (frameAt fs own .parent) .outstanding) 1
             (λ e. d (one-child fs u₀ (sym (counted (h k p named .0) (h k p named .1)) ∙ ap (λ (y : ℕ). frameAt fs y .outstanding) (sym (up k p named)) ∙ e) own x (inside r g lives) b (own-child k p named) t))
 
         pub removed : ChildRemoved fs es u₀ own
         removed = record {
+          same-length = same-length;
           within = inside r g lives;
           gone = gone u₀;
           others = λ x b d. child-after u₀ x d;
@@ -235,7 +240,7 @@ module _ {P : Trees} {M : Machine} {c : Core} (r : Relates P M c) (tree : FrameT
         }
 
         pub children-others : (u : ℕ) {cs : List ℕ} → u ≢ u₀ → Children fs u cs → Children es u cs
-        children-others u d C = children-same (λ x b. (
+        children-others u d C = children-same same-length (λ x b. (
           elim (ℕ-discrete x own) [
             | yes e ↦ ap (liveChild es u) e ∙ gone u ∙ sym (ap (liveChild fs u) e ∙ not-own)
             | no e ↦ child-after u x e

@@ -4,7 +4,9 @@ use mathlib.Core.Bool.{_&&_}
 use mathlib.Core.List.{List·Memᴰ as In}
 use mathlib.Core.List.{List}
 use Prim.Native.Nat.{ℕ}
+use lib.ListN.{length}
 use lib.Dec.{eqb}
+use Rattle.frames.specs.declared.Frame.{Frame as FrameRecord}
 use Rattle.frames.specs.Frames.{frameAt}
 use Rattle.frames.specs.Siblings.{younger, Children}
 use Rattle.frames.specs.Theory.Relinked.{children-same}
@@ -16,11 +18,11 @@ use Rattle.semantics.specs.Theory.Relation.{Trees, Relates, Links, Total
 abbrev pub NamedIn : List Frame → List Frame → Type 0
 NamedIn L L′ = (f : Frame) → In f L′ → (g : Frame) × In g L × (g .name ≡ f .name)
 
--- no record's live, parent or younger word differs
-module _ (fs gs : List ℕ) (same-live : (p : ℕ) → frameAt gs p .live ≡ frameAt fs p .live) (same-parent : (p : ℕ) → frameAt gs p .parent ≡ frameAt fs p .parent)
+-- tables of one length, and no record's live, parent or younger word differs
+module _ (fs gs : List FrameRecord) (same-length : length gs ≡ length fs) (same-live : (p : ℕ) → frameAt gs p .live ≡ frameAt fs p .live) (same-parent : (p : ℕ) → frameAt gs p .parent ≡ frameAt fs p .parent)
     (same-link : (p : ℕ) → younger gs p ≡ younger fs p) where
   pub children-kept : {q : ℕ} {cs : List ℕ} → Children fs q cs → Children gs q cs
-  children-kept {q} {cs} C = children-same (λ p b. (ap₂ (λ (x y : ℕ). eqb x 1 && eqb y q) (same-live p) (same-parent p), λ t. same-link p)) C
+  children-kept {q} {cs} C = children-same same-length (λ p b. (ap₂ (λ (x y : ℕ). eqb x 1 && eqb y q) (same-live p) (same-parent p), λ t. same-link p)) C
 
   pub links-kept : (at at′ : Name → ℕ) (L L′ : List Frame) → ((n : Name) → at′ n ≡ at n) → NamedIn L L′ → Links fs at L → Links gs at′ L′
   links-kept at at′ L L′ places from K = record {
@@ -34,11 +36,11 @@ module _ (fs gs : List ℕ) (same-live : (p : ℕ) → frameAt gs p .live ≡ fr
   }
 
 pub keeps-links : {P : Trees} {M M′ : Machine} {c c′ : Core} {r : Relates P M c} {r′ : Relates P M′ c′} → Keeps r r′ → Links (c .frames) (r .at) (live M) → Links (c′ .frames) (r′ .at) (live M′)
-keeps-links {M = M} {M′ = M′} {c = c} {c′ = c′} {r = r} {r′ = r′} K = links-kept (c .frames) (c′ .frames) (K .live) (K .parent) (K .link) (r .at) (r′ .at) (live M) (live M′) (K .places) (K .from)
+keeps-links {M = M} {M′ = M′} {c = c} {c′ = c′} {r = r} {r′ = r′} K = links-kept (c .frames) (c′ .frames) (K .same-length) (K .live) (K .parent) (K .link) (r .at) (r′ .at) (live M) (live M′) (K .places) (K .from)
 
 pub totals-kept : {ts : List ℕ} {L L′ : List Frame} → NamedIn L L′ → TotalsKept ts L → TotalsKept ts L′
 totals-kept n K = record { long = K .long; zero = λ f m e. K .zero (n f m .0) (n f m .1) (n f m .2 ∙ e) }
 
 -- nothing changes
 pub keeps-same : {P : Trees} {M : Machine} {c : Core} (r : Relates P M c) → Keeps r r
-keeps-same r = record { places = λ n. refl; live = λ p. refl; parent = λ p. refl; view = λ p. refl; link = λ p. refl; from = λ f m. (f, m, refl); to = λ f m. (f, m, refl); totals = refl }
+keeps-same r = record { same-length = refl; places = λ n. refl; live = λ p. refl; parent = λ p. refl; view = λ p. refl; link = λ p. refl; from = λ f m. (f, m, refl); to = λ f m. (f, m, refl); totals = refl }

@@ -7,14 +7,14 @@ use mathlib.Core.List.{List, [], _∷_, _++_, cons≢nil}
 use Prim.Native.Nat.{ℕ, _<_}
 use native.Mathlib.Omega.{arith}
 use native.Mathlib.Decide.{ℕ-discrete}
+use lib.ListN.{length}
 use borrow.Author.Tests.{eq-eqb, ne-eqb}
 use lib.Dec.{eqb}
 use Rattle.words.specs.Basics.{none, same}
 use Rattle.words.specs.Counting.{miss, sum-zero}
 use Rattle.words.specs.Tests.{decided, true≢false}
 use Rattle.words.specs.Distinct.{same-eq, same-ne}
-use Rattle.frames.specs.Widths.{places}
-use Rattle.frames.specs.declared.Frame.{Frame as FrameWords}
+use Rattle.frames.specs.declared.Frame.{Frame as FrameRecord}
 use Rattle.frames.specs.Frames.{frameAt, withYounger}
 use Rattle.frames.specs.Frames.{afterSpawn as continued}
 use Rattle.frames.specs.Siblings.{liveChild, younger, names, Children}
@@ -41,17 +41,17 @@ module _ {P : Trees} {M M′ : Machine} {c c′ : Core} (r : Relates P M c) (r�
   abbrev g : ℕ
   g = c .head .numbers .«free_place»
 
-  abbrev fs : List ℕ
+  abbrev fs : List FrameRecord
   fs = c .frames
 
-  abbrev linked : List ℕ
+  abbrev linked : List FrameRecord
   linked = linkChild fs p g
 
-  abbrev es : List ℕ
+  abbrev es : List FrameRecord
   es = c′ .frames
 
   alike : Alike fs linked
-  alike = link-alike fs p g (r .formed .long)
+  alike = link-alike fs p g
 
   p-lives : frameAt fs p .live ≡ 1
   p-lives = alive r q (S .bottom-lives)
@@ -62,17 +62,17 @@ module _ {P : Trees} {M M′ : Machine} {c c′ : Core} (r : Relates P M c) (r�
   -- ---- the records
 
   -- a part that a spawn leaves in its parent's record
-  part-kept : {A : Type 0} (part : FrameWords → A) → ((f : FrameWords) → part (continued f) ≡ part f) → (x : ℕ) → x ≢ g → part (frameAt es x) ≡ part (frameAt linked x)
+  part-kept : {A : Type 0} (part : FrameRecord → A) → ((f : FrameRecord) → part (continued f) ≡ part f) → (x : ℕ) → x ≢ g → part (frameAt es x) ≡ part (frameAt linked x)
   part-kept part h x d = elim (ℕ-discrete x p) [
     | yes e ↦ ap (λ (y : ℕ). part (frameAt es y)) e ∙ ap part (S .own) ∙ h (frameAt linked p) ∙ ap (λ (y : ℕ). part (frameAt linked y)) (sym e)
     | no e ↦ ap part (S .others x d e)
   ]
 
   pub live-kept : (x : ℕ) → x ≢ g → frameAt es x .live ≡ frameAt fs x .live
-  live-kept x d = part-kept (λ (f : FrameWords). f .live) (λ f. refl) x d ∙ alike .same x .live
+  live-kept x d = part-kept (λ (f : FrameRecord). f .live) (λ f. refl) x d ∙ alike .same x .live
 
   pub parent-kept : (x : ℕ) → x ≢ g → frameAt es x .parent ≡ frameAt fs x .parent
-  parent-kept x d = part-kept (λ (f : FrameWords). f .parent) (λ f. refl) x d ∙ alike .same x .parent
+  parent-kept x d = part-kept (λ (f : FrameRecord). f .parent) (λ f. refl) x d ∙ alike .same x .parent
 
   pub child-kept : (u x : ℕ) → x ≢ g → liveChild es u x ≡ liveChild fs u x
   child-kept u x d = ap₂ (λ (a b : ℕ). eqb a 1 && eqb b u) (live-kept x d) (parent-kept x d)
@@ -82,46 +82,47 @@ module _ {P : Trees} {M M′ : Machine} {c c′ : Core} (r : Relates P M c) (r�
   free-childless u = rw (ne-eqb (frameAt fs g .live) 1 (λ z. omega (arith, z, S .vacant)))
 
   new-live : frameAt es g .live ≡ 1
-  new-live = ap (λ (f : FrameWords). f .live) (S .new)
+  new-live = ap (λ (f : FrameRecord). f .live) (S .new)
 
   new-parent : frameAt es g .parent ≡ p
-  new-parent = ap (λ (f : FrameWords). f .parent) (S .new)
+  new-parent = ap (λ (f : FrameRecord). f .parent) (S .new)
 
   -- ---- the links
 
   -- what a relink makes of a link
-  picks : (t : Bool) (f : FrameWords) → (cond t (withYounger f g) f) .younger ≡ cond t g (f .younger)
+  picks : (t : Bool) (f : FrameRecord) → (cond t (withYounger f g) f) .younger ≡ cond t g (f .younger)
   picks true f = refl
   picks false f = refl
 
   linked-other : (x : ℕ) → liveChild fs p x ≡ false → younger linked x ≡ younger fs x
   linked-other x n = elim (decided (eqb (frameAt fs p .outstanding) 0)) [
     | inl e ↦ rw e
-    | inr e ↦ rw e (ap (λ (f : FrameWords). f .younger) (relink-none fs p none g x (rw n)))
+    | inr e ↦ rw e (ap (λ (f : FrameRecord). f .younger) (relink-none fs p none g x (rw n)))
   ]
 
-  linked-child : {cs : List ℕ} → Children fs p cs → (x : ℕ) → x < places → liveChild fs p x ≡ true → younger linked x ≡ cond (eqb (younger fs x) none) g (younger fs x)
+  linked-child : {cs : List ℕ} → Children fs p cs → (x : ℕ) → x < length fs → liveChild fs p x ≡ true → younger linked x ≡ cond (eqb (younger fs x) none) g (younger fs x)
   linked-child C x b t =
       rw (ne-eqb (frameAt fs p .outstanding) 0 (λ z. no-child fs p (sym (outstanding r tree p (inside r q (S .bottom-lives)) p-lives) ∙ z) x b t))
-      (ap (λ (f : FrameWords). f .younger) (relink-record fs p none g (r .formed .long) (named-once C none) x) ∙ picks (names fs p none x) (frameAt fs x) ∙ rw t)
+      (ap (λ (f : FrameRecord). f .younger) (relink-record fs p none g (named-once C none) x) ∙ picks (names fs p none x) (frameAt fs x) ∙ rw t)
 
   pub link-kept : (x : ℕ) → x ≢ g → liveChild fs p x ≡ false → younger es x ≡ younger fs x
-  link-kept x d n = part-kept (λ (f : FrameWords). f .younger) (λ f. refl) x d ∙ linked-other x n
+  link-kept x d n = part-kept (λ (f : FrameRecord). f .younger) (λ f. refl) x d ∙ linked-other x n
 
   pub added : {cs : List ℕ} → Children fs p cs → ChildAdded fs es p g
   added C = record {
+    same-length = S .same-length;
     within = S .inside;
     new = free-childless p;
     child = rw (eq-eqb (frameAt es g .live) 1 new-live, eq-eqb (frameAt es g .parent) p new-parent);
-    last = ap (λ (f : FrameWords). f .younger) (S .new);
+    last = ap (λ (f : FrameRecord). f .younger) (S .new);
     others = λ x b d. child-kept p x d;
-    links = λ x b d t. part-kept (λ (f : FrameWords). f .younger) (λ f. refl) x d ∙ linked-child C x b t;
+    links = λ x b d t. part-kept (λ (f : FrameRecord). f .younger) (λ f. refl) x d ∙ linked-child C x b t;
   }
 
   -- ---- another frame's children: it stands at u
 
   pub children-kept : (u : ℕ) {cs : List ℕ} → u ≢ p → Children fs u cs → Children es u cs
-  children-kept u d C = children-same (λ x b. (
+  children-kept u d C = children-same (S .same-length) (λ x b. (
     elim (ℕ-discrete x g) [
       | yes e ↦ ap (liveChild es u) e ∙ rw (ne-eqb (frameAt es g .parent) u (λ z. d (sym (sym new-parent ∙ z)))) (and-false (eqb (frameAt es g .live) 1)) ∙ sym (ap (liveChild fs u) e ∙ free-childless u)
       | no e ↦ child-kept u x e
@@ -141,7 +142,7 @@ module _ {P : Trees} {M M′ : Machine} {c c′ : Core} (r : Relates P M c) (r�
 
   -- ---- the child has no child
 
-  no-parent : (x : ℕ) → x < places → frameAt fs x .live ≡ 1 → frameAt fs x .parent ≡ g → ⊥
+  no-parent : (x : ℕ) → x < length fs → frameAt fs x .live ≡ 1 → frameAt fs x .parent ≡ g → ⊥
   no-parent x b l e = by-name (f .0 .name) refl
     where
       f : (h : Frame) × In h (live M) × (r .at (h .name) ≡ x)
@@ -151,15 +152,15 @@ module _ {P : Trees} {M M′ : Machine} {c c′ : Core} (r : Relates P M c) (r�
       is = sym e ∙ ap (λ (y : ℕ). frameAt fs y .parent) (sym (f .2)) ∙ parent-is r (f .0) (f .1)
 
       by-name : (n : Name) → f .0 .name ≡ n → ⊥
-      by-name [] z = omega (arith, S .inside, is ∙ ap (parentPlace (r .at)) z)
+      by-name [] z = omega (arith, S .inside, r .formed .few, is ∙ ap (parentPlace (r .at)) z)
       by-name (k ∷ n) z =
           let h = tree .rooted (f .0) (f .1) k n z in
           omega (arith, S .vacant, alive r (h .0) (h .1), ap (λ (y : ℕ). frameAt fs y .live) (is ∙ ap (parentPlace (r .at)) z ∙ ap (r .at) (sym (h .2))))
 
   pub new-childless : Children es g []
-  new-childless = children-empty es g (sum-zero places (λ x. cond (liveChild es g x) 1 0) (λ x b. miss (none-there x b)))
+  new-childless = children-empty es g (omega (arith, S .same-length, r .formed .few)) (sum-zero (length es) (λ x. cond (liveChild es g x) 1 0) (λ x b. miss (none-there x (omega (arith, S .same-length, b)))))
     where
-      none-there : (x : ℕ) → x < places → liveChild es g x ≡ false
+      none-there : (x : ℕ) → x < length fs → liveChild es g x ≡ false
       none-there x b = elim (decided (liveChild es g x)) [
         | inr s ↦ s
         | inl s ↦ elim (ℕ-discrete x g) [

@@ -9,7 +9,7 @@ use lib.ListN.{length}
 use Rattle.words.specs.Basics.{same}
 use Rattle.words.specs.Tests.{decided}
 use Rattle.words.specs.Distinct.{same-eq, same-ne}
-use Rattle.frames.specs.Widths.{places}
+use Rattle.frames.specs.declared.Frame.{Frame as FrameRecord}
 use Rattle.frames.specs.Frames.{frameAt}
 use Rattle.frames.specs.Siblings.{Children, firstFrom, nextAfter}
 use Rattle.frames.specs.Theory.Siblings.{liveChildren, children-length}
@@ -32,7 +32,7 @@ module _ {P : Trees} {M : Machine} {c : Core} (r : Relates P M c) (tree : FrameT
   abbrev ns : List Name
   ns = viewNames (W .views)
 
-  abbrev fs : List ℕ
+  abbrev fs : List FrameRecord
   fs = c .frames
 
   -- ---- of a name that has a view
@@ -92,4 +92,4 @@ module _ {P : Trees} {M : Machine} {c : Core} (r : Relates P M c) (tree : FrameT
       by-sibling (y ∷ js) d =
           let E = subst (λ (l : List Name). EldestBelow l y m) (sym e) (next-eldest xs ys (k ∷ p) m k p refl o y js d) in
           after-elder (map (r .at) (childrenOf p xs)) (r .at (k ∷ p)) (r .at y) (map (r .at) js) (chain (y ∷ js) d) (outstanding-of p there-p)
-          ∙ down y m E there-m places y (under-same y) (E .under) (omega (arith, live-depth (live M) ns (H .ordered) m there-m, live-few r))
+          ∙ down y m E there-m (length fs) y (under-same y) (E .under) (omega (arith, live-depth (live M) ns (H .ordered) m there-m, live-few r))

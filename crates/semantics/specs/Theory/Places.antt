@@ -17,8 +17,7 @@ use Rattle.words.specs.Tests.{decided, true≢false}
 use Rattle.words.specs.NoDup.{NoDup, length-le}
 use Rattle.words.specs.Counting.{δ, δ-same, δ-other, count, count-nil, count-cons, sum-cong, sum-add, sum-zero, sum-one, sum-const, miss, hit-le}
 use Rattle.sizes.specs.Sizes.{treeNodes}
-use Rattle.frames.specs.Widths.{places}
-use Rattle.frames.specs.declared.Frame.{Frame as FrameWords}
+use Rattle.frames.specs.declared.Frame.{Frame as FrameRecord}
 use Rattle.frames.specs.Frames.{frameAt}
 use Rattle.frames.specs.Deques.{bottom, dequeList}
 use Rattle.frames.specs.Theory.Lists.{list-head}
@@ -63,9 +62,9 @@ in-deque (d ∷ ds) (suc v) m = In-right d (in-deque ds v m)
 
 -- ---- one live frame to a place
 
--- "each place is free or some live frame's, and only one's"
-abbrev pub PlacedOnce : (Name → ℕ) → List ℕ → List Frame → Type 0
-PlacedOnce at gs L = (p : ℕ) → p < places → count p gs + count p (placesOf at L) ≡ 1
+-- each of the n places is free or some live frame's, and only one's
+abbrev pub PlacedOnce : ℕ → (Name → ℕ) → List ℕ → List Frame → Type 0
+PlacedOnce n at gs L = (p : ℕ) → p < n → count p gs + count p (placesOf at L) ≡ 1
 
 pub not-head : (p g : ℕ) (gs : List ℕ) → count p (g ∷ gs) ≡ 0 → p ≢ g
 not-head p g gs o e = omega (arith, count-cons p g gs, ap (δ p) e, δ-same p)
@@ -125,16 +124,16 @@ module _ (N : ℕ) (gs ps : List ℕ) (once : (p : ℕ) → p < N → count p gs
   at-most : ((x : ℕ) → In x ps → x < N) → length ps ≤ N
   at-most h = omega (arith, all-once, sum-count N ps h)
 
-module _ (at : Name → ℕ) (gs : List ℕ) (L : List Frame) (once : PlacedOnce at gs L) where
-  pub frames-le : ((f : Frame) → In f L → at (f .name) < places) → length L ≤ places
-  frames-le h = omega (arith, length-map L (λ (f : Frame). at (f .name)), at-most places gs (placesOf at L) once (λ x m. inside x (In-unmap (λ (f : Frame). at (f .name)) L m)))
+module _ (n : ℕ) (at : Name → ℕ) (gs : List ℕ) (L : List Frame) (once : PlacedOnce n at gs L) where
+  pub frames-le : ((f : Frame) → In f L → at (f .name) < n) → length L ≤ n
+  frames-le h = omega (arith, length-map L (λ (f : Frame). at (f .name)), at-most n gs (placesOf at L) once (λ x m. inside x (In-unmap (λ (f : Frame). at (f .name)) L m)))
     where
-      inside : (x : ℕ) → (f : Frame) × In f L × (at (f .name) ≡ x) → x < places
+      inside : (x : ℕ) → (f : Frame) × In f L × (at (f .name) ≡ x) → x < n
       inside x u = omega (arith, h (u .0) (u .1), u .2)
 
   -- with fewer a place is free
-  pub place-left : length L < places → 0 < length gs
-  place-left h = omega (arith, length-map L (λ (f : Frame). at (f .name)), at-least places gs (placesOf at L) once)
+  pub place-left : length L < n → 0 < length gs
+  place-left h = omega (arith, length-map L (λ (f : Frame). at (f .name)), at-least n gs (placesOf at L) once)
 
 -- ---- children
 
@@ -216,26 +215,26 @@ module _ (t : Frame → Bool) where
 -- ---- records
 
 -- the frame's place and its record there
-pub recorded-as : (fs : List ℕ) (at : Name → ℕ) (L : List Frame) (s : ℕ) (f : Frame) (p : ℕ) (F : FrameWords) → at (f .name) ≡ p → frameAt fs p ≡ F → p < places
+pub recorded-as : (fs : List FrameRecord) (at : Name → ℕ) (L : List Frame) (s : ℕ) (f : Frame) (p : ℕ) (F : FrameRecord) → at (f .name) ≡ p → frameAt fs p ≡ F → p < length fs
     → F .live ≡ 1 → F .parent ≡ parentPlace at (f .name) → F .depth ≡ length (f .name) → F .outstanding ≡ childCount (f .name) L → F .suspended ≡ s → F .returning ≡ bit (f .returning) → Recorded fs at L s f
 recorded-as fs at L s f p F ep eF b h₁ h₂ h₃ h₄ h₅ h₆ =
     let e : frameAt fs (at (f .name)) ≡ F = ap (frameAt fs) ep ∙ eF in
     record {
-      inside = subst (λ (x : ℕ). x < places) (sym ep) b;
-      live = ap (λ (G : FrameWords). G .live) e ∙ h₁;
-      parent = ap (λ (G : FrameWords). G .parent) e ∙ h₂;
-      depth = ap (λ (G : FrameWords). G .depth) e ∙ h₃;
-      outstanding = ap (λ (G : FrameWords). G .outstanding) e ∙ h₄;
-      suspended = ap (λ (G : FrameWords). G .suspended) e ∙ h₅;
-      returning = ap (λ (G : FrameWords). G .returning) e ∙ h₆;
+      inside = subst (λ (x : ℕ). x < length fs) (sym ep) b;
+      live = ap (λ (G : FrameRecord). G .live) e ∙ h₁;
+      parent = ap (λ (G : FrameRecord). G .parent) e ∙ h₂;
+      depth = ap (λ (G : FrameRecord). G .depth) e ∙ h₃;
+      outstanding = ap (λ (G : FrameRecord). G .outstanding) e ∙ h₄;
+      suspended = ap (λ (G : FrameRecord). G .suspended) e ∙ h₅;
+      returning = ap (λ (G : FrameRecord). G .returning) e ∙ h₆;
     }
 
 -- it stays where it was, as it was
-pub recorded-kept : (fs fs′ : List ℕ) (at at′ : Name → ℕ) (L L′ : List Frame) (s : ℕ) (f : Frame) → at′ (f .name) ≡ at (f .name)
+pub recorded-kept : (fs fs′ : List FrameRecord) (at at′ : Name → ℕ) (L L′ : List Frame) (s : ℕ) (f : Frame) → length fs′ ≡ length fs → at′ (f .name) ≡ at (f .name)
     → frameAt fs′ (at (f .name)) ≡ frameAt fs (at (f .name)) → parentPlace at′ (f .name) ≡ parentPlace at (f .name) → childCount (f .name) L′ ≡ childCount (f .name) L
     → Recorded fs at L s f → Recorded fs′ at′ L′ s f
-recorded-kept fs fs′ at at′ L L′ s f ea eF ep ec R =
-    recorded-as fs′ at′ L′ s f (at (f .name)) (frameAt fs (at (f .name))) ea eF (R .inside) (R .live) (R .parent ∙ sym ep) (R .depth) (R .outstanding ∙ sym ec) (R .suspended) (R .returning)
+recorded-kept fs fs′ at at′ L L′ s f el ea eF ep ec R =
+    recorded-as fs′ at′ L′ s f (at (f .name)) (frameAt fs (at (f .name))) ea eF (omega (arith, el, R .inside)) (R .live) (R .parent ∙ sym ep) (R .depth) (R .outstanding ∙ sym ec) (R .suspended) (R .returning)
 
 -- ---- a live frame's place
 
@@ -244,7 +243,7 @@ module _ {P : Trees} {M : Machine} {c : Core} (r : Relates P M c) where
   pub recorded : (f : Frame) → In f (live M) → (s : ℕ) × Recorded (c .frames) (r .at) (live M) s f
   recorded f m = elim (In-cases (M .suspended) m) [ inl i ↦ (1, r .waiting f i) | inr i ↦ (0, r .running f i) ]
 
-  pub placed-inside : (f : Frame) → In f (live M) → r .at (f .name) < places
+  pub placed-inside : (f : Frame) → In f (live M) → r .at (f .name) < length (c .frames)
   placed-inside f m = recorded f m .1 .inside
 
   -- it is not free
@@ -255,21 +254,22 @@ module _ {P : Trees} {M : Machine} {c : Core} (r : Relates P M c) where
   pub placed-apart : (f g : Frame) → In f (live M) → In g (live M) → f .name ≢ g .name → r .at (f .name) ≢ r .at (g .name)
   placed-apart f g mf mg ne z = omega (arith, r .once (r .at (f .name)) (placed-inside f mf), count-two (r .at) f g (live M) mf mg ne z)
 
-  -- "At most 64 live frames."
-  pub live-few : length (live M) ≤ places
-  live-few = frames-le (r .at) (r .gs) (live M) (r .once) placed-inside
+  -- no more frames live than there are places
+  pub live-few : length (live M) ≤ length (c .frames)
+  live-few = frames-le (length (c .frames)) (r .at) (r .gs) (live M) (r .once) placed-inside
 
 -- ---- trees and numbers
 
 -- the frame's root with its history
-abbrev pub treeOf : List ℕ → (Name → ℕ) → Frame → ℕ × History
+abbrev pub treeOf : List FrameRecord → (Name → ℕ) → Frame → ℕ × History
 treeOf fs at f = (rootOf fs at f, f .history)
 
--- a deque is another; the core's numbers but the first free place and node and the free nodes' number are the same
+-- a deque is another; the core's numbers but the first free place and node and the free nodes' number are the same, and the table's length is
 pub same-numbers : (M : Machine) (c : Core) (c′ : Core) (ds : List (List Frame)) (ss : List Frame) → length ds ≡ length (M .deques) → SameNumbers M c
     → c′ .head .numbers .workers ≡ c .head .numbers .workers → c′ .head .numbers .splitters ≡ c .head .numbers .splitters → c′ .head .height ≡ c .head .height → c′ .head .numbers .nodes ≡ c .head .numbers .nodes
-    → SameNumbers (record { splitters = M .splitters; nodes = M .nodes; deques = ds; suspended = ss }) c′
-same-numbers M c c′ ds ss e n e₁ e₂ e₃ e₄ = record {
+    → c′ .head .numbers .places ≡ c .head .numbers .places → length (c′ .frames) ≡ length (c .frames)
+    → SameNumbers (record { splitters = M .splitters; nodes = M .nodes; places = M .places; deques = ds; suspended = ss }) c′
+same-numbers M c c′ ds ss e n e₁ e₂ e₃ e₄ e₅ e₆ = record {
   workers = e₁ ∙ n .workers ∙ sym e;
   workers-positive = omega (arith, n .workers-positive, e);
   workers-le = omega (arith, n .workers-le, e);
@@ -279,6 +279,9 @@ same-numbers M c c′ ds ss e n e₁ e₂ e₃ e₄ = record {
   height-is = e₃ ∙ n .height-is;
   enough = subst (λ (x : ℕ). treeNodes (M .splitters) ≤ x) (sym e₄) (n .enough);
   nodes-le = subst (λ (x : ℕ). x ≤ 16384) (sym e₄) (n .nodes-le);
+  places = e₅ ∙ n .places;
+  places-positive = n .places-positive;
+  table = n .table ∙ sym e₆;
 }
 
 -- ---- the acting frame: q is the bottom of worker w's deque, d are the frames above it

@@ -14,7 +14,7 @@ use Rattle.pool.specs.Theory.Operations.{Live, Spawned, Returned, live-perm, li
 use Rattle.pool.specs.Theory.Write.{Written, live-write}
 use Rattle.pool.specs.Theory.Sharing.{Frame, rootsOf, root-of}
 use Rattle.pool.specs.Theory.Good.{Good, count-roots, good-perm, good-spawn, good-return, good-write}
-use Rattle.frames.specs.Widths.{places}
+use Rattle.frames.specs.Widths.{maxPlaces}
 use Rattle.model.specs.History.{History}
 use Rattle.semantics.specs.Theory.Relation.{Trees, TreeLaws, event}
 
@@ -50,7 +50,7 @@ module _ (N n : ℕ) (most : N ≤ 16384) (some : 0 < n) where
 
   -- ---- the operations on a live pool
 
-  spawned : (ws : List ℕ) (free k : ℕ) (F : Frame) (Fs : List Frame) → length Fs < places → (T : LiveTrees N n ws free k (F ∷ Fs))
+  spawned : (ws : List ℕ) (free k : ℕ) (F : Frame) (Fs : List Frame) → length Fs < maxPlaces → (T : LiveTrees N n ws free k (F ∷ Fs))
       → Spawned N (height n) n (T .level) (T .size) ws free (T .fs) (rootsOf (F ∷ Fs)) (F .0) (retain ws (F .0))
   spawned ws free k F Fs few T =
       live-spawn N (height n) n small (height-covers n) (T .live) (omega (arith, length-map (F ∷ Fs) (λ (K : Frame). K .0))) (F .0) (root-of F (F ∷ Fs) (here refl))
@@ -59,7 +59,7 @@ module _ (N n : ℕ) (most : N ≤ 16384) (some : 0 < n) where
       → Returned N (height n) n (T .level) (T .size) ws (rootsOf Fs) (release (height n) ws free k (F .0))
   returned ws free k F Fs T = live-return N (height n) n small (height-covers n) k (F .0) (rootsOf Fs) (T .counted) (T .live)
 
-  writeOn : (ws : List ℕ) (free k root : ℕ) (h : History) (Fs : List Frame) (x v : ℕ) → length Fs < places → x < n → rest (height n) ws root x ≤ k → (T : LiveTrees N n ws free k ((root, h) ∷ Fs))
+  writeOn : (ws : List ℕ) (free k root : ℕ) (h : History) (Fs : List Frame) (x v : ℕ) → length Fs < maxPlaces → x < n → rest (height n) ws root x ≤ k → (T : LiveTrees N n ws free k ((root, h) ∷ Fs))
       → Written N (height n) n (T .level) (T .size) ws (rootsOf Fs) root x v (write (height n) ws free k root x v) × (write (height n) ws free k root x v .2 + rest (height n) ws root x ≡ k)
   writeOn ws free k root h Fs x v few bx enough T =
       live-write N (height n) n small (height-covers n) (T .level) (T .size) ws free k (T .fs) (rootsOf Fs) root x v (T .live) bx (T .counted) enough
@@ -101,17 +101,17 @@ module _ (N n : ℕ) (most : N ≤ 16384) (some : 0 < n) where
 
   -- ---- what they leave
 
-  pub spawn-beyond : (ws : List ℕ) (free k : ℕ) (F : Frame) (Fs : List Frame) → length Fs < places → LiveTrees N n ws free k (F ∷ Fs) → Beyond N ws (retain ws (F .0))
+  pub spawn-beyond : (ws : List ℕ) (free k : ℕ) (F : Frame) (Fs : List Frame) → length Fs < maxPlaces → LiveTrees N n ws free k (F ∷ Fs) → Beyond N ws (retain ws (F .0))
   spawn-beyond ws free k F Fs few T = (let S = spawned ws free k F Fs few T in (S .len, S .rest))
 
   pub return-beyond : (ws : List ℕ) (free k : ℕ) (F : Frame) (Fs : List Frame) → LiveTrees N n ws free k (F ∷ Fs) → Beyond N ws (release (height n) ws free k (F .0) .0)
   return-beyond ws free k F Fs T = (let R = returned ws free k F Fs T in (R .len, R .rest))
 
-  pub write-beyond : (ws : List ℕ) (free k root : ℕ) (h : History) (Fs : List Frame) (x v : ℕ) → length Fs < places → x < n → rest (height n) ws root x ≤ k → LiveTrees N n ws free k ((root, h) ∷ Fs)
+  pub write-beyond : (ws : List ℕ) (free k root : ℕ) (h : History) (Fs : List Frame) (x v : ℕ) → length Fs < maxPlaces → x < n → rest (height n) ws root x ≤ k → LiveTrees N n ws free k ((root, h) ∷ Fs)
       → Beyond N ws (write (height n) ws free k root x v .0)
   write-beyond ws free k root h Fs x v few bx enough T = (let W = writeOn ws free k root h Fs x v few bx enough T .0 in (W .len, W .beyond))
 
   -- a write takes as many nodes as the rest of its path has
-  pub write-takes : (ws : List ℕ) (free k root : ℕ) (h : History) (Fs : List Frame) (x v : ℕ) → length Fs < places → x < n → rest (height n) ws root x ≤ k → LiveTrees N n ws free k ((root, h) ∷ Fs)
+  pub write-takes : (ws : List ℕ) (free k root : ℕ) (h : History) (Fs : List Frame) (x v : ℕ) → length Fs < maxPlaces → x < n → rest (height n) ws root x ≤ k → LiveTrees N n ws free k ((root, h) ∷ Fs)
       → write (height n) ws free k root x v .2 + rest (height n) ws root x ≡ k
   write-takes ws free k root h Fs x v few bx enough T = writeOn ws free k root h Fs x v few bx enough T .1

@@ -21,7 +21,8 @@ use Rattle.pool.specs.Links.{PathIn, WriteIn}
 use Rattle.pool.specs.Theory.Operations.{Live}
 use Rattle.pool.specs.Theory.Soundness.{linkLevel, linkSize, sound-live}
 use Rattle.pool.specs.Theory.LiveLinks.{live-links, live-free, live-path, live-writes}
-use Rattle.frames.specs.Widths.{places, dequePlaces}
+use Rattle.frames.specs.declared.Frame.{Frame as FrameRecord}
+use Rattle.frames.specs.Widths.{maxPlaces, dequePlaces}
 use Rattle.frames.specs.Frames.{frameAt}
 use Rattle.frames.specs.Deques.{size, place, bottom, dequeList}
 use Rattle.frames.specs.Ranges.{ParentOf, ParentCounts}
@@ -29,10 +30,9 @@ use Rattle.frames.specs.Theory.Lists.{list-length}
 use Rattle.frames.specs.Theory.Places.{nextFree}
 use Rattle.soundness.specs.Soundness.{lives, isChild, rootsBelow, liveRoots, freeNodes}
 use Rattle.semantics.specs.Core.{Core, actingIn, popped, endAt}
-use Rattle.semantics.specs.Entries.{numbersOf, stateOf}
 use Rattle.soundness.specs.Theory.FreeLists.{once-short}
 use Rattle.soundness.specs.Theory.Facts.{Lives, FramesFacts, SoundFacts}
-use Rattle.soundness.specs.Theory.Sentences.{sound-facts}
+use Rattle.soundness.specs.Theory.Sentences.{few-places, sound-facts}
 use Rattle.soundness.specs.Theory.PoolSentences.{pool-fact}
 use Rattle.semantics.specs.Theory.FromSoundPlaces.{count-In, below-of, roots-below, deque-live}
 use Rattle.semantics.specs.SoundMachine.{machineOf}
@@ -54,16 +54,16 @@ tree-positive n p = omega (arith, sum-ge (suc (height n)) 0 (width n) (omega ari
 counted : (n p : ℕ) (f : ℕ → Bool) {k : ℕ} → p < n → f p ≡ true → k ≡ howMany n f → 0 < k
 counted n p f b t e = omega (arith, e, sum-ge n p (λ d. cond (f d) 1 0) b, hit t)
 
-module _ {workers first : ℕ} {ds fs : List ℕ} (F : FramesFacts workers first ds fs) (few : workers ≤ 8) where
+module _ {workers first : ℕ} {ds : List ℕ} {fs : List FrameRecord} (F : FramesFacts workers first ds fs) (few : workers ≤ 8) (most : length fs ≤ maxPlaces) where
   -- a frame stands at most once in a deque, and only if it lives
-  deque-once : (w : ℕ) → w < 8 → (p : ℕ) → p < places → count p (dequeList ds w) ≤ 1
+  deque-once : (w : ℕ) → w < 8 → (p : ℕ) → p < length fs → count p (dequeList ds w) ≤ 1
   deque-once w b p h = elim (ℕ-discrete (frameAt fs p .live) 1) [
     | yes l ↦ (let g = sum-ge 8 w (λ v. count p (dequeList ds v)) b in elim (F .placed p h l) [ inl r ↦ omega (arith, g, r .0) | inr r ↦ omega (arith, g, r .0) ])
     | no l ↦ elim (ℕ-discrete (count p (dequeList ds w)) 0) [ yes z ↦ omega arith | no z ↦ absurd (l (deque-live F few w p b (count-In p (dequeList ds w) (omega arith)) .1)) ]
   ]
 
   -- the first free place is in no deque
-  first-out : first < places → (w : ℕ) → w < 8 → count first (dequeList ds w) ≡ 0
+  first-out : first < length fs → (w : ℕ) → w < 8 → count first (dequeList ds w) ≡ 0
   first-out h w b = elim (ℕ-discrete (count first (dequeList ds w)) 0) [
     | yes z ↦ z
     | no z ↦ (let l = deque-live F few w first b (count-In first (dequeList ds w) (omega arith)) .1 in elim (F .places .each first h) [
@@ -72,23 +72,23 @@ module _ {workers first : ℕ} {ds fs : List ℕ} (F : FramesFacts workers first
     ])
   ]
     where
-      listed : (gs : List ℕ) → Chain (nextFree fs) places first gs → count first gs ≡ 0 → ⊥
-      listed [] c o = omega (arith, c)
+      listed : (gs : List ℕ) → Chain (nextFree fs) (length fs) first gs → count first gs ≡ 0 → ⊥
+      listed [] c o = omega (arith, c, most)
       listed (g ∷ gs) c o = omega (arith, count-cons first g gs, ap (δ first) (c .0), δ-same first)
 
-  -- with it they are at most 64
-  deque-room : first < places → (w : ℕ) → w < 8 → size ds w < dequePlaces
+  -- with it they are at most as many as there are places
+  deque-room : first < length fs → (w : ℕ) → w < 8 → size ds w < dequePlaces
   deque-room h w b =
       let L = dequeList ds w in
-      let short = once-short (λ x. x) places (first ∷ L) (and-of (ltb-of h) (below-of places L (λ p m. deque-live F few w p b m .0)))
+      let short = once-short (λ x. x) (length fs) (first ∷ L) (and-of (ltb-of h) (below-of (length fs) L (λ p m. deque-live F few w p b m .0)))
       (λ p i. elim (ℕ-discrete p first) [
         | yes e ↦ omega (arith, count-cons p first L, ap (λ q. count q L) e, first-out h w b, δ-le p first)
         | no e ↦ omega (arith, count-cons p first L, δ-other p first e, deque-once w b p i)
       ]) in
-      omega (arith, short, list-length ds w)
+      omega (arith, short, most, list-length ds w)
 
   -- the bottom frame of a deque
-  bottom-lives : (w : ℕ) → w < 8 → 0 < size ds w → (bottom ds w < places) × Lives fs (bottom ds w)
+  bottom-lives : (w : ℕ) → w < 8 → 0 < size ds w → (bottom ds w < length fs) × Lives fs (bottom ds w)
   unfolding bottom
   bottom-lives w b h = F .hold-live w b (size ds w - 1) (omega arith)
 
@@ -99,32 +99,32 @@ module _ {workers first : ℕ} {ds fs : List ℕ} (F : FramesFacts workers first
       let k : ℕ = size ds w - 2 in
       let i : size ds w - 1 ≡ suc k = omega arith in
       let above : frameAt fs (place ds w (size ds w - 1)) .parent ≡ place ds w k = ap (λ (j : ℕ). frameAt fs (place ds w j) .parent) i ∙ F .child-of-above w b k (omega arith) in
-      let inside : place ds w k < places = F .hold-live w b k (omega arith) .0 in
-      omega (arith, e, above, inside)
+      let inside : place ds w k < length fs = F .hold-live w b k (omega arith) .0 in
+      omega (arith, e, above, inside, most)
 
-  live-parent : (p : ℕ) → p < places → Lives fs p → ParentOf p (frameAt fs p)
+  live-parent : (p : ℕ) → p < length fs → Lives fs p → ParentOf fs p (frameAt fs p)
   live-parent p b l = elim (ℕ-discrete (frameAt fs p .depth) 0) [
     | yes e ↦ elim (F .one-main) [ inl h ↦ absurd (h .0 p b l) | inr m ↦ inr (e, ap (λ q. frameAt fs q .parent) (m .only p b l e) ∙ m .orphan) ]
     | no e ↦ inl (omega arith, F .parents p b l e .0, λ q. omega (arith, F .parents p b l e .2, ap (λ z. frameAt fs z .depth) q))
   ]
 
   -- the parent of a live frame lives, and has it as a child
-  live-counts : (p : ℕ) → p < 64 → Lives fs p → ParentCounts fs (frameAt fs p)
+  live-counts : (p : ℕ) → p < length fs → Lives fs p → ParentCounts fs (frameAt fs p)
   live-counts p b l h = elim (ℕ-discrete (frameAt fs p .depth) 0) [
-    | yes e ↦ elim (F .one-main) [ inl n ↦ absurd (n .0 p b l) | inr m ↦ absurd (omega (arith, h, ap (λ q. frameAt fs q .parent) (m .only p b l e), m .orphan)) ]
+    | yes e ↦ elim (F .one-main) [ inl n ↦ absurd (n .0 p b l) | inr m ↦ absurd (omega (arith, h, most, ap (λ q. frameAt fs q .parent) (m .only p b l e), m .orphan)) ]
     | no e ↦ (let q = frameAt fs p .parent in
         let r = F .parents p b l e in
-        counted 64 p (isChild fs q) b (and-of (eq-eqb (frameAt fs p .live) 1 l) (eq-eqb q q refl)) (F .outstanding q (r .0) (r .1)))
+        counted (length fs) p (isChild fs q) b (and-of (eq-eqb (frameAt fs p .live) 1 l) (eq-eqb q q refl)) (F .outstanding q (r .0) (r .1)))
   ]
 
 -- a live frame's root is one of the roots
-root-counted : (fs : List ℕ) (c p : ℕ) → p < c → Lives fs p → 0 < count (frameAt fs p .root) (rootsBelow fs c)
+root-counted : (fs : List FrameRecord) (c p : ℕ) → p < c → Lives fs p → 0 < count (frameAt fs p .root) (rootsBelow fs c)
 root-counted fs c p b l =
     let i = frameAt fs p .root in
     let one : cond (lives fs p) (δ i (frameAt fs p .root)) 0 ≡ 1 = rw (eq-eqb (frameAt fs p .live) 1 l) (δ-same i) in
     omega (arith, roots-below i c fs, sum-ge c p (λ q. cond (lives fs q) (δ i (frameAt fs q .root)) 0) b, one)
 
-roots-few : (fs : List ℕ) (c : ℕ) → length (rootsBelow fs c) ≤ c
+roots-few : (fs : List FrameRecord) (c : ℕ) → length (rootsBelow fs c) ≤ c
 unfolding rootsBelow
 roots-few fs zero = omega arith
 roots-few fs (suc c) = omega (arith, length-append (rootsBelow fs c) (cond (lives fs c) (frameAt fs c .root ∷ []) []), one (lives fs c), roots-few fs c)
@@ -136,8 +136,11 @@ roots-few fs (suc c) = omega (arith, length-append (rootsBelow fs c) (cond (live
 -- ---- the whole
 
 module _ (c : Core) (K : Kept c) where
-  S : SoundFacts (numbersOf (stateOf c)) (c .totals) (c .deques) (c .frames) (c .pool)
-  S = sound-facts (numbersOf (stateOf c)) (c .totals) (c .deques) (c .frames) (c .pool) (K .is-sound)
+  S : SoundFacts (c .head .numbers) (c .totals) (c .deques) (c .frames) (c .pool)
+  S = sound-facts (c .head .numbers) (c .totals) (c .deques) (c .frames) (c .pool) (K .is-sound)
+
+  most-places : length (c .frames) ≤ maxPlaces
+  most-places = few-places (S .numbers)
 
   small : c .head .numbers .nodes ≤ none
   small = omega (arith, S .numbers .nodes-le)
@@ -150,7 +153,7 @@ module _ (c : Core) (K : Kept c) where
       (pool-fact n (c .head .numbers .nodes) (c .pool) (c .head .numbers .«free_node») (liveRoots (c .frames)) (S .numbers .room) (S .pool))
 
   acting-root : (w : ℕ) → w < 8 → 0 < size (c .deques) w → 0 < count (actingIn c w .root) (liveRoots (c .frames))
-  acting-root w b h = (let r = bottom-lives (S .frames) (S .numbers .workers-le) w b h in root-counted (c .frames) places (bottom (c .deques) w) (r .0) (r .1))
+  acting-root w b h = (let r = bottom-lives (S .frames) (S .numbers .workers-le) most-places w b h in root-counted (c .frames) (length (c .frames)) (bottom (c .deques) w) (r .0) (r .1))
 
   -- the ends upward, by the plain machine that follows the core
   upward-ready : (w : ℕ) → 0 < size (c .deques) w → actingIn c w .outstanding ≡ 0 → EndsUpward (actingIn c w .depth) (endAt (popped c w) (bottom (c .deques) w)) (actingIn c w .parent)
@@ -158,7 +161,7 @@ module _ (c : Core) (K : Kept c) where
       let s = c .head .numbers in
       let M = machineOf s (c .deques) (c .frames) (c .pool) in
       let c₀ = countedCore s (c .totals) (c .deques) (c .frames) (c .pool) in
-      let C = sound-carried s (c .totals) (c .deques) (c .frames) (c .pool) (K .long-totals) (K .long-deques) (K .long-frames) (K .is-sound) in
+      let C = sound-carried s (c .totals) (c .deques) (c .frames) (c .pool) (K .long-totals) (K .long-deques) (K .is-sound) in
       let N = C .related .numbers in
       subst (λ (x : Core). (w : ℕ) → 0 < size (x .deques) w → actingIn x w .outstanding ≡ 0 → EndsUpward (actingIn x w .depth) (endAt (popped x w) (bottom (x .deques) w)) (actingIn x w .parent)) (core-counted c K)
       (λ w h z. ends-upward (s .nodes) (M .splitters) (N .nodes-le) (N .splitters-positive) M c₀ (C .related) (live-laws (s .nodes) (M .splitters) (N .nodes-le) (N .splitters-positive)) (C .tree) (C .links) refl w h z)
@@ -175,24 +178,25 @@ module _ (c : Core) (K : Kept c) where
         low = omega (arith, K .height-is, height-le n 8 (omega (arith, S .numbers .splitters-le)));
         nodes-positive = omega (arith, S .numbers .enough, tree-positive n (S .numbers .splitters-positive));
         long-deques = K .long-deques;
-        long-frames = K .long-frames;
+        table = S .numbers .table;
+        few-places = most-places;
         links = live-links N (height n) n small (height-covers n) trees;
         free-node = live-free N (height n) n small (height-covers n) trees;
-        free-place = chain-start places (nextFree (c .frames)) (c .head .numbers .«free_place») (F .places .gs) (F .places .chain);
-        sizes = F .within;
+        free-place = chain-start (length (c .frames)) (nextFree (c .frames)) (c .head .numbers .«free_place») (F .places .gs) (F .places .chain);
+        sizes = λ w b. omega (arith, F .within w b, most-places);
         absent = F .absent;
         held = λ w k b h. F .hold-live w b k h .0;
-        room = λ w b h. deque-room F few h w b;
+        room = λ w b h. deque-room F few most-places h w b;
         root = λ w b h. trees .roots (actingIn c w .root) (acting-root w b h) .inside;
-        parent = λ w b h. (let r = bottom-lives F few w b h in live-parent F few (bottom (c .deques) w) (r .0) (r .1));
-        counts = λ w b h. (let r = bottom-lives F few w b h in live-counts F few (bottom (c .deques) w) (r .0) (r .1));
-        below = λ w b h. bottom-below F few w b h;
+        parent = λ w b h. (let r = bottom-lives F few most-places w b h in live-parent F few most-places (bottom (c .deques) w) (r .0) (r .1));
+        counts = λ w b h. (let r = bottom-lives F few most-places w b h in live-counts F few most-places (bottom (c .deques) w) (r .0) (r .1));
+        below = λ w b h. bottom-below F few most-places w b h;
         upward = λ w b h z. upward-ready w h z;
         path = λ w x b h i.
             subst (λ (t : ℕ). PathIn N (c .pool) t (actingIn c w .root) x) (sym (K .height-is))
             (live-path N (height n) n small (height-covers n) trees (actingIn c w .root) x (acting-root w b h) i);
         writes = λ w x b h i enough.
             subst (λ (t : ℕ). WriteIn N t (c .pool) (c .head .numbers .«free_node») x (firstShared t (c .pool) (actingIn c w .root) (actingIn c w .root) x)) (sym (K .height-is))
-            (live-writes N (height n) n small (height-covers n) trees (c .head .«free_count») (actingIn c w .root) x (K .counted) (omega (arith, roots-few (c .frames) places, S .numbers .nodes-le)) (acting-root w b h) i
+            (live-writes N (height n) n small (height-covers n) trees (c .head .«free_count») (actingIn c w .root) x (K .counted) (omega (arith, roots-few (c .frames) (length (c .frames)), most-places, S .numbers .nodes-le)) (acting-root w b h) i
             (subst (λ (t : ℕ). rest t (c .pool) (actingIn c w .root) x ≤ c .head .«free_count») (K .height-is) enough));
       }

@@ -15,8 +15,8 @@ use Rattle.words.specs.Tests.{decided, true≢false, ltb-of, nltb-of, lt-of, ge
 use Rattle.words.specs.Counting.{δ-same, count, count-nil, count-cons, sum-zero, sum-ge, all-at, all-of}
 use Rattle.sizes.specs.Sizes.{height}
 use Rattle.pool.specs.Pool.{rest}
-use Rattle.frames.specs.Widths.{places}
-use Rattle.frames.specs.declared.Frame.{Frame as FrameWords}
+use Rattle.frames.specs.declared.Frame.{Frame as FrameRecord}
+use Rattle.frames.specs.Widths.{dequeStride}
 use Rattle.frames.specs.Deques.{size}
 use Rattle.frames.specs.Theory.Lists.{list-length}
 use Rattle.frames.specs.Theory.Places.{FreePlaces}
@@ -31,7 +31,7 @@ use Rattle.model.specs.Theory.DequeShape.{DequeInvariant}
 use Rattle.model.specs.Theory.Effects.{Passes, acts, live-with, isEmpty-nil, there-is-worker}
 use Rattle.model.specs.Theory.Histories.{inUse-perm}
 use Rattle.semantics.specs.declared.Refusal.{Refusal}
-use Rattle.semantics.specs.declared.Refusal.the-variants.{Values, Workers, Nodes, Tape, Work, Unsound, Record, NoWorker, MainReturned, WorkerIdle, ThiefBusy, NoVictim, FramesFull, NoSplitter, PoolFull, Blocks, BlockCheck, Target, NoReducer, Lengths}
+use Rattle.semantics.specs.declared.Refusal.the-variants.{Values, Workers, Nodes, Tape, Work, Unsound, Record, NoWorker, MainReturned, WorkerIdle, ThiefBusy, NoVictim, FramesFull, NoSplitter, PoolFull, Blocks, BlockCheck, Target, NoReducer, Places, Lengths}
 use Rattle.semantics.specs.declared.Answer.the-variants.{Refused}
 use Rattle.semantics.specs.Answers.{refusalNumber}
 use Rattle.semantics.specs.Core.{Core, StepResult, actingIn, idle, noWorker, allIdle, judged, actingTests, stepOn, testsOf, doneBy, kindTests}
@@ -61,7 +61,7 @@ SameRoom M c (Write w x v) = (q : Frame) (d : List Frame) → w < length (M .deq
 abbrev pub refusedBy : Core → Refusal → StepResult
 refusedBy c r = record { core = c; answer = Refused r }
 
--- the numbers are 1 to 20, and 99
+-- the numbers are 1 to 21, and 99
 pub number-range : (r : Refusal) → (0 < refusalNumber r) × (refusalNumber r ≤ 99)
 number-range Values = omega arith
 number-range Workers = omega arith
@@ -82,6 +82,7 @@ number-range Blocks = omega arith
 number-range BlockCheck = omega arith
 number-range Target = omega arith
 number-range NoReducer = omega arith
+number-range Places = omega arith
 number-range Lengths = omega arith
 
 judged-passes : (ts : List (Bool × Refusal)) (us : List (Bool × ℕ)) (c : Core) (d : StepResult) → Alike ts us → firstTrue 0 us ≡ 0 → judged ts c d ≡ d
@@ -129,7 +130,7 @@ module _ {P : Trees} {M : Machine} {c : Core} (r : Relates P M c) where
   unfolding size
   size-same w = elim (decLt w 8) [
     | yes h ↦ sym (list-length (c .deques) w) ∙ ap length (r .deques w h) ∙ length-map (deque M w) (λ (f : Frame). r .at (f .name))
-    | no h ↦ List·getD-eq-default (c .deques) 0 {n = 65 * w} (omega (arith, r .formed .shaped .long))
+    | no h ↦ List·getD-eq-default (c .deques) 0 {n = dequeStride * w} (omega (arith, r .formed .shaped .long))
         ∙ sym (ap length (List·getD-eq-default (M .deques) [] {n = w} (omega (arith, r .numbers .workers-le))))
   ]
 
@@ -145,23 +146,23 @@ module _ {P : Trees} {M : Machine} {c : Core} (r : Relates P M c) where
   pub victim-same : (v : ℕ) → noWorker c v || ltb (size (c .deques) v) 2 ≡ missing M v || ltb (length (deque M v)) 2
   victim-same v = ap₂ _||_ (worker-same v) (ap (λ (n : ℕ). ltb n 2) (size-same v))
 
-  -- ---- 64 frames live
+  -- ---- no place is free
 
-  placed : (p : ℕ) → In p (placesOf (r .at) (live M)) → p < places
+  placed : (p : ℕ) → In p (placesOf (r .at) (live M)) → p < length (c .frames)
   placed p m = let u = In-unmap (λ (f : Frame). r .at (f .name)) (live M) m in omega (arith, placed-inside r (u .0) (u .1), u .2)
 
-  full : (gs : List ℕ) → r .gs ≡ gs → eqb (c .head .numbers .«free_place») none ≡ notBelow (length (live M)) places
+  full : (gs : List ℕ) → r .gs ≡ gs → eqb (c .head .numbers .«free_place») none ≡ notBelow (length (live M)) (length (c .frames))
   full [] e =
       let z : c .head .numbers .«free_place» ≡ none = subst (λ (g : List ℕ). FreePlaces (c .frames) (c .head .numbers .«free_place») g) e (r .formed .places) in
-      let many : places ≤ length (live M) = omega (arith, none-free places (r .gs) (placesOf (r .at) (live M)) (r .once) placed e, length-map (live M) (λ (f : Frame). r .at (f .name))) in
+      let many : length (c .frames) ≤ length (live M) = omega (arith, none-free (length (c .frames)) (r .gs) (placesOf (r .at) (live M)) (r .once) placed e, length-map (live M) (λ (f : Frame). r .at (f .name))) in
       eq-eqb (c .head .numbers .«free_place») none z ∙ sym (ap not (nltb-of many))
   full (g ∷ gs) e =
       let z = subst (λ (l : List ℕ). FreePlaces (c .frames) (c .head .numbers .«free_place») l) e (r .formed .places) in
-      let few : length (live M) < places = omega (arith, free-positive places (r .gs) (placesOf (r .at) (live M)) (r .once) placed g gs (z .1) e, length-map (live M) (λ (f : Frame). r .at (f .name))) in
-      ne-eqb (c .head .numbers .«free_place») none (λ n. omega (arith, z .0, z .1)) ∙ sym (ap not (ltb-of few))
+      let few : length (live M) < length (c .frames) = omega (arith, free-positive (length (c .frames)) (r .gs) (placesOf (r .at) (live M)) (r .once) placed g gs (z .1) e, length-map (live M) (λ (f : Frame). r .at (f .name))) in
+      ne-eqb (c .head .numbers .«free_place») none (λ n. omega (arith, z .0, z .1, r .formed .few)) ∙ sym (ap not (ltb-of few))
 
-  pub vacant-same : eqb (c .head .numbers .«free_place») none ≡ notBelow (length (live M)) places
-  vacant-same = full (r .gs) refl
+  pub vacant-same : eqb (c .head .numbers .«free_place») none ≡ notBelow (length (live M)) (M .places)
+  vacant-same = full (r .gs) refl ∙ ap (notBelow (length (live M))) (sym (r .numbers .table))
 
   -- ---- Main has returned
 
@@ -218,7 +219,7 @@ enough {P} {M} {c} r w x v same h =
     let few = subst (λ (k : ℕ). k ≤ M .nodes) (sym (inUse-perm (M .splitters) (live-with M w (written (a .actor) x v ∷ a .above) (a .worker)))) (a .allowed .1) in
     let room = ge-of (same (a .actor) (a .above) (a .worker) (a .at) (a .allowed .0) ∙ nltb-of few) in
     subst (λ (t : ℕ). rest t (c .pool) (rootOf (c .frames) (r .at) (a .actor)) x ≤ c .head .«free_count») (r .numbers .height-is)
-    (subst (λ (f : FrameWords). rest (c .head .height) (c .pool) (f .root) x ≤ c .head .«free_count») (acting-frame r w (a .actor) (a .above) (a .worker) (a .at)) room)
+    (subst (λ (f : FrameRecord). rest (c .head .height) (c .pool) (f .root) x ≤ c .head .«free_count») (acting-frame r w (a .actor) (a .above) (a .worker) (a .at)) room)
 
 pub step-judged : (c : Core) (st : Step) → stepOn c st ≡ judged (testsOf c st) c (doneBy c st)
 unfolding stepOn

@@ -28,6 +28,7 @@ use Rattle.semantics.specs.Promises.{Fits}
 use Rattle.semantics.specs.Theory.Fitting.{true-fits, state-back}
 use Rattle.semantics.specs.Theory.Words.{words-low, words-back, not-whole, refused-keeps}
 use Rattle.semantics.specs.Theory.TapeWords.{length-records, put-long}
+use Rattle.frames.specs.Theory.Start.{length-init}
 use Rattle.semantics.specs.Theory.Starts.{start-cases, started-fit}
 
 -- ---- a start
@@ -49,7 +50,7 @@ accepted-start b e =
     let N = wholeNodes (b .pool) in
     let G = good-start N (length (b .values)) (A .fit .nodes-le) (A .fit .values-positive) (b .pool) (b .values) (A .fit .enough) (mul-div-le (length (b .pool)) 4) in
     let p = ap (λ (o : StartResult). o .pool) (A .result) in
-    record { same-length = ap length p ∙ G .0 .len; beyond = ap (drop (4 * N)) p ∙ G .0 .rest }
+    record { same-places = ap (λ (o : StartResult). length (o .state .frames)) (A .result) ∙ length-init (b .parts .frames); same-length = ap length p ∙ G .0 .len; beyond = ap (drop (4 * N)) p ∙ G .0 .rest }
 
 -- ---- a refused call
 

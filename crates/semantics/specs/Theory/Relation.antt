@@ -1,4 +1,4 @@
--- The relation between a plain machine and the engine's words: where each live frame stands, what its record holds, and what its
+-- The relation between a plain machine and the engine's words and records: where each live frame stands, what its record holds, and what its
 -- tree reads. It is stated over a predicate `Trees` on the pool, so that it serves both sound states from anywhere and runs from
 -- a start.
 use mathlib.Core.Path.{_≡_}
@@ -11,7 +11,8 @@ use lib.ListN.{length, getD}
 use Rattle.words.specs.Basics.{none, count, joined}
 use Rattle.sizes.specs.Sizes.{height, treeNodes}
 use Rattle.pool.specs.Pool.{readAt, retain, release, rest, write}
-use Rattle.frames.specs.Widths.{places}
+use Rattle.frames.specs.declared.Frame.{Frame as FrameRecord}
+use Rattle.frames.specs.Widths.{maxPlaces}
 use Rattle.frames.specs.Deques.{dequeList}
 use Rattle.frames.specs.Frames.{frameAt, freePlace}
 use Rattle.frames.specs.Siblings.{younger, Children}
@@ -42,12 +43,12 @@ event x m = record { splitter = x; mark = m }
 -- what spawn, return and write do to it, for N nodes and n splitters
 pub record TreeLaws (N n : ℕ) (P : Trees) : Type 0 where
   pub perm : (ws : List ℕ) (free k : ℕ) (Fs Fs' : List (ℕ × History)) → List·Permᴰ Fs Fs' → P ws free k Fs → P ws free k Fs'
-  pub spawn : (ws : List ℕ) (free k : ℕ) (F : ℕ × History) (Fs : List (ℕ × History)) → length Fs < places → P ws free k (F ∷ Fs)
+  pub spawn : (ws : List ℕ) (free k : ℕ) (F : ℕ × History) (Fs : List (ℕ × History)) → length Fs < maxPlaces → P ws free k (F ∷ Fs)
       → P (retain ws (F .0)) free k (F ∷ F ∷ Fs) × Kept (height n) n ws (retain ws (F .0)) (F ∷ Fs)
   pub return : (ws : List ℕ) (free k : ℕ) (F : ℕ × History) (Fs : List (ℕ × History)) → P ws free k (F ∷ Fs)
       → P (release (height n) ws free k (F .0) .0) (release (height n) ws free k (F .0) .1) (release (height n) ws free k (F .0) .2) Fs
       × Kept (height n) n ws (release (height n) ws free k (F .0) .0) Fs
-  pub write : (ws : List ℕ) (free k root : ℕ) (h : History) (Fs : List (ℕ × History)) (x v : ℕ) (m : Mark) → length Fs < places → x < n → rest (height n) ws root x ≤ k → m ≢ []
+  pub write : (ws : List ℕ) (free k root : ℕ) (h : History) (Fs : List (ℕ × History)) (x v : ℕ) (m : Mark) → length Fs < maxPlaces → x < n → rest (height n) ws root x ≤ k → m ≢ []
       → Fresh m ((root, h) ∷ Fs) → P ws free k ((root, h) ∷ Fs)
       → P (write (height n) ws free k root x v .0) (write (height n) ws free k root x v .1) (write (height n) ws free k root x v .2) ((write (height n) ws free k root x v .3, event x m ∷ h) ∷ Fs)
       × Kept (height n) n ws (write (height n) ws free k root x v .0) Fs
@@ -69,11 +70,11 @@ childCount p (f ∷ fs) = cond (isChild p (f .name)) 1 0 + childCount p fs
 abbrev pub placesOf : (Name → ℕ) → List Frame → List ℕ
 placesOf at fs = map (λ f. at (f .name)) fs
 
-abbrev pub rootOf : List ℕ → (Name → ℕ) → Frame → ℕ
+abbrev pub rootOf : List FrameRecord → (Name → ℕ) → Frame → ℕ
 rootOf fs at f = frameAt fs (at (f .name)) .root
 
 -- the frames' roots with their histories
-abbrev pub rootsOf : List ℕ → (Name → ℕ) → List Frame → List (ℕ × History)
+abbrev pub rootsOf : List FrameRecord → (Name → ℕ) → List Frame → List (ℕ × History)
 rootsOf fs at L = map (λ f. (rootOf fs at f, f .history)) L
 
 -- 1 if so, else 0
@@ -81,8 +82,8 @@ abbrev pub bit : Bool → ℕ
 bit b = cond b 1 0
 
 -- the record of the frame f, one of the live frames L: suspended (s is 1) or not (0)
-pub record Recorded (fs : List ℕ) (at : Name → ℕ) (L : List Frame) (s : ℕ) (f : Frame) : Type 0 where
-  pub inside : at (f .name) < places
+pub record Recorded (fs : List FrameRecord) (at : Name → ℕ) (L : List Frame) (s : ℕ) (f : Frame) : Type 0 where
+  pub inside : at (f .name) < length fs
   pub live : frameAt fs (at (f .name)) .live ≡ 1
   pub parent : frameAt fs (at (f .name)) .parent ≡ parentPlace at (f .name)
   pub depth : frameAt fs (at (f .name)) .depth ≡ length (f .name)
@@ -106,6 +107,10 @@ pub record SameNumbers (M : Machine) (c : Core) : Type 0 where
   pub height-is : c .head .height ≡ height (M .splitters)
   pub enough : treeNodes (M .splitters) ≤ c .head .numbers .nodes
   pub nodes-le : c .head .numbers .nodes ≤ 16384
+  -- R-6: the table's length, which is recorded
+  pub places : c .head .numbers .places ≡ M .places
+  pub places-positive : 1 ≤ M .places
+  pub table : M .places ≡ length (c .frames)
 
 -- `at` gives each live frame's place, gs are the free places
 pub record Relates (P : Trees) (M : Machine) (c : Core) : Type 0 where
@@ -117,8 +122,8 @@ pub record Relates (P : Trees) (M : Machine) (c : Core) : Type 0 where
   pub running : (f : Frame) → In f (joined (M .deques)) → Recorded (c .frames) at (live M) 0 f
   pub waiting : (f : Frame) → In f (M .suspended) → Recorded (c .frames) at (live M) 1 f
   -- each place is free or some live frame's, and only one's
-  pub once : (p : ℕ) → p < places → count p gs + count p (placesOf at (live M)) ≡ 1
-  pub vacant : (p : ℕ) → p < places → 0 < count p gs → (q : ℕ) × (frameAt (c .frames) p ≡ freePlace q)
+  pub once : (p : ℕ) → p < length (c .frames) → count p gs + count p (placesOf at (live M)) ≡ 1
+  pub vacant : (p : ℕ) → p < length (c .frames) → 0 < count p gs → (q : ℕ) × (frameAt (c .frames) p ≡ freePlace q)
   pub totals : TotalsKept (c .totals) (live M)
   pub trees : P (c .pool) (c .head .numbers .«free_node») (c .head .«free_count») (rootsOf (c .frames) at (live M))
   pub values : (f : Frame) → In f (live M) → (x : ℕ) → x < M .splitters → readAt (height (M .splitters)) (c .pool) (rootOf (c .frames) at f) x ≡ getD (f .values) x 0
@@ -126,12 +131,13 @@ pub record Relates (P : Trees) (M : Machine) (c : Core) : Type 0 where
 -- ---- beside it: the links between siblings
 
 -- R-5: "these links chain the live children of each frame, each once, Main's being none"
-pub record Links (fs : List ℕ) (at : Name → ℕ) (L : List Frame) : Type 0 where
+pub record Links (fs : List FrameRecord) (at : Name → ℕ) (L : List Frame) : Type 0 where
   pub children : (f : Frame) → In f L → (cs : List ℕ) × Children fs (at (f .name)) cs
   pub main-link : (f : Frame) → In f L → f .name ≡ [] → younger fs (at (f .name)) ≡ none
 
 -- R-5: from c to c′ no frame begins, ends or folds: the frames keep their places, links and views
 pub record Keeps {P : Trees} {M M′ : Machine} {c c′ : Core} (r : Relates P M c) (r′ : Relates P M′ c′) : Type 0 where
+  pub same-length : length (c′ .frames) ≡ length (c .frames)
   pub places : (n : Name) → r′ .at n ≡ r .at n
   pub live : (p : ℕ) → frameAt (c′ .frames) p .live ≡ frameAt (c .frames) p .live
   pub parent : (p : ℕ) → frameAt (c′ .frames) p .parent ≡ frameAt (c .frames) p .parent

@@ -16,7 +16,7 @@ use Rattle.words.specs.Tests.{true≢false}
 use Rattle.words.specs.Counting.{δ-same, count, count-cons}
 use Rattle.words.specs.Lists.{In-perm}
 use Rattle.frames.specs.Deques.{dequeList}
-use Rattle.frames.specs.declared.Frame.{Frame as Words}
+use Rattle.frames.specs.declared.Frame.{Frame as FrameRecord}
 use Rattle.frames.specs.Frames.{frameAt}
 use Rattle.model.specs.Machine.{Name, Frame, Machine, live, deque, hasChild}
 use Rattle.semantics.specs.Core.{Core}
@@ -25,11 +25,11 @@ use Rattle.semantics.specs.Theory.Places.{count-perm, map-cong, in-deque
 
 -- ---- trees
 
-pub trees-perm : {P : Trees} {N n : ℕ} {ws : List ℕ} {free k : ℕ} {L L′ : List Frame} (fs : List ℕ) (at : Name → ℕ) → TreeLaws N n P → List·Permᴰ L L′
+pub trees-perm : {P : Trees} {N n : ℕ} {ws : List ℕ} {free k : ℕ} {L L′ : List Frame} (fs : List FrameRecord) (at : Name → ℕ) → TreeLaws N n P → List·Permᴰ L L′
     → P ws free k (rootsOf fs at L) → P ws free k (rootsOf fs at L′)
 trees-perm {ws} {free} {k} {L} {L′} fs at laws π t = laws .perm ws free k (rootsOf fs at L) (rootsOf fs at L′) (Permᴰ·map (treeOf fs at) π) t
 
-pub roots-same : (fs fs′ : List ℕ) (at : Name → ℕ) (L : List Frame) → ((f : Frame) → In f L → rootOf fs′ at f ≡ rootOf fs at f) → rootsOf fs′ at L ≡ rootsOf fs at L
+pub roots-same : (fs fs′ : List FrameRecord) (at : Name → ℕ) (L : List Frame) → ((f : Frame) → In f L → rootOf fs′ at f ≡ rootOf fs at f) → rootsOf fs′ at L ≡ rootsOf fs at L
 roots-same fs fs′ at L h = map-cong (treeOf fs′ at) (treeOf fs at) L (λ f m. ap (λ (z : ℕ). (z, f .history)) (h f m))
 
 -- ---- frames in deques
@@ -57,15 +57,15 @@ pub parent-count : (p : Name) (L : List Frame) → hasChild p L ≡ true → chi
 parent-count p L h e = true≢false (sym (eq-eqb (childCount p L) 0 e) ∙ childCount-test p L ∙ ap not h)
 
 -- a record stored anew but for its suspension, its tree and whether it is returning
-abbrev pub stored : Words → ℕ → ℕ → ℕ → Words
+abbrev pub stored : FrameRecord → ℕ → ℕ → ℕ → FrameRecord
 stored F s t b = record { live = F .live; parent = F .parent; depth = F .depth; outstanding = F .outstanding; suspended = s; root = t; returning = b; view = F .view; younger = F .younger }
 
 -- f became g, of the same name
-pub recorded-stored : {fs : List ℕ} (fs′ : List ℕ) {at : Name → ℕ} {L : List Frame} (L′ : List Frame) {s : ℕ} (s′ t b : ℕ) {f : Frame} (g : Frame) → g .name ≡ f .name
+pub recorded-stored : {fs : List FrameRecord} (fs′ : List FrameRecord) {at : Name → ℕ} {L : List Frame} (L′ : List Frame) {s : ℕ} (s′ t b : ℕ) {f : Frame} (g : Frame) → length fs′ ≡ length fs → g .name ≡ f .name
     → b ≡ bit (g .returning) → frameAt fs′ (at (f .name)) ≡ stored (frameAt fs (at (f .name))) s′ t b → childCount (f .name) L ≡ childCount (f .name) L′ → Recorded fs at L s f → Recorded fs′ at L′ s′ g
-recorded-stored {fs} fs′ {at} L′ s′ t b {f} g n m e k r =
+recorded-stored {fs} fs′ {at} L′ s′ t b {f} g l n m e k r =
     let F = stored (frameAt fs (at (f .name))) s′ t b in
-    recorded-as fs′ at L′ s′ g (at (f .name)) F (ap at n) e (r .inside) (r .live) (rw n (r .parent)) (rw n (r .depth)) (rw n (r .outstanding ∙ k)) refl m
+    recorded-as fs′ at L′ s′ g (at (f .name)) F (ap at n) e (omega (arith, l, r .inside)) (r .live) (rw n (r .parent)) (rw n (r .depth)) (rw n (r .outstanding ∙ k)) refl m
 
 -- ---- places
 

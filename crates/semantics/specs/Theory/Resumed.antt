@@ -53,7 +53,7 @@ module _ {P : Trees} {M : Machine} {c : Core} (r : Relates P M c) (w : ℕ) (lt 
 
   carries : Carried r next (table .frames) g g R 0 (rootOf (c .frames) (r .at) g)
   carries =
-      carried r next (table .frames) g g R 0 (rootOf (c .frames) (r .at) g) (frameAt (c .frames) (r .at p) .returning) refl (r .waiting g m .returning) before afterwards (does .1) (λ z n. does .0 .records z (n, tt))
+      carried r next (table .frames) g g R 0 (rootOf (c .frames) (r .at) g) (frameAt (c .frames) (r .at p) .returning) refl (r .waiting g m .returning) (does .0 .same-length) before afterwards (does .1) (λ z n. does .0 .records z (n, tt))
 
   same-root : (f : Frame) → In f (g ∷ R) → rootOf (table .frames) (r .at) f ≡ rootOf (c .frames) (r .at) f
   same-root f i = elim (In-cons i) [
@@ -65,7 +65,7 @@ module _ {P : Trees} {M : Machine} {c : Core} (r : Relates P M c) (w : ℕ) (lt 
   resumes-frame laws = record {
     at = r .at;
     gs = r .gs;
-    numbers = same-numbers M c (withTable c table) (next .deques) (next .suspended) (length-set (M .deques) w (those (waitsAtSync p) (M .suspended))) (r .numbers) refl refl refl refl;
+    numbers = same-numbers M c (withTable c table) (next .deques) (next .suspended) (length-set (M .deques) w (those (waitsAtSync p) (M .suspended))) (r .numbers) refl refl refl refl refl (does .0 .same-length);
     formed = does .0 .formed;
     deques = lists-with (r .at) (table .deques) (M .deques) w (those (waitsAtSync p) (M .suspended)) lt (does .0 .deque ∙ ap (placesOf (r .at)) (sym one)) (λ u h n. does .0 .deques u h n ∙ r .deques u h);
     running = λ f i. elim (In-cases (those (waitsAtSync p) (M .suspended)) (In-perm (joined-set (M .deques) w (those (waitsAtSync p) (M .suspended)) lt) i)) [

@@ -11,7 +11,7 @@ use borrow.Author.Tests.{eq-eqb, ne-eqb}
 use Rattle.words.specs.Tests.{decided}
 use Rattle.sizes.specs.Sizes.{height}
 use Rattle.pool.specs.Pool.{release}
-use Rattle.frames.specs.declared.Frame.{Frame as FrameWords}
+use Rattle.frames.specs.declared.Frame.{Frame as FrameRecord}
 use Rattle.frames.specs.declared.Returned.{Returned}
 use Rattle.frames.specs.declared.Returned.the-variants.{Continued, Finished, Waiting}
 use Rattle.frames.specs.Frames.{frameAt}
@@ -118,7 +118,7 @@ module _ (N n : ℕ) (most : N ≤ 16384) (some : 1 ≤ n) where
     unfolding returnOn
     return-keeps-beyond =
         let own = acting-record r w q d lt at in
-        let is : actingIn c w .outstanding ≡ childCount (q .name) (live M) = ap (λ (f : FrameWords). f .outstanding) (acting-frame r w q d lt at) ∙ own .outstanding in
+        let is : actingIn c w .outstanding ≡ childCount (q .name) (live M) = ap (λ (f : FrameRecord). f .outstanding) (acting-frame r w q d lt at) ∙ own .outstanding in
         elim (decided (hasChild (q .name) (live M))) [
           | inl h ↦ rw (ne-eqb (actingIn c w .outstanding) 0 (λ z. parent-count (q .name) (live M) h (sym is ∙ z))) (refl, refl)
           | inr h ↦ rw (eq-eqb (actingIn c w .outstanding) 0 (is ∙ childless-count (q .name) (live M) h)) (ends-beyond h)

@@ -23,13 +23,14 @@ use Rattle.semantics.specs.declared.Refusal.the-variants.{Tape}
 use Rattle.semantics.specs.declared.Answer.{Answer}
 use Rattle.semantics.specs.Answers.{answerWords, wordsIn}
 use Rattle.semantics.specs.Core.{Core}
-use Rattle.semantics.specs.Entries.{numbersOf, coreOf, stateOf, checkedState, recordOn, OutsideResult, outsideDone, outsideChecked, outsideWith, outsideOn, recordsOf, putAnswer, RecordsResult, recordsResult, runOn, TapeResult, tapeDone, tapeRefused, tapeChecked, unfitTape, tapeWith, tapeOn}
+use Rattle.semantics.specs.Entries.{numbersOf, headOf, coreOf, stateOf, checkedState, recordOn, OutsideResult, outsideDone, outsideChecked, outsideWith, outsideOn, recordsOf, putAnswer, RecordsResult, recordsResult, runOn, TapeResult, tapeDone, tapeRefused, tapeChecked, unfitTape, tapeWith, tapeOn}
 use Rattle.semantics.specs.Calls.{HostCall, outside, tape, StateAndPool, afterCall, Exchange, refusedWhole, exchangesFrom, exchangesOf, recordsIn, answersIn, PoolAt, poolAt, poolsAt, coreIn}
 use Rattle.semantics.specs.Demands.{Plain, Specification, answersBy, machineBy}
 use Rattle.semantics.specs.Promises.{Fits}
 use Rattle.semantics.specs.Theory.Pools.{Beyond}
 use Rattle.semantics.specs.Theory.FromSoundRelates.{map-append}
 use Rattle.semantics.specs.Theory.Simulation.{numbers-kept}
+use Rattle.semantics.specs.Theory.NumberWords.{numbers-in, totals-in}
 use Rattle.semantics.specs.Theory.SoundSteps.{step-beyond, Carried, is-sound}
 use Rattle.semantics.specs.Theory.Elsewhere.{withPool}
 use Rattle.semantics.specs.Theory.Fitting.{fits-true}
@@ -57,14 +58,21 @@ pub record KeptBy (Follows : Plain → Core → Type 0) (h : StateAndPool) (P : 
 
 module _ {M : Machine} {c : Core} (K : Carried M c) where
   pub core-fits : Fits (stateOf c)
-  core-fits = record { numbers = omega (arith, K .related .totals .long); deques = K .related .formed .shaped .long; frames = K .related .formed .long }
+  core-fits = record { numbers = omega (arith, K .related .totals .long, length-append (c .totals) (c .head .numbers .places ∷ [])); deques = K .related .formed .shaped .long }
 
   -- the engine's words, with the free nodes counted, are the core
   core-back : coreOf (stateOf c) (c .pool) (c .head .«free_count») ≡ c
-  core-back = ap withHeight (sym (K .related .numbers .height-is ∙ ap height (sym (K .related .numbers .splitters))))
+  core-back = same-words ∙ ap withHeight (sym (K .related .numbers .height-is ∙ ap height (sym (K .related .numbers .splitters))))
     where
       withHeight : ℕ → Core
       withHeight q = record { head = record { numbers = c .head .numbers; height = q; «free_count» = c .head .«free_count» }; totals = c .totals; deques = c .deques; frames = c .frames; pool = c .pool }
+
+      same-words : coreOf (stateOf c) (c .pool) (c .head .«free_count») ≡ withHeight (height (c .head .numbers .splitters))
+      same-words =
+          let s = c .head .numbers in
+          let ts = c .totals in
+          let long = K .related .totals .long in
+          λ i. record { head = headOf (numbers-in s ts long i) (c .head .«free_count»); totals = totals-in s ts long i; deques = c .deques; frames = c .frames; pool = c .pool }
 
   pub core-counted : coreIn (stateAndPool c) ≡ c
   core-counted = ap (coreOf (stateOf c) (c .pool)) (is-sound K .1) ∙ core-back

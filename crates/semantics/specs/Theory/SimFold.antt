@@ -7,8 +7,7 @@ use Prim.Native.Nat.{ℕ, _<_}
 use native.Mathlib.Decide.{ℕ-discrete}
 use lib.ListN.{length}
 use Rattle.reducers.specs.Reducers.{foldView}
-use Rattle.frames.specs.Widths.{places}
-use Rattle.frames.specs.declared.Frame.{Frame as FrameWords}
+use Rattle.frames.specs.declared.Frame.{Frame as FrameRecord}
 use Rattle.frames.specs.Frames.{frameAt, withView}
 use Rattle.frames.specs.Siblings.{younger}
 use Rattle.frames.specs.Steps.{fold as foldTable}
@@ -38,12 +37,12 @@ module _ {P : Trees} {M : Machine} {c : Core} (r : Relates P M c) (w i x : ℕ) 
   abbrev p : ℕ
   p = r .at (q .name)
 
-  abbrev after : List ℕ
+  abbrev after : List FrameRecord
   after = foldTable (tableOf c) w i x .frames
 
   own : frameAt after p ≡ withView (frameAt (c .frames) p) (foldView (frameAt (c .frames) p .view) i x)
   unfolding foldTable
-  own = rw (acting-place r w q d lt e) (frame-set-same (c .frames) p _ (r .formed .long) (acting-record r w q d lt e .inside))
+  own = rw (acting-place r w q d lt e) (frame-set-same (c .frames) p _ (acting-record r w q d lt e .inside))
 
   other : (y : ℕ) → y ≢ p → frameAt after y ≡ frameAt (c .frames) y
   unfolding foldTable
@@ -51,13 +50,13 @@ module _ {P : Trees} {M : Machine} {c : Core} (r : Relates P M c) (w i x : ℕ) 
 
   alike : Alike (c .frames) after
   alike =
-      fold-alike (tableOf c) w i x (r .formed .long) (subst (λ (y : ℕ). y < places) (sym (acting-place r w q d lt e)) (acting-record r w q d lt e .inside))
+      fold-alike (tableOf c) w i x (subst (λ (y : ℕ). y < length (c .frames)) (sym (acting-place r w q d lt e)) (acting-record r w q d lt e .inside))
       (ap (λ (y : ℕ). frameAt (c .frames) y .live) (acting-place r w q d lt e) ∙ acting-record r w q d lt e .live)
 
   same-link : (y : ℕ) → younger after y ≡ younger (c .frames) y
   same-link y = elim (ℕ-discrete y p) [
-    | yes z ↦ ap (younger after) z ∙ ap (λ (f : FrameWords). f .younger) own ∙ ap (younger (c .frames)) (sym z)
-    | no z ↦ ap (λ (f : FrameWords). f .younger) (other y z)
+    | yes z ↦ ap (younger after) z ∙ ap (λ (f : FrameRecord). f .younger) own ∙ ap (younger (c .frames)) (sym z)
+    | no z ↦ ap (λ (f : FrameRecord). f .younger) (other y z)
   ]
 
   related : Relates P M (withFrameTable c after)
@@ -70,14 +69,14 @@ module _ {P : Trees} {M : Machine} {c : Core} (r : Relates P M c) (w i x : ℕ) 
     places-kept = λ n. refl;
     alike = alike;
     link = same-link;
-    own = ap (λ (f : FrameWords). f .view) own;
-    others = λ y n. ap (λ (f : FrameWords). f .view) (other y n);
+    own = ap (λ (f : FrameRecord). f .view) own;
+    others = λ y n. ap (λ (f : FrameRecord). f .view) (other y n);
     same-totals = refl;
   }
 
 pub fold-links : {P : Trees} {M M′ : Machine} {c c′ : Core} {r : Relates P M c} {r′ : Relates P M′ c′} {q : Frame} {i x : ℕ} → Folds r r′ q i x → Links (c .frames) (r .at) (live M) → Links (c′ .frames) (r′ .at) (live M′)
 fold-links {M = M} {M′ = M′} {c = c} {c′ = c′} {r = r} {r′ = r′} F =
-    links-kept (c .frames) (c′ .frames) (λ y. F .alike .same y .live) (λ y. F .alike .same y .parent) (F .link) (r .at) (r′ .at) (live M) (live M′) (F .places-kept)
+    links-kept (c .frames) (c′ .frames) (F .alike .same-length) (λ y. F .alike .same y .live) (λ y. F .alike .same y .parent) (F .link) (r .at) (r′ .at) (live M) (live M′) (F .places-kept)
     (λ f m. (f, subst (λ (N : Machine). In f (live N)) (F .same-machine) m, refl))
 
 pub sim-fold : (P : Trees) (M : Machine) (c : Core) (w i x : ℕ) → (h : Passes M (acting w (fold i x))) → (r : Relates P M c)

@@ -15,7 +15,7 @@ use Rattle.words.specs.Basics.{joined, same}
 use Rattle.words.specs.Tests.{decided, both, true→T, true≢false}
 use Rattle.words.specs.Lists.{In-perm, joined-set}
 use Rattle.words.specs.Distinct.{same-eq, same-refl}
-use Rattle.frames.specs.declared.Frame.{Frame as FrameWords}
+use Rattle.frames.specs.declared.Frame.{Frame as FrameRecord}
 use Rattle.frames.specs.declared.Returned.the-variants.{Continued, Idle, Resumed}
 use Rattle.frames.specs.Frames.{frameAt}
 use Rattle.frames.specs.Deques.{size, pop}
@@ -48,7 +48,7 @@ use Rattle.semantics.specs.Theory.EndsInTurn.{EndsInTurn, stops, ends-th
 -- ---- one turn of the ends upward, by what the parent's record says
 
 module _ (d : ℕ) (c : Core) (w q : ℕ) where
-  abbrev parent : FrameWords
+  abbrev parent : FrameRecord
   parent = frameAt (c .frames) q
 
   up-ends : endsToo parent ≡ true → upwardOn (suc d) c w q ≡ upwardOn d (endAt c q) w (parent .parent)
@@ -93,7 +93,7 @@ module _ {P : Trees} {M : Machine} {c : Core} (r : Relates P M c) (laws : TreeLa
   abbrev p : Name
   p = g .name
 
-  abbrev F : FrameWords
+  abbrev F : FrameRecord
   F = frameAt (c .frames) (r .at p)
 
   -- "has no live child left"
@@ -298,7 +298,7 @@ module _ {P : Trees} {M : Machine} {c : Core} (r : Relates P M c) (laws : TreeLa
   Returns s = (r′ : Relates P (afterAction M w (q ∷ d) return) (s .core)) × EndsInTurn r r′ × (answerWords (s .answer) ≡ actionAnswer M w (q ∷ d) return)
 
   outstanding-is : actingIn c w .outstanding ≡ childCount (q .name) (live M)
-  outstanding-is = ap (λ (f : FrameWords). f .outstanding) (acting-frame r w q d lt e) ∙ own .outstanding
+  outstanding-is = ap (λ (f : FrameRecord). f .outstanding) (acting-frame r w q d lt e) ∙ own .outstanding
 
   -- "A return with a live child now suspends the frame as returning"
   waits : hasChild (q .name) (live M) ≡ true → Returns (returnOn c w)

@@ -16,9 +16,9 @@ use Rattle.words.specs.Distinct.{same-refl, same-differ}
 use Rattle.words.specs.Counting.{δ-same, count, count-cons, hit, miss}
 use Rattle.sizes.specs.Sizes.{height}
 use Rattle.pool.specs.Pool.{readAt, retain}
-use Rattle.frames.specs.Widths.{places}
+use Rattle.frames.specs.Widths.{maxPlaces}
 use Rattle.frames.specs.Deques.{dequeList}
-use Rattle.frames.specs.declared.Frame.{Frame as FrameWords}
+use Rattle.frames.specs.declared.Frame.{Frame as FrameRecord}
 use Rattle.frames.specs.Frames.{frameAt, freePlace, childOf}
 use Rattle.frames.specs.Frames.{afterSpawn as continued}
 use Rattle.frames.specs.Steps.{Table, linkChild, addChild}
@@ -61,9 +61,10 @@ spawnedCore c w =
 
 -- what a spawn leaves of the places and records: q, at a place, spawned; fs are the records with the child's elder sibling linked, g is the child's place
 pub record Spawns {P : Trees} {M M′ : Machine} {c c′ : Core} (r : Relates P M c) (r′ : Relates P M′ c′) (q : Frame) : Type 0 where
+  pub same-length : length (c′ .frames) ≡ length (c .frames)
   pub bottom-lives : In q (live M)
   pub child-place : r′ .at (child q .name) ≡ c .head .numbers .«free_place»
-  pub inside : c .head .numbers .«free_place» < places
+  pub inside : c .head .numbers .«free_place» < length (c .frames)
   pub vacant : frameAt (c .frames) (c .head .numbers .«free_place») .live ≡ 0
   pub places-kept : (f : Frame) → In f (live M) → r′ .at (f .name) ≡ r .at (f .name)
   pub from : (f : Frame) → In f (live M′) → (f .name ≡ child q .name) ⊎ ((g : Frame) × In g (live M) × (g .name ≡ f .name))
@@ -79,7 +80,7 @@ pub record Spawns {P : Trees} {M M′ : Machine} {c c′ : Core} (r : Relates P 
 -- ---- the step: q spawns, g is the first free place and hs are the others
 
 module _ {P : Trees} {M : Machine} {c : Core} (r : Relates P M c) (tree : FrameTree M) (w : ℕ) (q : Frame) (d : List Frame)
-    (lt : w < length (M .deques)) (e : deque M w ≡ q ∷ d) (few : length (live M) < places) (g : ℕ) (hs : List ℕ) (eg : r .gs ≡ g ∷ hs) where
+    (lt : w < length (M .deques)) (e : deque M w ≡ q ∷ d) (few : length (live M) < length (c .frames)) (g : ℕ) (hs : List ℕ) (eg : r .gs ≡ g ∷ hs) where
   abbrev others : List Frame
   others = d ++ rest M w
 
@@ -107,8 +108,8 @@ module _ {P : Trees} {M : Machine} {c : Core} (r : Relates P M c) (tree : FrameT
   old : (f : Frame) → In f (q ∷ others) → In f (live M)
   old f m = In-perm (Permᴰ·symm before) m
 
-  others-few : length others < 63
-  others-few = omega (arith, few, perm-length before)
+  others-few : suc (length others) < maxPlaces
+  others-few = omega (arith, few, r .formed .few, perm-length before)
 
   -- ---- names
 
@@ -157,8 +158,8 @@ module _ {P : Trees} {M : Machine} {c : Core} (r : Relates P M c) (tree : FrameT
   formed : Formed (tableOf c) (g ∷ hs)
   formed = subst (Formed (tableOf c)) eg (r .formed)
 
-  once : PlacedOnce (r .at) (g ∷ hs) (live M)
-  once = subst (λ (z : List ℕ). PlacedOnce (r .at) z (live M)) eg (r .once)
+  once : PlacedOnce (length (c .frames)) (r .at) (g ∷ hs) (live M)
+  once = subst (λ (z : List ℕ). PlacedOnce (length (c .frames)) (r .at) z (live M)) eg (r .once)
 
   taken : (f : Frame) → In f (q ∷ others) → count (r .at (f .name)) (g ∷ hs) ≡ 0
   taken f m = subst (λ (z : List ℕ). count (r .at (f .name)) z ≡ 0) eg (placed-taken r f (old f m))
@@ -174,13 +175,13 @@ module _ {P : Trees} {M : Machine} {c : Core} (r : Relates P M c) (tree : FrameT
   places-after : List·Permᴰ (placesOf at′ (live M′)) (g ∷ placesOf (r .at) (q ∷ others))
   places-after = subst (List·Permᴰ (placesOf at′ (live M′))) (ap₂ _∷_ new-place (same-places (q ∷ others) (λ f m. m))) (Permᴰ·map (λ (f : Frame). at′ (f .name)) after)
 
-  once-after : PlacedOnce at′ hs (live M′)
+  once-after : PlacedOnce (length (t′ .frames)) at′ hs (live M′)
   once-after p b =
-      omega (arith, once p b, count-perm p places-after, count-perm p (Permᴰ·map (λ (f : Frame). r .at (f .name)) before), count-cons p g (placesOf (r .at) (q ∷ others)), count-cons p g hs)
+      omega (arith, once p (omega (arith, S .after .same-length, b)), count-perm p places-after, count-perm p (Permᴰ·map (λ (f : Frame). r .at (f .name)) before), count-cons p g (placesOf (r .at) (q ∷ others)), count-cons p g hs)
 
-  vacant-after : (p : ℕ) → p < places → 0 < count p hs → (x : ℕ) × (frameAt (t′ .frames) p ≡ freePlace x)
+  vacant-after : (p : ℕ) → p < length (t′ .frames) → 0 < count p hs → (x : ℕ) × (frameAt (t′ .frames) p ≡ freePlace x)
   vacant-after p b h =
-      let o = r .vacant p b (subst (λ (z : List ℕ). 0 < count p z) (sym eg) (omega (arith, count-cons p g hs))) in
+      let o = r .vacant p (omega (arith, S .after .same-length, b)) (subst (λ (z : List ℕ). 0 < count p z) (sym eg) (omega (arith, count-cons p g hs))) in
       let not-g : p ≢ g = λ z. omega (arith, g-once, ap (λ (x : ℕ). count x hs) z) in
       let not-q : p ≢ r .at (q .name) = λ z. omega (arith, count-cons p g hs, taken q (here refl), ap (λ (x : ℕ). count x (g ∷ hs)) z) in
       (o .0, S .after .records p (not-g, (not-q, tt)) ∙ o .1)
@@ -203,7 +204,7 @@ module _ {P : Trees} {M : Machine} {c : Core} (r : Relates P M c) (tree : FrameT
 
   kept : (f : Frame) → In f others → (s : ℕ) → Recorded (c .frames) (r .at) (live M) s f → Recorded (t′ .frames) at′ (live M′) s f
   kept f i s R =
-      recorded-kept (c .frames) (t′ .frames) (r .at) at′ (live M) (live M′) s f (same-place f (there i)) (same-record f i) (same-parent f (there i))
+      recorded-kept (c .frames) (t′ .frames) (r .at) at′ (live M) (live M′) s f (S .after .same-length) (same-place f (there i)) (same-record f i) (same-parent f (there i))
       (omega (arith, childCount-perm (f .name) after, childCount-perm (f .name) before, miss {b = same (q .name) (f .name)} (same-differ (λ z. apart f i (sym z))))) R
 
   q-record : Recorded (c .frames) (r .at) (live M) 0 q
@@ -215,16 +216,16 @@ module _ {P : Trees} {M : Machine} {c : Core} (r : Relates P M c) (tree : FrameT
   parent-record : Recorded (t′ .frames) at′ (live M′) 0 (afterSpawn q)
   parent-record =
       recorded-as (t′ .frames) at′ (live M′) 0 (afterSpawn q) (r .at (q .name)) (continued (frameAt (c .frames) (r .at (q .name)))) (same-place q (here refl)) (S .parent)
-      (q-record .inside) (q-record .live) (q-record .parent ∙ sym (same-parent q (here refl))) (q-record .depth)
-      (ap (λ (n : ℕ). plus n 1) (q-record .outstanding) ∙ plus-one (childCount (q .name) (live M)) (omega (arith, few, childCount-le (q .name) (live M))) ∙ one-more) (q-record .suspended) (q-record .returning)
+      (omega (arith, S .after .same-length, q-record .inside)) (q-record .live) (q-record .parent ∙ sym (same-parent q (here refl))) (q-record .depth)
+      (ap (λ (n : ℕ). plus n 1) (q-record .outstanding) ∙ plus-one (childCount (q .name) (live M)) (omega (arith, few, r .formed .few, childCount-le (q .name) (live M))) ∙ one-more) (q-record .suspended) (q-record .returning)
 
   child-depth : plus (frameAt (c .frames) (r .at (q .name)) .depth) 1 ≡ suc (length (q .name))
   child-depth =
-      ap (λ (n : ℕ). plus n 1) (q-record .depth) ∙ plus-one (length (q .name)) (omega (arith, few, depth-few (live M) (tree .rooted) q (old q (here refl))))
+      ap (λ (n : ℕ). plus n 1) (q-record .depth) ∙ plus-one (length (q .name)) (omega (arith, few, r .formed .few, depth-few (live M) (tree .rooted) q (old q (here refl))))
 
   child-record : Recorded (t′ .frames) at′ (live M′) 0 (child q)
   child-record =
-      recorded-as (t′ .frames) at′ (live M′) 0 (child q) g (childOf (frameAt (c .frames) (r .at (q .name))) (r .at (q .name))) new-place (S .child) (formed .places .1)
+      recorded-as (t′ .frames) at′ (live M′) 0 (child q) g (childOf (frameAt (c .frames) (r .at (q .name))) (r .at (q .name))) new-place (S .child) (omega (arith, S .after .same-length, formed .places .1))
       refl (sym (same-place q (here refl))) child-depth (sym (childless-count (child q .name) (live M′) childless)) refl refl
 
   running-after : (f : Frame) → In f (joined (M′ .deques)) → Recorded (t′ .frames) at′ (live M′) 0 f
@@ -253,13 +254,13 @@ module _ {P : Trees} {M : Machine} {c : Core} (r : Relates P M c) (tree : FrameT
   -- ---- trees
 
   same-root : (f : Frame) → In f others → rootOf (t′ .frames) at′ f ≡ rootOf (c .frames) (r .at) f
-  same-root f i = ap (λ (p : ℕ). frameAt (t′ .frames) p .root) (same-place f (there i)) ∙ ap (λ (G : FrameWords). G .root) (same-record f i)
+  same-root f i = ap (λ (p : ℕ). frameAt (t′ .frames) p .root) (same-place f (there i)) ∙ ap (λ (G : FrameRecord). G .root) (same-record f i)
 
   parent-root : rootOf (t′ .frames) at′ (afterSpawn q) ≡ rootOf (c .frames) (r .at) q
-  parent-root = ap (λ (p : ℕ). frameAt (t′ .frames) p .root) (same-place q (here refl)) ∙ ap (λ (G : FrameWords). G .root) (S .parent)
+  parent-root = ap (λ (p : ℕ). frameAt (t′ .frames) p .root) (same-place q (here refl)) ∙ ap (λ (G : FrameRecord). G .root) (S .parent)
 
   child-root : rootOf (t′ .frames) at′ (child q) ≡ rootOf (c .frames) (r .at) q
-  child-root = ap (λ (p : ℕ). frameAt (t′ .frames) p .root) new-place ∙ ap (λ (G : FrameWords). G .root) (S .child)
+  child-root = ap (λ (p : ℕ). frameAt (t′ .frames) p .root) new-place ∙ ap (λ (G : FrameRecord). G .root) (S .child)
 
   roots : rootsOf (t′ .frames) at′ (child q ∷ afterSpawn q ∷ others) ≡ treeOf (c .frames) (r .at) q ∷ rootsOf (c .frames) (r .at) (q ∷ others)
   roots =
@@ -268,7 +269,7 @@ module _ {P : Trees} {M : Machine} {c : Core} (r : Relates P M c) (tree : FrameT
       (map-cong (treeOf (t′ .frames) at′) (treeOf (c .frames) (r .at)) others (λ f i. ap (λ (x : ℕ). (x, f .history)) (same-root f i))))
 
   acting-root : actingIn c w .root ≡ rootOf (c .frames) (r .at) q
-  acting-root = ap (λ (G : FrameWords). G .root) (acting-frame r w q d lt e)
+  acting-root = ap (λ (G : FrameRecord). G .root) (acting-frame r w q d lt e)
 
   module _ (laws : TreeLaws (c .head .numbers .nodes) (M .splitters) P) where
     retained : P (retain (c .pool) (rootOf (c .frames) (r .at) q)) (c .head .numbers .«free_node») (c .head .«free_count») (treeOf (c .frames) (r .at) q ∷ rootsOf (c .frames) (r .at) (q ∷ others))
@@ -306,7 +307,7 @@ module _ {P : Trees} {M : Machine} {c : Core} (r : Relates P M c) (tree : FrameT
     spawn-relates = record {
       at = at′;
       gs = hs;
-      numbers = same-numbers M c (spawnedCore c w) (M′ .deques) (M .suspended) (length-set (M .deques) w (child q ∷ afterSpawn q ∷ d)) (r .numbers) refl refl refl refl;
+      numbers = same-numbers M c (spawnedCore c w) (M′ .deques) (M .suspended) (length-set (M .deques) w (child q ∷ afterSpawn q ∷ d)) (r .numbers) refl refl refl refl refl (S .after .same-length);
       formed = S .after .formed;
       deques = deques-after;
       running = running-after;
@@ -319,14 +320,14 @@ module _ {P : Trees} {M : Machine} {c : Core} (r : Relates P M c) (tree : FrameT
     }
 
   child-answer : plus (actingIn c w .depth) 1 ≡ suc (length (q .name))
-  child-answer = ap (λ (G : FrameWords). plus (G .depth) 1) (acting-frame r w q d lt e) ∙ child-depth
+  child-answer = ap (λ (G : FrameRecord). plus (G .depth) 1) (acting-frame r w q d lt e) ∙ child-depth
 
   first-place : c .head .numbers .«free_place» ≡ g
   first-place = formed .places .0
 
   free-live : frameAt (c .frames) g .live ≡ 0
   free-live =
-      ap (λ (G : FrameWords). G .live) (r .vacant g (formed .places .1) (subst (λ (z : List ℕ). 0 < count g z) (sym eg) (omega (arith, count-cons g g hs, δ-same g))) .1)
+      ap (λ (G : FrameRecord). G .live) (r .vacant g (formed .places .1) (subst (λ (z : List ℕ). 0 < count g z) (sym eg) (omega (arith, count-cons g g hs, δ-same g))) .1)
 
   named-to : (f : Frame) → In f (live M) → (h : Frame) × In h (live M′) × (h .name ≡ f .name)
   named-to f m = elim (In-cons (In-perm before m)) [
@@ -337,23 +338,26 @@ module _ {P : Trees} {M : Machine} {c : Core} (r : Relates P M c) (tree : FrameT
 -- ---- with the youngest of the other children linked to the new one
 
 module _ {P : Trees} {M : Machine} {c : Core} (r : Relates P M c) (tree : FrameTree M) (w : ℕ) (q : Frame) (d : List Frame)
-    (lt : w < length (M .deques)) (e : deque M w ≡ q ∷ d) (few : length (live M) < places) (g : ℕ) (hs : List ℕ) (eg : r .gs ≡ g ∷ hs)
+    (lt : w < length (M .deques)) (e : deque M w ≡ q ∷ d) (few : length (live M) < length (c .frames)) (g : ℕ) (hs : List ℕ) (eg : r .gs ≡ g ∷ hs)
     (laws : TreeLaws (c .head .numbers .nodes) (M .splitters) P) where
   abbrev own-place : ℕ
   own-place = r .at (q .name)
 
   -- the records with the new link
-  abbrev linked : List ℕ
+  abbrev linked : List FrameRecord
   linked = linkChild (c .frames) own-place (c .head .numbers .«free_place»)
 
   abbrev c₀ : Core
   c₀ = withFrameTable c linked
 
   alike : Alike (c .frames) linked
-  alike = link-alike (c .frames) own-place (c .head .numbers .«free_place») (r .formed .long)
+  alike = link-alike (c .frames) own-place (c .head .numbers .«free_place»)
 
   abbrev r₀ : Relates P M c₀
   r₀ = relates-alike r linked alike
+
+  few₀ : length (live M) < length linked
+  few₀ = omega (arith, few, alike .same-length)
 
   -- the step is that of the core with the new link
   spawn-core : spawnOn c w .core ≡ spawnedCore c₀ w
@@ -361,24 +365,25 @@ module _ {P : Trees} {M : Machine} {c : Core} (r : Relates P M c) (tree : FrameT
   spawn-core = rw (acting-place r w q d lt e, alike .same own-place .root)
 
   related : Relates P (afterAction M w (q ∷ d) spawn) (spawnedCore c₀ w)
-  related = spawn-relates r₀ tree w q d lt e few g hs eg laws
+  related = spawn-relates r₀ tree w q d lt e few₀ g hs eg laws
 
   same-free : c .head .numbers .«free_place» ≡ g
-  same-free = first-place r₀ tree w q d lt e few g hs eg
+  same-free = first-place r₀ tree w q d lt e few₀ g hs eg
 
   spawns : Spawns r related q
   unfolding related spawn-relates
   spawns =
-      let S₀ = S r₀ tree w q d lt e few g hs eg in
+      let S₀ = S r₀ tree w q d lt e few₀ g hs eg in
       record {
+        same-length = S₀ .after .same-length ∙ alike .same-length;
         bottom-lives = bottom-in r w q d e;
-        child-place = new-place r₀ tree w q d lt e few g hs eg ∙ sym same-free;
-        inside = subst (λ (z : ℕ). z < places) (sym same-free) (formed r₀ tree w q d lt e few g hs eg .places .1);
+        child-place = new-place r₀ tree w q d lt e few₀ g hs eg ∙ sym same-free;
+        inside = subst (λ (z : ℕ). z < length (c .frames)) (sym same-free) (omega (arith, alike .same-length, formed r₀ tree w q d lt e few₀ g hs eg .places .1));
         vacant = subst (λ (z : ℕ). frameAt (c .frames) z .live ≡ 0) (sym same-free) (free-live r tree w q d lt e few g hs eg);
-        places-kept = λ f m. same-place r₀ tree w q d lt e few g hs eg f (In-perm (live-at M w (q ∷ d) lt e) m);
-        from = named-from r₀ tree w q d lt e few g hs eg;
-        to = named-to r₀ tree w q d lt e few g hs eg;
-        new-lives = In-perm (Permᴰ·symm (after r₀ tree w q d lt e few g hs eg)) (here refl);
+        places-kept = λ f m. same-place r₀ tree w q d lt e few₀ g hs eg f (In-perm (live-at M w (q ∷ d) lt e) m);
+        from = named-from r₀ tree w q d lt e few₀ g hs eg;
+        to = named-to r₀ tree w q d lt e few₀ g hs eg;
+        new-lives = In-perm (Permᴰ·symm (after r₀ tree w q d lt e few₀ g hs eg)) (here refl);
         own = S₀ .parent;
         new = subst (λ (z : ℕ). frameAt (addChild (tableOf c₀) w .frames) z ≡ childOf (frameAt linked own-place) own-place) (sym same-free) (S₀ .child);
         others = λ p n m. S₀ .after .records p (subst (λ (z : ℕ). p ≢ z) same-free n, (m, tt));
@@ -398,8 +403,8 @@ sim-spawn P M c w laws tree h r =
     let x = acts M w spawn h in
     let q = x .actor in
     let d = x .above in
-    let few : length (live M) < places = subst (λ z. z < places) (sym (perm-length (x .before))) (x .allowed) in
-    let y = first-free (r .gs) (place-left (r .at) (r .gs) (live M) (r .once) few) in
+    let few : length (live M) < length (c .frames) = subst (λ z. length (live M) < z) (r .numbers .table) (subst (λ z. z < M .places) (sym (perm-length (x .before))) (x .allowed)) in
+    let y = first-free (r .gs) (place-left (length (c .frames)) (r .at) (r .gs) (live M) (r .once) few) in
     spawned-by r tree w q d (x .worker) (x .at) few (y .0) (y .1) (y .2) laws
   where
     first-free : (gs : List ℕ) → 0 < length gs → (g : ℕ) × (hs : List ℕ) × (gs ≡ g ∷ hs)

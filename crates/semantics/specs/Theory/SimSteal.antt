@@ -78,15 +78,15 @@ module _ (P : Trees) (M : Machine) (c : Core) (w v : ℕ) (s : Steals M w v) (r 
   ]
 
   stays : (u : ℕ) (f : Frame) → Recorded (c .frames) (r .at) (live M) u f → Recorded (c .frames) (r .at) (live next) u f
-  stays u f k = recorded-kept (c .frames) (c .frames) (r .at) (r .at) (live M) (live next) u f refl refl refl (sym (childCount-perm (f .name) (s .same-frames))) k
+  stays u f k = recorded-kept (c .frames) (c .frames) (r .at) (r .at) (live M) (live next) u f refl refl refl refl (sym (childCount-perm (f .name) (s .same-frames))) k
 
   related : TreeLaws (c .head .numbers .nodes) (M .splitters) P → Relates P next (stealOn c w v .core)
   unfolding stealOn
   related laws = record {
     at = r .at;
     gs = r .gs;
-    numbers = same-numbers M c (stealOn c w v .core) (next .deques) (M .suspended) (sizes-turn M (stealing w v) .workers) (r .numbers) refl refl refl refl;
-    formed = record { shaped = moved .formed .shaped; long = r .formed .long; places = r .formed .places };
+    numbers = same-numbers M c (stealOn c w v .core) (next .deques) (M .suspended) (sizes-turn M (stealing w v) .workers) (r .numbers) refl refl refl refl refl refl;
+    formed = record { shaped = moved .formed .shaped; few = r .formed .few; places = r .formed .places };
     deques = lists;
     running = λ f m. stays 0 f (r .running f (still-runs f m));
     waiting = λ f m. stays 1 f (r .waiting f m);
@@ -100,6 +100,7 @@ module _ (P : Trees) (M : Machine) (c : Core) (w v : ℕ) (s : Steals M w v) (r 
   related-keeps : (laws : TreeLaws (c .head .numbers .nodes) (M .splitters) P) → Keeps r (related laws)
   unfolding stealOn related
   related-keeps laws = record {
+    same-length = refl;
     places = λ n. refl;
     live = λ p. refl;
     parent = λ p. refl;

@@ -14,8 +14,8 @@ use Rattle.sizes.specs.Sizes.{height}
 use Rattle.pool.specs.Pool.{readAt}
 use Rattle.pool.specs.Pool.{rest as rest-of}
 use Rattle.pool.specs.Pool.{write as path}
-use Rattle.frames.specs.Widths.{places}
-use Rattle.frames.specs.declared.Frame.{Frame as Words}
+use Rattle.frames.specs.Widths.{maxPlaces}
+use Rattle.frames.specs.declared.Frame.{Frame as FrameRecord}
 use Rattle.frames.specs.Frames.{frameAt, setFrame, withRoot}
 use Rattle.frames.specs.Theory.Records.{length-setFrame, frame-set-same, frame-set-other}
 use Rattle.frames.specs.Theory.Places.{free-elsewhere}
@@ -42,10 +42,10 @@ module _ (P : Trees) (M : Machine) (c : Core) (w x v : ℕ) (q : Frame) (d : Lis
   abbrev after : List ℕ × ℕ × ℕ × ℕ
   after = path (height (M .splitters)) (c .pool) (c .head .numbers .«free_node») (c .head .«free_count») root x v
 
-  abbrev new-record : Words
+  abbrev new-record : FrameRecord
   new-record = withRoot (frameAt (c .frames) (r .at (q .name))) (after .3)
 
-  abbrev new-frames : List ℕ
+  abbrev new-frames : List FrameRecord
   new-frames = setFrame (c .frames) (r .at (q .name)) new-record
 
   abbrev new-did : StepResult
@@ -74,8 +74,9 @@ module _ (P : Trees) (M : Machine) (c : Core) (w x v : ℕ) (q : Frame) (d : Lis
 
   carries : Carried r next new-frames q (written q x v) others (new-record .suspended) (after .3)
   carries =
-      carried r next new-frames q (written q x v) others (new-record .suspended) (after .3) (new-record .returning) refl (acting-record r w q d lt e .returning) before afterwards
-      (frame-set-same (c .frames) (r .at (q .name)) new-record (r .formed .long) (placed-inside r q q-lives))
+      carried r next new-frames q (written q x v) others (new-record .suspended) (after .3) (new-record .returning) refl (acting-record r w q d lt e .returning)
+      (length-setFrame (c .frames) (r .at (q .name)) new-record) before afterwards
+      (frame-set-same (c .frames) (r .at (q .name)) new-record (placed-inside r q q-lives))
       (λ p n. frame-set-other (c .frames) (r .at (q .name)) p new-record n)
 
   recorded : Recorded new-frames (r .at) (live next) 0 (written q x v)
@@ -90,10 +91,10 @@ module _ (P : Trees) (M : Machine) (c : Core) (w x v : ℕ) (q : Frame) (d : Lis
       let o = Memᴰ·of-map (treeOf (c .frames) (r .at)) (q ∷ others) m in
       mark-fresh (live M) marks q (o .0) q-lives (In-perm (Permᴰ·symm before) (o .1)) v (subst (λ (z : ℕ × History). In v (z .1)) (sym (o .2)) mv)
 
-  module _ (laws : TreeLaws (c .head .numbers .nodes) (M .splitters) P) (marks : MarkInvariant (live M)) (bounds : Bounded (M .splitters) (live M)) (below : x < M .splitters)
+  module _ (laws : TreeLaws (c .head .numbers .nodes) (M .splitters) P) (marks : MarkInvariant (live M)) (bounds : Bounded (M .splitters) (M .places) (live M)) (below : x < M .splitters)
       (room : rest-of (height (M .splitters)) (c .pool) root x ≤ c .head .«free_count») where
-    few : length (rootsOf (c .frames) (r .at) others) < places
-    few = omega (arith, length-map others (treeOf (c .frames) (r .at)), perm-length before, bounds .0)
+    few : length (rootsOf (c .frames) (r .at) others) < maxPlaces
+    few = omega (arith, length-map others (treeOf (c .frames) (r .at)), perm-length before, bounds .0, r .numbers .table, r .formed .few)
 
     law : P (after .0) (after .1) (after .2) ((after .3, event x (length (q .history) ∷ q .name) ∷ q .history) ∷ rootsOf (c .frames) (r .at) others)
         × Kept (height (M .splitters)) (M .splitters) (c .pool) (after .0) (rootsOf (c .frames) (r .at) others)
@@ -120,10 +121,10 @@ module _ (P : Trees) (M : Machine) (c : Core) (w x v : ℕ) (q : Frame) (d : Lis
     related = record {
       at = r .at;
       gs = r .gs;
-      numbers = same-numbers M c (new-did .core) (next .deques) (M .suspended) (length-set (M .deques) w (written q x v ∷ d)) (r .numbers) refl refl refl refl;
+      numbers = same-numbers M c (new-did .core) (next .deques) (M .suspended) (length-set (M .deques) w (written q x v ∷ d)) (r .numbers) refl refl refl refl refl (length-setFrame (c .frames) (r .at (q .name)) new-record);
       formed = record {
         shaped = r .formed .shaped;
-        long = length-setFrame (c .frames) (r .at (q .name)) new-record ∙ r .formed .long;
+        few = omega (arith, length-setFrame (c .frames) (r .at (q .name)) new-record, r .formed .few);
         places = free-elsewhere (c .frames) (c .head .numbers .«free_place») (r .at (q .name)) (r .gs) (placed-taken r q q-lives) (r .formed .places) new-record;
       };
       deques = lists-with (r .at) (c .deques) (M .deques) w (written q x v ∷ d) lt (acting-deque r w q d lt e) (λ u h n. r .deques u h);
@@ -149,7 +150,7 @@ module _ (P : Trees) (M : Machine) (c : Core) (w x v : ℕ) (q : Frame) (d : Lis
     unfolding related
     related-keeps = keeps-stored r related (λ n. refl) refl carries
 
-pub sim-write : (P : Trees) (M : Machine) (c : Core) (w x v : ℕ) → TreeLaws (c .head .numbers .nodes) (M .splitters) P → MarkInvariant (live M) → Bounded (M .splitters) (live M)
+pub sim-write : (P : Trees) (M : Machine) (c : Core) (w x v : ℕ) → TreeLaws (c .head .numbers .nodes) (M .splitters) P → MarkInvariant (live M) → Bounded (M .splitters) (M .places) (live M)
     → (h : Passes M (acting w (write x v))) (r : Relates P M c) → rest-of (height (M .splitters)) (c .pool) (rootOf (c .frames) (r .at) (acts M w (write x v) h .actor)) x ≤ c .head .«free_count»
     → (r′ : Relates P (afterTurn M (acting w (write x v))) (writeOn c w x v .core)) × Keeps r r′ × (answerWords (writeOn c w x v .answer) ≡ (106, writeOn c w x v .core .head .«free_count»))
 sim-write P M c w x v laws marks bounds h r room =

@@ -101,7 +101,7 @@ moved {P} r W′ {M₁} {M₂} {c₁} {c₂} m e x =
     subst (λ (N : Machine). (r″ : Relates P N c₂) × CarriesOn r r″ W′) (sym m) (subst (λ (d : Core). (r″ : Relates P M₁ d) × CarriesOn r r″ W′) (sym e) x)
 
 module _ (P : Trees) (M : Machine) (c : Core) (r : Relates P M c) (K : Links (c .frames) (r .at) (live M)) (laws : TreeLaws (c .head .numbers .nodes) (M .splitters) P) (tree : FrameTree M) (shape : DequeInvariant M)
-    (marks : MarkInvariant (live M)) (bounds : Bounded (M .splitters) (live M)) where
+    (marks : MarkInvariant (live M)) (bounds : Bounded (M .splitters) (M .places) (live M)) where
   -- an accepted step but a write
   simulated : (st : Step) → Accepted M st → stepOn c st ≡ doneBy c st → SimulatesTurn r st → Simulates r st
   simulated st a e s =

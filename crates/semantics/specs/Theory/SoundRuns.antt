@@ -30,7 +30,7 @@ use Rattle.semantics.specs.Theory.SoundSteps.{Carried, is-sound, sound-c
 use Rattle.semantics.specs.Theory.Elsewhere.{carried-elsewhere}
 use Rattle.semantics.specs.Theory.Fitting.{fits-true, true-fits, state-back, totals-long}
 use Rattle.semantics.specs.Theory.Runs.{Laws, KeptBy, core-fits, call-follows}
-use Rattle.semantics.specs.Theory.Images.{sound-room, save-taken, accepted-save, LoadTaken, SaysCore, saved-says, load-takes, pool-with, front-same, loaded-state, loaded-front, loaded-beyond}
+use Rattle.semantics.specs.Theory.Images.{sound-numbers, sound-room, save-taken, accepted-save, LoadTaken, SaysCore, saved-says, load-takes, pool-with, front-same, loaded-state, loaded-front, loaded-beyond}
 use Rattle.semantics.specs.Theory.WholeRuns.{kept-begun, kept-calls, fed-sound, answers-by}
 
 -- ---- a write's answer is the engine's own number of free nodes
@@ -141,7 +141,7 @@ follows-sound h fit e =
     record {
       core = coreIn h;
       held = ap (λ z. record { state = z; pool = h .pool }) (sym (state-back s (h .pool) (coreIn h .head .«free_count») L));
-      follows = sound-carried (numbersOf s) (totalsOf s) (s .deques) (s .frames) (h .pool) (totals-long s L) (L .deques) (L .frames) e;
+      follows = sound-carried (numbersOf s) (totalsOf s) (s .deques) (s .frames) (h .pool) (totals-long s L) (L .deques) e;
     }
 
 pub sound-run : (h : StateAndPool) (calls : List Call) → fits (h .state) ≡ true → isSound (h .state) (h .pool) ≡ true → StateWords (h .state) (h .pool) → AllCallWords calls → SoundRun h calls
@@ -172,7 +172,7 @@ module _ (h : StateAndPool) (fit : fits (h .state) ≡ true) (e : isSound (h .st
   unfolding c
   room = sound-room (h .state) (h .pool) e
 
-  module _ (image : List ℕ) (says : SaysCore image c) (s : State) (ws work : List ℕ) (parts-fit : fits s ≡ true) (held : 4 * numbersOf (h .state) .nodes ≤ length ws) (long : numbersOf (h .state) .nodes ≤ length work) where
+  module _ (image : List ℕ) (says : SaysCore image c) (s : State) (ws work : List ℕ) (parts-fit : fits s ≡ true) (as-many : length (s .frames) ≡ length (h .state .frames)) (held : 4 * numbersOf (h .state) .nodes ≤ length ws) (long : numbersOf (h .state) .nodes ≤ length work) where
     -- in a pool with the same nodes it is sound
     sound-there : isSound (stateIn image) (poolWith ws image) ≡ true
     unfolding c
@@ -183,7 +183,7 @@ module _ (h : StateAndPool) (fit : fits (h .state) ≡ true) (e : isSound (h .st
 
     taken : LoadTaken s ws work image
     unfolding c
-    taken = load-takes image c says s ws work parts-fit long sound-there
+    taken = load-takes image c says s ws work parts-fit (as-many ∙ sound-numbers (h .state) (h .pool) e .table ∙ ap (λ (t : State). numbersOf t .places) (sym same)) long sound-there
 
     there : ReadsBack h image s ws work
     unfolding c
@@ -205,9 +205,9 @@ module _ (h : StateAndPool) (fit : fits (h .state) ≡ true) (e : isSound (h .st
     unfolding c
     says-saved = subst (λ (t : State). SaysCore (savedImage t (h .pool)) (coreIn h)) same (saved-says (coreIn h) core-words (core-fits carries) (is-sound carries .0))
 
-pub reads-back : (h : StateAndPool) (work₀ target : List ℕ) → saveResult h work₀ target .result ≡ 0 → StateWords (h .state) (h .pool) → (s : State) (ws work : List ℕ) → fits s ≡ true
+pub reads-back : (h : StateAndPool) (work₀ target : List ℕ) → saveResult h work₀ target .result ≡ 0 → StateWords (h .state) (h .pool) → (s : State) (ws work : List ℕ) → fits s ≡ true → length (s .frames) ≡ length (h .state .frames)
     → 4 * numbersOf (h .state) .nodes ≤ length ws → numbersOf (h .state) .nodes ≤ length work → ReadsBack h (writtenImage h work₀ target) s ws work
-reads-back h work₀ target z words s ws work f held long =
+reads-back h work₀ target z words s ws work f as-many held long =
     let T = save-taken h work₀ target z in
     let fit = fits-true (h .state) (T .parts) in
-    subst (λ (b : List ℕ). ReadsBack h b s ws work) (sym (accepted-save h work₀ target z .image)) (there h fit (T .still) (savedImage (h .state) (h .pool)) (says-saved h fit (T .still) words) s ws work f held long)
+    subst (λ (b : List ℕ). ReadsBack h b s ws work) (sym (accepted-save h work₀ target z .image)) (there h fit (T .still) (savedImage (h .state) (h .pool)) (says-saved h fit (T .still) words) s ws work f as-many held long)

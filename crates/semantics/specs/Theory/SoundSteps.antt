@@ -13,10 +13,11 @@ use Rattle.sizes.specs.Sizes.{height}
 use Rattle.pool.specs.Pool.{retain}
 use Rattle.pool.specs.Pool.{rest as rest-of}
 use Rattle.pool.specs.Pool.{write as writePath}
-use Rattle.frames.specs.Widths.{places, frameWords, dequeWords}
+use Rattle.frames.specs.declared.Frame.{Frame as FrameRecord}
+use Rattle.frames.specs.Widths.{maxPlaces, dequeWords}
 use Rattle.soundness.specs.declared.Numbers.{Numbers}
 use Rattle.soundness.specs.Numbers.{totalCount}
-use Rattle.soundness.specs.Soundness.{sound}
+use Rattle.soundness.specs.Soundness.{sound, freeCount}
 use Rattle.model.specs.declared.Decoded.the-variants.{Valid}
 use Rattle.model.specs.declared.Step.{Step}
 use Rattle.model.specs.declared.Step.the-variants.{Spawn, Return, Steal, Sync, Read, Write, Fold}
@@ -43,6 +44,7 @@ use Rattle.semantics.specs.Theory.Pools.{LiveTrees, live-laws, Beyond, s
 use Rattle.semantics.specs.Theory.Returning.{return-keeps-beyond}
 use Rattle.semantics.specs.Theory.Refusals.{SameRoom, enough, refused-alike}
 use Rattle.semantics.specs.Theory.Simulation.{Simulates, simulates, numbers-kept}
+use Rattle.semantics.specs.Theory.NumberWords.{numbers-in, totals-in}
 use Rattle.semantics.specs.Theory.ToSound.{to-sound}
 use Rattle.semantics.specs.Theory.Words.{refusal-low}
 use Rattle.semantics.specs.Theory.FromSoundRelates.{countedCore, from-sound}
@@ -57,8 +59,8 @@ module _ (M : Machine) (c : Core) (r : Relates (LiveTrees (c .head .numbers .nod
   root-is : (a : Action) (w : ℕ) (x : Acts M w a) → actingIn c w .root ≡ rootOf (c .frames) (r .at) (x .actor)
   root-is a w x = ap (λ f. f .root) (acting-frame r w (x .actor) (x .above) (x .worker) (x .at))
 
-  few : (a : Action) (w : ℕ) (x : Acts M w a) → length (rootsOf (c .frames) (r .at) (x .above ++ rest M w)) < places
-  few a w x = omega (arith, length-map (x .above ++ rest M w) (treeOf (c .frames) (r .at)), perm-length (x .before), live-few r)
+  few : (a : Action) (w : ℕ) (x : Acts M w a) → length (rootsOf (c .frames) (r .at) (x .above ++ rest M w)) < maxPlaces
+  few a w x = omega (arith, length-map (x .above ++ rest M w) (treeOf (c .frames) (r .at)), perm-length (x .before), live-few r, r .formed .few)
 
   done-beyond : (st : Step) → SameRoom M c st → Passes M (turnOf st) → Beyond (c .head .numbers .nodes) (c .pool) (doneBy c st .core .pool)
   unfolding spawnOn stealOn syncOn readOn writeOn foldOn
@@ -119,16 +121,23 @@ pub record Carried (M : Machine) (c : Core) : Type 0 where
   pub tree : FrameTree M
   pub deques : DequeInvariant M
   pub marks : MarkInvariant (live M)
-  pub bounds : Bounded (M .splitters) (live M)
+  pub bounds : Bounded (M .splitters) (M .places) (live M)
   pub same-free : c .head .«free_count» ≡ freeNodes M
 
+-- its numbers, words and records are sound; so is its state
+pub core-sound : {M : Machine} {c : Core} → Carried M c → (sound (c .head .numbers) (c .totals) (c .deques) (c .frames) (c .pool) ≡ true) × (freeCount (c .head .numbers) (c .pool) ≡ c .head .«free_count»)
+core-sound {M} {c} K = to-sound M c (K .related) (K .tree) (K .deques) (K .links)
+
 pub is-sound : {M : Machine} {c : Core} → Carried M c → (isSound (stateOf c) (c .pool) ≡ true) × (chainFree (stateOf c) (c .pool) ≡ c .head .«free_count»)
-is-sound {M} {c} K = to-sound M c (K .related) (K .tree) (K .deques) (K .links)
+is-sound {M} {c} K =
+    let s = c .head .numbers in
+    let long = K .related .totals .long in
+    rw (numbers-in s (c .totals) long, totals-in s (c .totals) long) (core-sound K)
 
 -- the plain machine of a sound state follows it
-pub sound-carried : (s : Numbers) (ts ds fs ws : List ℕ) → length ts ≡ totalCount → length ds ≡ dequeWords → length fs ≡ frameWords → sound s ts ds fs ws ≡ true → Carried (machineOf s ds fs ws) (countedCore s ts ds fs ws)
-sound-carried s ts ds fs ws tlen dlen flen e =
-    let F = from-sound s ts ds fs ws e tlen dlen flen in
+pub sound-carried : (s : Numbers) (ts ds : List ℕ) (fs : List FrameRecord) (ws : List ℕ) → length ts ≡ totalCount → length ds ≡ dequeWords → sound s ts ds fs ws ≡ true → Carried (machineOf s ds fs ws) (countedCore s ts ds fs ws)
+sound-carried s ts ds fs ws tlen dlen e =
+    let F = from-sound s ts ds fs ws e tlen dlen in
     record { related = F .0; links = F .1; tree = F .2; deques = F .3; marks = F .4; bounds = F .5; same-free = F .6 }
 
 -- ---- the machine with other nodes
@@ -149,6 +158,9 @@ module _ (M : Machine) (N : ℕ) where
       height-is = r .numbers .height-is;
       enough = r .numbers .enough;
       nodes-le = r .numbers .nodes-le;
+      places = r .numbers .places;
+      places-positive = r .numbers .places-positive;
+      table = r .numbers .table;
     };
     formed = r .formed;
     deques = r .deques;
@@ -168,7 +180,7 @@ module _ (M : Machine) (N : ℕ) where
   deques-nodes d = record { shape = d .shape; active = d .active; waits = d .waits }
 
 pub rebased : (M : Machine) (c : Core) (k : ℕ) (r : Relates (LiveTrees (c .head .numbers .nodes) (M .splitters)) M c) → Links (c .frames) (r .at) (live M) → FrameTree M → DequeInvariant M → MarkInvariant (live M)
-    → Bounded (M .splitters) (live M) → c .head .«free_count» ≡ k → Carried (withFree M k) c
+    → Bounded (M .splitters) (M .places) (live M) → c .head .«free_count» ≡ k → Carried (withFree M k) c
 unfolding relates-nodes
 rebased M c k r l t d m b e =
     let N = inUse (M .splitters) (live M) + k in
@@ -226,11 +238,11 @@ module _ (M : Machine) (c : Core) (K : Carried M c) where
 
 -- what is kept of the machine
 abbrev Invariants : Machine → Type 0
-Invariants M = FrameTree M × DequeInvariant M × MarkInvariant (live M) × Bounded (M .splitters) (live M)
+Invariants M = FrameTree M × DequeInvariant M × MarkInvariant (live M) × Bounded (M .splitters) (M .places) (live M)
 
 kept-turn : (M : Machine) (t : Turn) → Passes M t → Invariants M → Invariants (afterTurn M t)
 kept-turn M t h i =
-    (tree-turn M t h (i .0), deques-turn M t h (i .0) (i .1), marks-turn M t h (i .0) (i .2), subst (λ n. Bounded n (live (afterTurn M t))) (sym (sizes-turn M t .splitters)) (bounded-turn M t h (i .3)))
+    (tree-turn M t h (i .0), deques-turn M t h (i .0) (i .1), marks-turn M t h (i .0) (i .2), rw ((sizes-turn M t) .splitters, (sizes-turn M t) .places) (bounded-turn M t h (i .3)))
 
 -- the relation, with the links
 abbrev Linked : ℕ → ℕ → Machine → Core → Type 0

@@ -16,7 +16,8 @@ use Rattle.words.specs.Counting.{δ-same, δ-other, count-nil, count-cons, rang
 use Rattle.sizes.specs.Sizes.{height, treeNodes}
 use Rattle.pool.specs.Pool.{readAt, initPool}
 use Rattle.pool.specs.Theory.Good.{After, good-start}
-use Rattle.frames.specs.Widths.{places, frameWords, dequeWords}
+use Rattle.frames.specs.declared.Frame.{Frame as FrameRecord}
+use Rattle.frames.specs.Widths.{dequeWords}
 use Rattle.frames.specs.Frames.{frameAt, mainFrame, initFrames}
 use Rattle.frames.specs.Deques.{initDeques, dequeList}
 use Rattle.frames.specs.Theory.Start.{length-init, init-main, init-free, init-places, init-shaped, init-first, init-others}
@@ -30,41 +31,42 @@ use Rattle.semantics.specs.Theory.Relation.{Recorded, Relates, placesOf,
 use Rattle.semantics.specs.Theory.Pools.{GoodTrees}
 use Rattle.semantics.specs.Theory.Starts.{Fit}
 
--- the core that an accepted start hands out
-abbrev pub firstCore : ℕ → List ℕ → List ℕ → Core
-firstCore workers vs ws =
-    coreOf (firstState workers (length vs) (wholeNodes ws) (initPool ws (length vs) (wholeNodes ws) vs .1)) (initPool ws (length vs) (wholeNodes ws) vs .0) (wholeNodes ws - treeNodes (length vs))
+-- the core that an accepted start hands out, over the lent table
+abbrev pub firstCore : ℕ → List ℕ → List FrameRecord → List ℕ → Core
+firstCore workers vs lent ws =
+    coreOf (firstState workers (length vs) (wholeNodes ws) (initPool ws (length vs) (wholeNodes ws) vs .1) lent) (initPool ws (length vs) (wholeNodes ws) vs .0) (wholeNodes ws - treeNodes (length vs))
 
 getD-none : {A : Type 0} (n w : ℕ) → getD (replicate {A = List A} n []) w [] ≡ []
 getD-none zero w = refl
 getD-none (suc n) zero = refl
 getD-none (suc n) (suc w) = getD-none n w
 
-module _ (workers : ℕ) (vs ws : List ℕ) (F : Fit workers vs ws) where
+module _ (workers : ℕ) (vs : List ℕ) (lent : List FrameRecord) (ws : List ℕ) (F : Fit workers vs lent ws) where
   N : ℕ
   N = wholeNodes ws
 
   n : ℕ
   n = length vs
 
-  zeros : length (replicate {A = ℕ} frameWords 0) ≡ frameWords
-  zeros = length-replicate {A = ℕ} frameWords 0
+  fs : List FrameRecord
+  fs = initFrames lent
 
-  fs : List ℕ
-  fs = initFrames (replicate frameWords 0)
+  long : length fs ≡ length lent
+  unfolding fs
+  long = length-init lent
 
   main-at : frameAt fs 0 ≡ mainFrame 0
   unfolding fs
-  main-at = init-main (replicate frameWords 0) zeros
+  main-at = init-main lent (F .places-positive) (F .places-le)
 
   room : 4 * N ≤ length ws
   unfolding N
   room = mul-div-le (length ws) 4
 
-  recorded : (f : Frame) → f ≡ main vs → Recorded fs (λ _. 0) (live (start workers vs N)) 0 f
-  recorded f e = subst (λ g. Recorded fs (λ _. 0) (live (start workers vs N)) 0 g) (sym e) (subst (λ L. Recorded fs (λ _. 0) L 0 (main vs)) (sym (live-start workers vs N))
+  recorded : (f : Frame) → f ≡ main vs → Recorded fs (λ _. 0) (live (start workers vs N (length lent))) 0 f
+  recorded f e = subst (λ g. Recorded fs (λ _. 0) (live (start workers vs N (length lent))) 0 g) (sym e) (subst (λ L. Recorded fs (λ _. 0) L 0 (main vs)) (sym (live-start workers vs N (length lent)))
       (record {
-        inside = omega arith;
+        inside = omega (arith, long, F .places-positive);
         live = ap (λ r. r .live) main-at;
         parent = ap (λ r. r .parent) main-at;
         depth = ap (λ r. r .depth) main-at;
@@ -73,32 +75,35 @@ module _ (workers : ℕ) (vs ws : List ℕ) (F : Fit workers vs ws) where
         returning = ap (λ r. r .returning) main-at;
       }))
 
-  pub start-relates : Relates (GoodTrees (wholeNodes ws) (length vs)) (start workers vs (wholeNodes ws)) (firstCore workers vs ws)
+  pub start-relates : Relates (GoodTrees (wholeNodes ws) (length vs)) (start workers vs (wholeNodes ws) (length lent)) (firstCore workers vs lent ws)
   unfolding N n fs
   start-relates = record {
     at = λ _. 0;
-    gs = range 63 1;
+    gs = range (length lent - 1) 1;
     numbers = record {
-      workers = sym (sizes-start workers vs N (F .workers-positive));
-      workers-positive = omega (arith, sizes-start workers vs N (F .workers-positive), F .workers-positive);
-      workers-le = omega (arith, sizes-start workers vs N (F .workers-positive), F .workers-le);
+      workers = sym (sizes-start workers vs N (length lent) (F .workers-positive));
+      workers-positive = omega (arith, sizes-start workers vs N (length lent) (F .workers-positive), F .workers-positive);
+      workers-le = omega (arith, sizes-start workers vs N (length lent) (F .workers-positive), F .workers-le);
       splitters = refl;
       splitters-positive = F .values-positive;
       splitters-le = F .values-le;
       height-is = refl;
       enough = F .enough;
       nodes-le = F .nodes-le;
+      places = refl;
+      places-positive = F .places-positive;
+      table = sym long;
     };
-    formed = record { shaped = init-shaped; long = length-init (replicate frameWords 0) zeros; places = init-places (replicate frameWords 0) zeros };
+    formed = record { shaped = init-shaped; few = omega (arith, long, F .places-le); places = init-places lent (F .places-positive) (F .places-le) };
     deques = deque-at;
     running = λ f m. recorded f (In-one (subst (λ L. In f L) (ap (λ z. main vs ∷ z) (joined-empty (workers - 1))) m));
     waiting = λ f m. absurd (not-in-nil m);
-    once = λ p b. subst (λ L. count p (range 63 1) + count p (placesOf (λ _. 0) L) ≡ 1) (sym (live-start workers vs N)) (once-at p b);
-    vacant = λ p b c. (cond (eqb p 63) none (suc p), init-free (replicate frameWords 0) zeros p (not-first p c) b);
+    once = λ p b. subst (λ L. count p (range (length lent - 1) 1) + count p (placesOf (λ _. 0) L) ≡ 1) (sym (live-start workers vs N (length lent))) (once-at p (omega (arith, long, b)));
+    vacant = λ p b c. (cond (eqb p (length lent - 1)) none (suc p), init-free lent (F .places-positive) (F .places-le) p (not-first p c) (omega (arith, long, b)));
     totals = record { long = length-replicate {A = ℕ} totalCount 0; zero = λ f m e i b. getD-replicate totalCount i 0 0 b };
-    trees = subst (λ L. GoodTrees N n words first free-count (rootsOf fs (λ _. 0) L)) (sym (live-start workers vs N))
+    trees = subst (λ L. GoodTrees N n words first free-count (rootsOf fs (λ _. 0) L)) (sym (live-start workers vs N (length lent)))
         (subst (λ (r : ℕ). GoodTrees N n words first free-count ((r, []) ∷ [])) (sym root-is) (started .0 .good));
-    values = λ f m x b. (let e : f ≡ main vs = In-one (subst (λ L. In f L) (live-start workers vs N) m) in
+    values = λ f m x b. (let e : f ≡ main vs = In-one (subst (λ L. In f L) (live-start workers vs N (length lent)) m) in
         ap (λ (r : ℕ). readAt (height n) words r x) root-is ∙ started .1 x b ∙ ap (λ g. getD (g .values) x 0) (sym e));
   }
     where
@@ -117,15 +122,15 @@ module _ (workers : ℕ) (vs ws : List ℕ) (F : Fit workers vs ws) where
       root-is : frameAt fs 0 .root ≡ 0
       root-is = ap (λ r. r .root) main-at
 
-      not-first : (p : ℕ) → 0 < count p (range 63 1) → 1 ≤ p
-      not-first p c = elim (ℕ-discrete p 0) [ yes e ↦ absurd (omega (arith, count-range-out 63 1 p (inl (omega arith)))) | no e ↦ omega arith ]
+      not-first : (p : ℕ) → 0 < count p (range (length lent - 1) 1) → 1 ≤ p
+      not-first p c = elim (ℕ-discrete p 0) [ yes e ↦ absurd (omega (arith, count-range-out (length lent - 1) 1 p (inl (omega arith)))) | no e ↦ omega arith ]
 
-      deque-at : (w : ℕ) → w < 8 → dequeList (initDeques (replicate dequeWords 0)) w ≡ placesOf (λ _. 0) (deque (start workers vs N) w)
+      deque-at : (w : ℕ) → w < 8 → dequeList (initDeques (replicate dequeWords 0)) w ≡ placesOf (λ _. 0) (deque (start workers vs N (length lent)) w)
       deque-at zero b = init-first
       deque-at (suc w) b = init-others (suc w) (omega arith) b ∙ sym (ap (placesOf (λ _. 0)) (getD-none (workers - 1) w))
 
-      once-at : (p : ℕ) → p < places → count p (range 63 1) + count p (0 ∷ []) ≡ 1
+      once-at : (p : ℕ) → p < length lent → count p (range (length lent - 1) 1) + count p (0 ∷ []) ≡ 1
       once-at p b = elim (ℕ-discrete p 0) [
-        | yes e ↦ omega (arith, count-range-out 63 1 p (inl (omega arith)), count-cons p 0 [], count-nil p, ap (λ q. Rattle.words.specs.Basics.δ q 0) e, δ-same 0)
-        | no e ↦ omega (arith, count-range-in 63 1 p (omega arith) (omega arith), count-cons p 0 [], count-nil p, δ-other p 0 e)
+        | yes e ↦ omega (arith, count-range-out (length lent - 1) 1 p (inl (omega arith)), count-cons p 0 [], count-nil p, ap (λ q. Rattle.words.specs.Basics.δ q 0) e, δ-same 0)
+        | no e ↦ omega (arith, count-range-in (length lent - 1) 1 p (omega arith) (omega arith), count-cons p 0 [], count-nil p, δ-other p 0 e)
       ]

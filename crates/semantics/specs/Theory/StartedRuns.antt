@@ -39,7 +39,7 @@ use Rattle.model.specs.Theory.MainEnds.{returned-ends}
 use Rattle.model.specs.Theory.Totals.{totals-are, totals-same}
 use Rattle.model.specs.Theory.Demand3Proof.{demand3 as plain-demand3}
 use Rattle.semantics.specs.Answers.{answerWords}
-use Rattle.frames.specs.declared.Frame.{Frame as FrameWords}
+use Rattle.frames.specs.declared.Frame.{Frame as FrameRecord}
 use Rattle.semantics.specs.Core.{Core, actingIn, stepOn}
 use Rattle.semantics.specs.Entries.{State, StartResult, fits, isSound, numbersOf, totalsOf, chainFree, recordOn, wholeNodes}
 use Rattle.semantics.specs.Calls.{Start, startResult, HostCall, outside, StateAndPool, afterStart, afterCall, Exchange, exchangesOf, recordsIn, answersIn, restIn, poolsAt, coreIn, Past, Run, Call, call, begun, runAfter, runOf}
@@ -57,6 +57,7 @@ use Rattle.semantics.specs.Theory.ToSound.{all-free}
 use Rattle.semantics.specs.Theory.Fitting.{true-fits}
 use Rattle.semantics.specs.Theory.SoundSteps.{Carried, is-sound, own-rest}
 use Rattle.semantics.specs.Theory.Elsewhere.{withPool, good-trees, relates-elsewhere}
+use Rattle.semantics.specs.Theory.NumberWords.{totals-in}
 use Rattle.semantics.specs.Theory.Starts.{Fit, fit-started, started-fit}
 use Rattle.semantics.specs.Theory.StartRelates.{firstCore, start-relates}
 use Rattle.semantics.specs.Theory.Viewed.{Viewed}
@@ -79,7 +80,7 @@ pub record Follows (P : Plain) (c : Core) : Type 0 where
   pub inv : Invariant (P .machine)
   pub nodes : c .head .numbers .nodes ≡ P .machine .nodes
 
-histories-are : (fs : List ℕ) (at : Name → ℕ) (L : List Frame) → historiesOf (rootsOf fs at L) ≡ histories L
+histories-are : (fs : List FrameRecord) (at : Name → ℕ) (L : List Frame) → historiesOf (rootsOf fs at L) ≡ histories L
 histories-are fs at [] = refl
 histories-are fs at (f ∷ L) = ap (λ z. f .history ∷ z) (histories-are fs at L)
 
@@ -142,7 +143,7 @@ counted-rest P c F w x v q d lt e b =
     ap (λ z. nodesInUse n ((writeEvent q x ∷ q .history) ∷ z)) others-are ∙ sym (inUse-perm n (live-with M w (written q x v ∷ d) lt)) in
     let now : nodesInUse n (q .history ∷ historiesOf (rootsOf (c .frames) (r .at) others)) ≡ inUse n (live M) = ap (λ z. nodesInUse n (q .history ∷ z)) others-are ∙ sym (inUse-perm n before) in
     let own : rest (c .head .height) (c .pool) (actingIn c w .root) x ≡ rest (height n) (c .pool) (rootOf (c .frames) (r .at) q) x =
-    ap₂ (λ (t : ℕ) (f : FrameWords). rest t (c .pool) (f .root) x) (r .numbers .height-is) (acting-frame r w q d lt e) in
+    ap₂ (λ (t : ℕ) (f : FrameRecord). rest t (c .pool) (f .root) x) (r .numbers .height-is) (acting-frame r w q d lt e) in
     record {
       same-count = sym after ∙ g .0 ∙ ap₂ _+_ now (sym own);
       same-16 = ap (ltb (c .head .«free_count»)) own ∙ ltb-same (g .1) ∙ ap (ltb (M .nodes)) after;
@@ -201,15 +202,15 @@ laws = record { carried = carried; keeps = keeps; alike = alike; elsewhere = fol
     alike P c (Valid st) F = keeps-and-alike P c st F .1
     alike P c Invalid F = refl
 
-begins : (b : Start) → Fits (b .parts) → Fit (b .workers) (b .values) (b .pool) → KeptBy Follows (afterStart b) (plainBegun b)
+begins : (b : Start) → Fits (b .parts) → Fit (b .workers) (b .values) (b .parts .frames) (b .pool) → KeptBy Follows (afterStart b) (plainBegun b)
 begins b L F = record {
-  core = firstCore (b .workers) (b .values) (b .pool);
+  core = firstCore (b .workers) (b .values) (b .parts .frames) (b .pool);
   held = ap (λ (o : StartResult). record { state = o .state; pool = o .pool }) (fit-started (b .parts) (b .workers) (b .values) (b .pool) L F);
   follows = record {
-    related = start-relates (b .workers) (b .values) (b .pool) F;
-    links = start-links (b .workers) (b .values) (b .pool) F;
-    viewed = viewed-start (b .workers) (b .values) (b .pool) F;
-    inv = invariant-start (b .workers) (b .values) (wholeNodes (b .pool)) (F .enough);
+    related = start-relates (b .workers) (b .values) (b .parts .frames) (b .pool) F;
+    links = start-links (b .workers) (b .values) (b .parts .frames) (b .pool) F;
+    viewed = viewed-start (b .workers) (b .values) (b .parts .frames) (b .pool) F;
+    inv = invariant-start (b .workers) (b .values) (wholeNodes (b .pool)) (length (b .parts .frames)) (F .enough) (F .places-positive);
     nodes = refl;
   };
 }
@@ -254,7 +255,7 @@ writes-again b calls e w all-words u x v v′ h =
     let F = started-fit (b .parts) (b .workers) (b .values) (b .pool) e .fit in
     second-write (plainNow b calls) u x v v′
     (subst Invariant (sym (machine-plain (recordsIn (p .exchanges)) (p .pools) (plainBegun b) (R .long)))
-    (invariant-run (plainStart b) (valids (recordsIn (p .exchanges))) (invariant-start (b .workers) (b .values) (wholeNodes (b .pool)) (F .enough)))) h
+    (invariant-run (plainStart b) (valids (recordsIn (p .exchanges))) (invariant-start (b .workers) (b .values) (wholeNodes (b .pool)) (length (b .parts .frames)) (F .enough) (F .places-positive)))) h
 
 -- after steps and tapes alone, whatever they hand in
 pub plain-sound : (b : Start) (ks : List HostCall) → startResult b .result ≡ 0 → isSound (runFrom b (map call ks) .now .state) (runFrom b (map call ks) .now .pool) ≡ true
@@ -311,9 +312,12 @@ all-fed works (s ∷ ss) P r i K long =
 
 module _ (b : Start) (calls : List Call) (parts : State) (ws : List ℕ) (works : ℕ → List ℕ)
     (taken : startResult b .result ≡ 0) (words : StartWords b) (all-words : AllCallWords calls) (returned : MainReturned b calls) (parts-fit : fits parts ≡ true)
-    (as-many : wholeNodes ws ≡ wholeNodes (b .pool)) (long : (j : ℕ) → wholeNodes (b .pool) ≤ length (works j)) where
+    (same-places : length (parts .frames) ≡ length (b .parts .frames)) (as-many : wholeNodes ws ≡ wholeNodes (b .pool)) (long : (j : ℕ) → wholeNodes (b .pool) ≤ length (works j)) where
   N : ℕ
   N = wholeNodes (b .pool)
+
+  abbrev places : ℕ
+  places = length (b .parts .frames)
 
   b₁ : Start
   b₁ = aloneStart b parts ws
@@ -325,10 +329,10 @@ module _ (b : Start) (calls : List Call) (parts : State) (ws : List ℕ) (works 
   K : KeptBy Follows (afterStart b) (plainBegun b)
   K = let A = started-fit (b .parts) (b .workers) (b .values) (b .pool) taken in begins b (A .lengths) (A .fit)
 
-  fit₁ : Fit 1 (b .values) ws
+  fit₁ : Fit 1 (b .values) (parts .frames) ws
   fit₁ =
       let F = started-fit (b .parts) (b .workers) (b .values) (b .pool) taken .fit in
-      record { values-positive = F .values-positive; values-le = F .values-le; workers-positive = omega arith; workers-le = omega arith; enough = omega (arith, F .enough, as-many); nodes-le = omega (arith, F .nodes-le, as-many) }
+      record { values-positive = F .values-positive; values-le = F .values-le; workers-positive = omega arith; workers-le = omega arith; places-positive = omega (arith, F .places-positive, same-places); places-le = omega (arith, F .places-le, same-places); enough = omega (arith, F .enough, as-many); nodes-le = omega (arith, F .nodes-le, as-many) }
 
   K₁ : KeptBy Follows (afterStart b₁) (plainBegun b₁)
   unfolding b₁
@@ -349,11 +353,11 @@ module _ (b : Start) (calls : List Call) (parts : State) (ws : List ℕ) (works 
   unfolding ss
   plain-returned = returned-plain (recordsIn (runFrom b calls .past .exchanges)) (runFrom b calls .past .pools) (plainBegun b) (R .long) (subst (λ z. In (102, 3) z) (R .same) returned)
 
-  D : PlainDemand3 (b .workers) (b .values) N ss
+  D : PlainDemand3 (b .workers) (b .values) N places ss
   unfolding N
-  D = plain-demand3 (b .workers) (b .values) (wholeNodes (b .pool)) ss plain-returned
+  D = plain-demand3 (b .workers) (b .values) (wholeNodes (b .pool)) places ss plain-returned
 
-  trace-is : traceOf b calls ≡ plainTrace (b .workers) (b .values) N ss
+  trace-is : traceOf b calls ≡ plainTrace (b .workers) (b .values) N places ss
   unfolding ss N
   trace-is = trace-same (plainBegun b) (runFrom b calls .past .exchanges) (runFrom b calls .past .pools) (R .long) (R .same)
 
@@ -361,25 +365,25 @@ module _ (b : Start) (calls : List Call) (parts : State) (ws : List ℕ) (works 
   ones : List Step
   ones = oneWorkerSteps (traceOf b calls)
 
-  ones-are : ones ≡ oneWorkerOf (b .workers) (b .values) N ss
+  ones-are : ones ≡ oneWorkerOf (b .workers) (b .values) N places ss
   unfolding ones
   ones-are = ap oneWorkerSteps trace-is
 
-  start-is : plainStart b₁ ≡ start 1 (b .values) N
+  start-is : plainStart b₁ ≡ start 1 (b .values) N places
   unfolding N b₁
-  start-is = ap (start 1 (b .values)) as-many
+  start-is = ap₂ (λ (n k : ℕ). start 1 (b .values) n k) as-many same-places
 
   fed : recordsIn (runFrom b₁ calls₁ .past .exchanges) ≡ map Valid ones
   unfolding ones calls₁ b₁
   fed = all-fed works (oneWorkerSteps (traceOf b calls)) (plainBegun b₁) (begun (afterStart b₁)) 0 K₁ (λ j. subst (λ q. q ≤ length (works j)) (sym as-many) (long j))
 
-  steps₁-are : valids (recordsIn (runFrom b₁ calls₁ .past .exchanges)) ≡ oneWorkerOf (b .workers) (b .values) N ss
+  steps₁-are : valids (recordsIn (runFrom b₁ calls₁ .past .exchanges)) ≡ oneWorkerOf (b .workers) (b .values) N places ss
   steps₁-are = ap valids fed ∙ valids-valid ones ∙ ones-are
 
-  trace₁-is : traceOf b₁ calls₁ ≡ plainTrace 1 (b .values) N (oneWorkerOf (b .workers) (b .values) N ss)
+  trace₁-is : traceOf b₁ calls₁ ≡ plainTrace 1 (b .values) N places (oneWorkerOf (b .workers) (b .values) N places ss)
   trace₁-is = trace-same (plainBegun b₁) (runFrom b₁ calls₁ .past .exchanges) (runFrom b₁ calls₁ .past .pools) (R₁ .long) (R₁ .same) ∙ ap₂ trace start-is steps₁-are
 
-  answers₁-are : answersIn (runFrom b₁ calls₁ .past .exchanges) ≡ answers (start 1 (b .values) N) (oneWorkerOf (b .workers) (b .values) N ss)
+  answers₁-are : answersIn (runFrom b₁ calls₁ .past .exchanges) ≡ answers (start 1 (b .values) N places) (oneWorkerOf (b .workers) (b .values) N places ss)
   answers₁-are =
       let ks = runFrom b₁ calls₁ .past .pools in
       R₁ .same ∙ ap (λ z. answersBy fromStart (plainBegun b₁) z ks) fed ∙ answers-plain ones ks (plainBegun b₁) (R₁ .long ∙ ap length fed) ∙ ap₂ answers start-is ones-are
@@ -388,24 +392,24 @@ module _ (b : Start) (calls : List Call) (parts : State) (ws : List ℕ) (works 
   unfolding ss
   over =
       ap live (machine-plain (recordsIn (runFrom b calls .past .exchanges)) (runFrom b calls .past .pools) (plainBegun b) (R .long))
-      ∙ returned-ends (plainStart b) ss (tree-start (b .workers) (b .values) (wholeNodes (b .pool))) plain-returned
+      ∙ returned-ends (plainStart b) ss (tree-start (b .workers) (b .values) (wholeNodes (b .pool)) places) plain-returned
 
   over₁ : live (followed b₁ calls₁ .machine) ≡ []
   over₁ =
       ap live (machine-plain (recordsIn (runFrom b₁ calls₁ .past .exchanges)) (runFrom b₁ calls₁ .past .pools) (plainBegun b₁) (R₁ .long))
       ∙ ap₂ (λ M z. live (run M z)) start-is steps₁-are
-      ∙ returned-ends (start 1 (b .values) N) (oneWorkerOf (b .workers) (b .values) N ss) (tree-start 1 (b .values) N) (D .returns)
+      ∙ returned-ends (start 1 (b .values) N places) (oneWorkerOf (b .workers) (b .values) N places ss) (tree-start 1 (b .values) N places) (D .returns)
 
   free-at-end : (h : StateAndPool) (P : Plain) → KeptBy Follows h P → live (P .machine) ≡ [] → AllFree h
   free-at-end h P E e = subst AllFree (sym (E .held)) (all-free (P .machine) (E .core) (carried P (E .core) (E .follows) .related) e)
 
   -- R-5: "Once Main has returned, each total is .."
   totals-at-end : (h : StateAndPool) (P : Plain) → KeptBy Follows h P → live (P .machine) ≡ [] → totalsOf (h .state) ≡ totalWords (P .views .totals)
-  totals-at-end h P E e = ap (λ (g : StateAndPool). totalsOf (g .state)) (E .held) ∙ E .follows .viewed .totals e ∙ view-totals (P .views .totals)
+  totals-at-end h P E e = ap (λ (g : StateAndPool). totalsOf (g .state)) (E .held) ∙ totals-in (E .core .head .numbers) (E .core .totals) (E .follows .related .totals .long) ∙ E .follows .viewed .totals e ∙ view-totals (P .views .totals)
 
-  folds-are : plainTotals (b .workers) (b .values) N ss ≡ mainFolds (traceOf b calls)
+  folds-are : plainTotals (b .workers) (b .values) N places ss ≡ mainFolds (traceOf b calls)
   unfolding N
-  folds-are = totals-are (b .workers) (b .values) N ss plain-returned ∙ ap mainFolds (sym trace-is)
+  folds-are = totals-are (b .workers) (b .values) N places ss plain-returned ∙ ap mainFolds (sym trace-is)
 
   last-folds : followed b calls .views .totals ≡ mainFolds (traceOf b calls)
   unfolding ss N
@@ -416,7 +420,7 @@ module _ (b : Start) (calls : List Call) (parts : State) (ws : List ℕ) (works 
   last₁-folds =
       ap (λ (W : Views). W .totals) (views-plain (recordsIn (runFrom b₁ calls₁ .past .exchanges)) (runFrom b₁ calls₁ .past .pools) (plainBegun b₁) (R₁ .long))
       ∙ ap₂ (λ (M : Machine) (z : List Step). runViews M viewsAtStart z .totals) start-is steps₁-are
-      ∙ sym (totals-same (b .workers) (b .values) N ss plain-returned)
+      ∙ sym (totals-same (b .workers) (b .values) N places ss plain-returned)
       ∙ folds-are
 
   pub demand3 : Demand3 b calls parts ws works
@@ -424,8 +428,8 @@ module _ (b : Start) (calls : List Call) (parts : State) (ws : List ℕ) (works 
   demand3 = record {
     starts = ap (λ (o : StartResult). o .result) (fit-started parts 1 (b .values) ws (true-fits parts parts-fit) fit₁);
     all-entered = fed;
-    none-refused = subst allAccepted (sym answers₁-are) (all-accepted (start 1 (b .values) N) (oneWorkerOf (b .workers) (b .values) N ss) (D .none-refused));
-    same-frames = λ p. subst (λ z. IsFrame z p ↔ IsFrame (traceOf b calls) p) (sym trace₁-is) (subst (λ z. IsFrame (plainTrace 1 (b .values) N (oneWorkerOf (b .workers) (b .values) N ss)) p ↔ IsFrame z p) (sym trace-is) (D .same-frames p));
+    none-refused = subst allAccepted (sym answers₁-are) (all-accepted (start 1 (b .values) N places) (oneWorkerOf (b .workers) (b .values) N places ss) (D .none-refused));
+    same-frames = λ p. subst (λ z. IsFrame z p ↔ IsFrame (traceOf b calls) p) (sym trace₁-is) (subst (λ z. IsFrame (plainTrace 1 (b .values) N places (oneWorkerOf (b .workers) (b .values) N places ss)) p ↔ IsFrame z p) (sym trace-is) (D .same-frames p));
     same-steps = λ p. ap (stepsOf p) trace₁-is ∙ D .same-steps p ∙ ap (stepsOf p) (sym trace-is);
     same-reads = λ p. ap (readsOf p) trace₁-is ∙ D .same-reads p ∙ ap (readsOf p) (sym trace-is);
     all-free = λ e. free-at-end (runFrom b calls .now) (followed b calls) (R .standing e .0 .fed .kept) over;

@@ -10,19 +10,23 @@ use lib.Dec.{eqb, ltb}
 use borrow.Author.Tests.{ltb-false, eqb-false, le-ltb, ne-eqb}
 use Rattle.words.specs.Tests.{decided, neither}
 use Rattle.sizes.specs.Sizes.{treeNodes}
+use Rattle.frames.specs.Widths.{maxPlaces}
+use Rattle.frames.specs.declared.Frame.{Frame}
 use Rattle.semantics.specs.declared.Refusal.{Refusal}
-use Rattle.semantics.specs.declared.Refusal.the-variants.{Values, Workers, Nodes}
+use Rattle.semantics.specs.declared.Refusal.the-variants.{Values, Workers, Places, Nodes}
 use Rattle.semantics.specs.Answers.{refusalNumber}
 use Rattle.semantics.specs.Entries.{State, fits, StartResult, startRefused, startAccepted, startWith, startOn, wholeNodes}
 use Rattle.semantics.specs.Promises.{Fits}
 use Rattle.semantics.specs.Theory.Fitting.{fits-true, true-fits}
 
--- the conditions that refusals 1, 2 and 3 test
-pub record Fit (workers : ℕ) (vs ws : List ℕ) : Type 0 where
+-- the conditions that refusals 1, 2, 21 and 3 test
+pub record Fit (workers : ℕ) (vs : List ℕ) (fs : List Frame) (ws : List ℕ) : Type 0 where
   pub values-positive : 1 ≤ length vs
   pub values-le : length vs ≤ 256
   pub workers-positive : 1 ≤ workers
   pub workers-le : workers ≤ 8
+  pub places-positive : 1 ≤ length fs
+  pub places-le : length fs ≤ maxPlaces
   pub enough : treeNodes (length vs) ≤ wholeNodes ws
   pub nodes-le : wholeNodes ws ≤ 16384
 
@@ -37,43 +41,47 @@ in-range x m e =
 range-in : (x m : ℕ) → 1 ≤ x → x ≤ m → eqb x 0 || ltb m x ≡ false
 range-in x m a b = rw (ne-eqb x 0 (λ e. omega arith), le-ltb m x b)
 
-pub fit-started : (s : State) (workers : ℕ) (vs ws : List ℕ) → Fits s → Fit workers vs ws → startOn s workers vs ws ≡ startAccepted workers vs ws
+pub fit-started : (s : State) (workers : ℕ) (vs ws : List ℕ) → Fits s → Fit workers vs (s .frames) ws → startOn s workers vs ws ≡ startAccepted workers vs (s .frames) ws
 unfolding startOn startWith
 fit-started s workers vs ws L F =
-    rw (fits-true s L, range-in (length vs) 256 (F .values-positive) (F .values-le), range-in workers 8 (F .workers-positive) (F .workers-le), le-ltb (wholeNodes ws) (treeNodes (length vs)) (F .enough), le-ltb 16384 (wholeNodes ws) (F .nodes-le))
+    rw (fits-true s L, range-in (length vs) 256 (F .values-positive) (F .values-le), range-in workers 8 (F .workers-positive) (F .workers-le), range-in (length (s .frames)) maxPlaces (F .places-positive) (F .places-le), le-ltb (wholeNodes ws) (treeNodes (length vs)) (F .enough), le-ltb 16384 (wholeNodes ws) (F .nodes-le))
 
 -- ---- what a start does, in cases
 
--- refused by 1, 2 or 3
-pub record Refuses (ws : List ℕ) (o : StartResult) : Type 0 where
+-- refused by 1, 2, 21 or 3
+pub record Refuses (fs : List Frame) (ws : List ℕ) (o : StartResult) : Type 0 where
   pub refusal : Refusal
-  pub result : o ≡ startRefused refusal ws
+  pub result : o ≡ startRefused refusal fs ws
   pub positive : 0 < refusalNumber refusal
   pub low : refusalNumber refusal < 99
 
 -- accepted
 pub record Accepts (s : State) (workers : ℕ) (vs ws : List ℕ) (o : StartResult) : Type 0 where
   pub lengths : Fits s
-  pub fit : Fit workers vs ws
-  pub result : o ≡ startAccepted workers vs ws
+  pub fit : Fit workers vs (s .frames) ws
+  pub result : o ≡ startAccepted workers vs (s .frames) ws
 
 abbrev Cases : State → ℕ → List ℕ → List ℕ → StartResult → Type 0
-Cases s workers vs ws o = (o ≡ record { state = s; pool = ws; result = 99 }) ⊎ (Refuses ws o ⊎ Accepts s workers vs ws o)
+Cases s workers vs ws o = (o ≡ record { state = s; pool = ws; result = 99 }) ⊎ (Refuses (s .frames) ws o ⊎ Accepts s workers vs ws o)
 
-with-cases : (s : State) (workers : ℕ) (vs ws : List ℕ) → Fits s → Refuses ws (startWith workers vs ws) ⊎ Accepts s workers vs ws (startWith workers vs ws)
+with-cases : (s : State) (workers : ℕ) (vs ws : List ℕ) → Fits s → Refuses (s .frames) ws (startWith workers vs (s .frames) ws) ⊎ Accepts s workers vs ws (startWith workers vs (s .frames) ws)
 unfolding startWith
 with-cases s workers vs ws L = elim (decided (eqb (length vs) 0 || ltb 256 (length vs))) [
   | inl a ↦ rw a (inl (record { refusal = Values; result = refl; positive = omega arith; low = omega arith }))
   | inr a ↦ elim (decided (eqb workers 0 || ltb 8 workers)) [
     | inl b ↦ rw (a, b) (inl (record { refusal = Workers; result = refl; positive = omega arith; low = omega arith }))
-    | inr b ↦ elim (decided (ltb (wholeNodes ws) (treeNodes (length vs)) || ltb 16384 (wholeNodes ws))) [
-      | inl d ↦ rw (a, b, d) (inl (record { refusal = Nodes; result = refl; positive = omega arith; low = omega arith }))
-      | inr d ↦
-          let x = in-range (length vs) 256 a in
-          let y = in-range workers 8 b in
-          let z = neither (ltb (wholeNodes ws) (treeNodes (length vs))) (ltb 16384 (wholeNodes ws)) d in
-          let F : Fit workers vs ws = record { values-positive = x .0; values-le = x .1; workers-positive = y .0; workers-le = y .1; enough = ltb-false (wholeNodes ws) (treeNodes (length vs)) (z .0); nodes-le = ltb-false 16384 (wholeNodes ws) (z .1) } in
-          rw (a, b, d) (inr (record { lengths = L; fit = F; result = refl }))
+    | inr b ↦ elim (decided (eqb (length (s .frames)) 0 || ltb maxPlaces (length (s .frames)))) [
+      | inl t ↦ rw (a, b, t) (inl (record { refusal = Places; result = refl; positive = omega arith; low = omega arith }))
+      | inr t ↦ elim (decided (ltb (wholeNodes ws) (treeNodes (length vs)) || ltb 16384 (wholeNodes ws))) [
+        | inl d ↦ rw (a, b, t, d) (inl (record { refusal = Nodes; result = refl; positive = omega arith; low = omega arith }))
+        | inr d ↦
+            let x = in-range (length vs) 256 a in
+            let y = in-range workers 8 b in
+            let p = in-range (length (s .frames)) maxPlaces t in
+            let z = neither (ltb (wholeNodes ws) (treeNodes (length vs))) (ltb 16384 (wholeNodes ws)) d in
+            let F : Fit workers vs (s .frames) ws = record { values-positive = x .0; values-le = x .1; workers-positive = y .0; workers-le = y .1; places-positive = p .0; places-le = p .1; enough = ltb-false (wholeNodes ws) (treeNodes (length vs)) (z .0); nodes-le = ltb-false 16384 (wholeNodes ws) (z .1) } in
+            rw (a, b, t, d) (inr (record { lengths = L; fit = F; result = refl }))
+      ]
     ]
   ]
 ]

@@ -6,10 +6,10 @@ use mathlib.Core.List.{List, _∷_, List·Permᴰ, Permᴰ·symm, Permᴰ·map}
 use Prim.Native.Nat.{ℕ, _<_}
 use native.Mathlib.Omega.{arith}
 use native.Mathlib.Decide.{ℕ-discrete}
+use lib.ListN.{length}
 use Rattle.words.specs.Counting.{count}
 use Rattle.words.specs.Lists.{In-perm}
-use Rattle.frames.specs.Widths.{places}
-use Rattle.frames.specs.declared.Frame.{Frame as Words}
+use Rattle.frames.specs.declared.Frame.{Frame as FrameRecord}
 use Rattle.frames.specs.Frames.{frameAt, freePlace}
 use Rattle.frames.specs.Siblings.{younger}
 use Rattle.model.specs.Machine.{Name, Frame, Machine, live}
@@ -20,16 +20,17 @@ use Rattle.semantics.specs.Theory.RelationFacts.{roots-same, stored, rec
 use Rattle.semantics.specs.Theory.LinksKept.{NamedIn, totals-kept}
 
 -- what is known then: q became q′, the others are R; the record has suspension s and root t
-pub record Carried {P : Trees} {M : Machine} {c : Core} (r : Relates P M c) (M′ : Machine) (fs′ : List ℕ) (q q′ : Frame) (R : List Frame) (s t : ℕ) : Type 0 where
+pub record Carried {P : Trees} {M : Machine} {c : Core} (r : Relates P M c) (M′ : Machine) (fs′ : List FrameRecord) (q q′ : Frame) (R : List Frame) (s t : ℕ) : Type 0 where
   pub own-record : (u : ℕ) → Recorded (c .frames) (r .at) (live M) u q → Recorded fs′ (r .at) (live M′) s q′
   pub other-record : (u : ℕ) (f : Frame) → In f R → Recorded (c .frames) (r .at) (live M) u f → Recorded fs′ (r .at) (live M′) u f
   pub own-root : rootOf fs′ (r .at) q′ ≡ t
   pub other-root : (f : Frame) → In f R → rootOf fs′ (r .at) f ≡ rootOf (c .frames) (r .at) f
   pub other-roots : rootsOf fs′ (r .at) R ≡ rootsOf (c .frames) (r .at) R
-  pub once : PlacedOnce (r .at) (r .gs) (live M′)
-  pub vacant : (p : ℕ) → p < places → 0 < count p (r .gs) → (n : ℕ) × (frameAt fs′ p ≡ freePlace n)
+  pub once : PlacedOnce (length fs′) (r .at) (r .gs) (live M′)
+  pub vacant : (p : ℕ) → p < length fs′ → 0 < count p (r .gs) → (n : ℕ) × (frameAt fs′ p ≡ freePlace n)
   pub totals : TotalsKept (c .totals) (live M′)
   -- what Keeps asks for
+  pub same-length : length fs′ ≡ length (c .frames)
   pub same-live : (p : ℕ) → frameAt fs′ p .live ≡ frameAt (c .frames) p .live
   pub same-parent : (p : ℕ) → frameAt fs′ p .parent ≡ frameAt (c .frames) p .parent
   pub same-view : (p : ℕ) → frameAt fs′ p .view ≡ frameAt (c .frames) p .view
@@ -37,8 +38,8 @@ pub record Carried {P : Trees} {M : Machine} {c : Core} (r : Relates P M c) (M�
   pub from : NamedIn (live M) (live M′)
   pub to : NamedIn (live M′) (live M)
 
-module _ {P : Trees} {M : Machine} {c : Core} (r : Relates P M c) (M′ : Machine) (fs′ : List ℕ) (q q′ : Frame) (R : List Frame) (s t b : ℕ) (named : q′ .name ≡ q .name) (mark : b ≡ bit (q′ .returning))
-    (before : List·Permᴰ (live M) (q ∷ R)) (after : List·Permᴰ (q′ ∷ R) (live M′))
+module _ {P : Trees} {M : Machine} {c : Core} (r : Relates P M c) (M′ : Machine) (fs′ : List FrameRecord) (q q′ : Frame) (R : List Frame) (s t b : ℕ) (named : q′ .name ≡ q .name) (mark : b ≡ bit (q′ .returning))
+    (long : length fs′ ≡ length (c .frames)) (before : List·Permᴰ (live M) (q ∷ R)) (after : List·Permᴰ (q′ ∷ R) (live M′))
     (at-q : frameAt fs′ (r .at (q .name)) ≡ stored (frameAt (c .frames) (r .at (q .name))) s t b)
     (elsewhere : (p : ℕ) → p ≢ r .at (q .name) → frameAt fs′ p ≡ frameAt (c .frames) p) where
   apart : (f : Frame) → In f R → frameAt fs′ (r .at (f .name)) ≡ frameAt (c .frames) (r .at (f .name))
@@ -56,12 +57,12 @@ module _ {P : Trees} {M : Machine} {c : Core} (r : Relates P M c) (M′ : Machin
       ∙ ap (λ (z : Name). count p (r .at z ∷ placesOf (r .at) R)) (sym named)
       ∙ count-perm p (Permᴰ·map (λ (f : Frame). r .at (f .name)) after)
 
-  still-free : (p : ℕ) → p < places → 0 < count p (r .gs) → (n : ℕ) × (frameAt fs′ p ≡ freePlace n)
+  still-free : (p : ℕ) → p < length fs′ → 0 < count p (r .gs) → (n : ℕ) × (frameAt fs′ p ≡ freePlace n)
   still-free p h g =
-      let x = r .vacant p h g in
+      let x = r .vacant p (omega (arith, long, h)) g in
       (x .0, elsewhere p (λ e. omega (arith, g, ap (λ (z : ℕ). count z (r .gs)) e, placed-taken r q (In-perm (Permᴰ·symm before) (here refl)))) ∙ x .1)
 
-  same-word : {A : Type 0} (word : Words → A) → ((F : Words) → word (stored F s t b) ≡ word F) → (p : ℕ) → word (frameAt fs′ p) ≡ word (frameAt (c .frames) p)
+  same-word : {A : Type 0} (word : FrameRecord → A) → ((F : FrameRecord) → word (stored F s t b) ≡ word F) → (p : ℕ) → word (frameAt fs′ p) ≡ word (frameAt (c .frames) p)
   same-word word h p = elim (ℕ-discrete p (r .at (q .name))) [
     | yes e ↦ ap (λ (z : ℕ). word (frameAt fs′ z)) e ∙ ap word at-q ∙ h (frameAt (c .frames) (r .at (q .name))) ∙ ap (λ (z : ℕ). word (frameAt (c .frames) z)) (sym e)
     | no e ↦ ap word (elsewhere p e)
@@ -81,18 +82,19 @@ module _ {P : Trees} {M : Machine} {c : Core} (r : Relates P M c) (M′ : Machin
 
   pub carried : Carried r M′ fs′ q q′ R s t
   carried = record {
-    own-record = λ u k. recorded-stored fs′ (live M′) s t b q′ named mark at-q (same-children (q .name)) k;
-    other-record = λ u f m k. recorded-kept (c .frames) fs′ (r .at) (r .at) (live M) (live M′) u f refl (apart f m) refl (sym (same-children (f .name))) k;
-    own-root = ap (λ (z : Name). frameAt fs′ (r .at z) .root) named ∙ ap (λ (z : Words). z .root) at-q;
-    other-root = λ f m. ap (λ (z : Words). z .root) (apart f m);
-    other-roots = roots-same (c .frames) fs′ (r .at) R (λ f m. ap (λ (z : Words). z .root) (apart f m));
-    once = λ p h. omega (arith, r .once p h, same-places p);
+    own-record = λ u k. recorded-stored fs′ (live M′) s t b q′ long named mark at-q (same-children (q .name)) k;
+    other-record = λ u f m k. recorded-kept (c .frames) fs′ (r .at) (r .at) (live M) (live M′) u f long refl (apart f m) refl (sym (same-children (f .name))) k;
+    own-root = ap (λ (z : Name). frameAt fs′ (r .at z) .root) named ∙ ap (λ (z : FrameRecord). z .root) at-q;
+    other-root = λ f m. ap (λ (z : FrameRecord). z .root) (apart f m);
+    other-roots = roots-same (c .frames) fs′ (r .at) R (λ f m. ap (λ (z : FrameRecord). z .root) (apart f m));
+    once = λ p h. omega (arith, r .once p (omega (arith, long, h)), same-places p);
     vacant = still-free;
     totals = totals-kept named-in (r .totals);
-    same-live = same-word (λ (F : Words). F .live) (λ F. refl);
-    same-parent = same-word (λ (F : Words). F .parent) (λ F. refl);
-    same-view = same-word (λ (F : Words). F .view) (λ F. refl);
-    same-link = same-word (λ (F : Words). F .younger) (λ F. refl);
+    same-length = long;
+    same-live = same-word (λ (F : FrameRecord). F .live) (λ F. refl);
+    same-parent = same-word (λ (F : FrameRecord). F .parent) (λ F. refl);
+    same-view = same-word (λ (F : FrameRecord). F .view) (λ F. refl);
+    same-link = same-word (λ (F : FrameRecord). F .younger) (λ F. refl);
     from = named-in;
     to = named-back;
   }
@@ -100,4 +102,4 @@ module _ {P : Trees} {M : Machine} {c : Core} (r : Relates P M c) (M′ : Machin
 -- the relation afterwards has the frames at the same places, in the frames fs′
 pub keeps-stored : {P : Trees} {M : Machine} {c : Core} (r : Relates P M c) {M′ : Machine} {c′ : Core} (r′ : Relates P M′ c′) {q q′ : Frame} {R : List Frame} {s t : ℕ} → ((n : Name) → r′ .at n ≡ r .at n) → c′ .totals ≡ c .totals
     → Carried r M′ (c′ .frames) q q′ R s t → Keeps r r′
-keeps-stored r r′ e t C = record { places = e; live = C .same-live; parent = C .same-parent; view = C .same-view; link = C .same-link; from = C .from; to = C .to; totals = t }
+keeps-stored r r′ e t C = record { same-length = C .same-length; places = e; live = C .same-live; parent = C .same-parent; view = C .same-view; link = C .same-link; from = C .from; to = C .to; totals = t }

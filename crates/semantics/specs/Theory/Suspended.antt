@@ -10,7 +10,7 @@ use Rattle.words.specs.Basics.{joined}
 use Rattle.words.specs.Lists.{In-perm, joined-set}
 use Rattle.sizes.specs.Sizes.{height}
 use Rattle.pool.specs.Pool.{readAt}
-use Rattle.frames.specs.declared.Frame.{Frame as Words}
+use Rattle.frames.specs.declared.Frame.{Frame as FrameRecord}
 use Rattle.frames.specs.Frames.{frameAt}
 use Rattle.frames.specs.Steps.{Table}
 use Rattle.frames.specs.Steps.{suspend as suspendTable}
@@ -37,7 +37,7 @@ module _ {P : Trees} {M : Machine} {c : Core} (r : Relates P M c) (w : ℕ) (q :
   next = suspend M w (marked q b) d
 
   -- its record then
-  abbrev pub record-waiting : Words
+  abbrev pub record-waiting : FrameRecord
   record-waiting = stored (frameAt (c .frames) (r .at (q .name))) 1 (rootOf (c .frames) (r .at) q) (bit b)
 
   abbrev table : Table
@@ -59,7 +59,7 @@ module _ {P : Trees} {M : Machine} {c : Core} (r : Relates P M c) (w : ℕ) (q :
 
   carries : Carried r next (table .frames) q (marked q b) others 1 (rootOf (c .frames) (r .at) q)
   carries =
-      carried r next (table .frames) q (marked q b) others 1 (rootOf (c .frames) (r .at) q) (bit b) refl refl before afterwards (does .1) (λ p n. does .0 .records p (n, tt))
+      carried r next (table .frames) q (marked q b) others 1 (rootOf (c .frames) (r .at) q) (bit b) refl refl (does .0 .same-length) before afterwards (does .1) (λ p n. does .0 .records p (n, tt))
 
   value-kept : (f : Frame) → In f (marked q b ∷ others) → (x : ℕ) → x < M .splitters → readAt (height (M .splitters)) (c .pool) (rootOf (table .frames) (r .at) f) x ≡ getD (f .values) x 0
   value-kept f m x h = elim (In-cons m) [
@@ -72,7 +72,7 @@ module _ {P : Trees} {M : Machine} {c : Core} (r : Relates P M c) (w : ℕ) (q :
   suspends laws = record {
     at = r .at;
     gs = r .gs;
-    numbers = same-numbers M c (withTable c table) (next .deques) (next .suspended) (length-set (M .deques) w d) (r .numbers) refl refl refl refl;
+    numbers = same-numbers M c (withTable c table) (next .deques) (next .suspended) (length-set (M .deques) w d) (r .numbers) refl refl refl refl refl (does .0 .same-length);
     formed = does .0 .formed;
     deques = lists-with (r .at) (table .deques) (M .deques) w d lt (does .0 .deque) (λ u h n. does .0 .deques u h n ∙ r .deques u h);
     running = λ f m. elim (In-cases d (In-perm (joined-set (M .deques) w d lt) m)) [

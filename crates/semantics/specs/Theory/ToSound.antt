@@ -16,7 +16,6 @@ use Rattle.model.specs.Theory.FrameTree.{FrameTree, main-lives}
 use Rattle.model.specs.Theory.DequeShape.{DequeInvariant}
 use Rattle.soundness.specs.Soundness.{poolSound, sound, liveRoots, freeNodes, freeCount}
 use Rattle.semantics.specs.Core.{Core}
-use Rattle.semantics.specs.Entries.{numbersOf, stateOf}
 use Rattle.semantics.specs.Theory.Relation.{Trees, Relates, rootsOf, Links}
 use Rattle.semantics.specs.Theory.Pools.{LiveTrees, GoodTrees, good-live, live-room}
 use Rattle.soundness.specs.Theory.Facts.{TotalsZero, NumbersFacts}
@@ -67,7 +66,7 @@ good-relates R = relates-over R (good-live (R .trees))
 -- ---- the whole
 
 module _ (M : Machine) (c : Core) (R : Relates (LiveTrees (c .head .numbers .nodes) (M .splitters)) M c) where
-  numbers-hold : NumbersFacts (numbersOf (stateOf c)) (c .pool)
+  numbers-hold : NumbersFacts (c .head .numbers) (c .frames) (c .pool)
   numbers-hold =
       let n = R .numbers in
       record {
@@ -78,10 +77,13 @@ module _ (M : Machine) (c : Core) (R : Relates (LiveTrees (c .head .numbers .nod
         enough = subst (λ m. treeNodes m ≤ c .head .numbers .nodes) (sym (n .splitters)) (n .enough);
         nodes-le = n .nodes-le;
         room = live-room (R .trees);
+        places-positive = omega (arith, n .places, n .places-positive);
+        places-le = omega (arith, n .places, n .table, R .formed .few);
+        table = omega (arith, n .places, n .table);
       }
 
   -- the trees are sound, and the chain is as long as the relation says
-  pool-holds : (poolSound (c .head .numbers .splitters) (c .head .numbers .nodes) (c .pool) (c .head .numbers .«free_node») (liveRoots (c .frames)) ≡ true) × (freeCount (numbersOf (stateOf c)) (c .pool) ≡ c .head .«free_count»)
+  pool-holds : (poolSound (c .head .numbers .splitters) (c .head .numbers .nodes) (c .pool) (c .head .numbers .«free_node») (liveRoots (c .frames)) ≡ true) × (freeCount (c .head .numbers) (c .pool) ≡ c .head .«free_count»)
   pool-holds =
       let n = R .numbers in
       let p = live-pool (M .splitters) (c .head .numbers .nodes) (n .nodes-le) (n .splitters-positive) (c .pool) (c .head .numbers .«free_node») (liveRoots (c .frames)) (rootsOf (c .frames) (R .at) (live M))
@@ -96,9 +98,9 @@ module _ (M : Machine) (c : Core) (R : Relates (LiveTrees (c .head .numbers .nod
       R .totals .zero (m .0) (m .1) (m .2)
 
   pub to-sound : FrameTree M → DequeInvariant M → Links (c .frames) (R .at) (live M)
-      → (sound (numbersOf (stateOf c)) (c .totals) (c .deques) (c .frames) (c .pool) ≡ true) × (freeCount (numbersOf (stateOf c)) (c .pool) ≡ c .head .«free_count»)
+      → (sound (c .head .numbers) (c .totals) (c .deques) (c .frames) (c .pool) ≡ true) × (freeCount (c .head .numbers) (c .pool) ≡ c .head .«free_count»)
   to-sound tree inv K = (
-    facts-sound (numbersOf (stateOf c)) (c .totals) (c .deques) (c .frames) (c .pool) (record { numbers = numbers-hold; totals = totals-hold tree; frames = frames-hold R tree inv K; pool = pool-holds .0 }),
+    facts-sound (c .head .numbers) (c .totals) (c .deques) (c .frames) (c .pool) (record { numbers = numbers-hold; totals = totals-hold tree; frames = frames-hold R tree inv K; pool = pool-holds .0 }),
     pool-holds .1,
   )
 

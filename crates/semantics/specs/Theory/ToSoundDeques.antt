@@ -5,25 +5,28 @@ use mathlib.Core.List.{List·Memᴰ as In, List·Memᴰ·head as here, List·Mem
 use mathlib.Core.List.{List, [], _∷_, cons≢nil, nil≢cons, head-eq-of-cons-eq, tail-eq-of-cons-eq}
 use Prim.Native.Nat.{ℕ, zero, suc, _≤_, _<_}
 use native.Mathlib.Omega.{arith}
-use native.Mathlib.Decide.{ℕ-discrete}
-use lib.ListN.{length, List·getD-eq-default}
-use Rattle.frames.specs.Widths.{places}
+use native.Mathlib.Decide.{ℕ-discrete, decLt}
+use lib.ListN.{length, length-append, List·getD-eq-default}
+use Rattle.words.specs.Lists.{perm-length}
+use Rattle.frames.specs.declared.Frame.{Frame as FrameRecord}
 use Rattle.frames.specs.Siblings.{younger, Children}
 use Rattle.frames.specs.Frames.{frameAt}
 use Rattle.frames.specs.Deques.{size, place, dequeList, placesTo}
 use Rattle.model.specs.Machine.{Name, Frame, Machine, live, deque}
+use Rattle.model.specs.Theory.Effects.{rest, live-at}
 use Rattle.model.specs.Theory.FrameTree.{FrameTree}
 use Rattle.model.specs.Theory.DequeShape.{Linked, OnlyChild, nothing, DequeInvariant}
 use Rattle.semantics.specs.Core.{Core}
 use Rattle.semantics.specs.Theory.Relation.{Trees, parentPlace, placesOf, Relates, Links}
 use Rattle.soundness.specs.Theory.Facts.{Lives, FramesFacts}
+use Rattle.semantics.specs.Theory.Places.{live-few}
 use Rattle.semantics.specs.Theory.ToSoundFrames.{recorded, inside, alive, live-frame, parent-named, deque-size, in-live, one-main, parents, outstanding, placed, returning, free-places}
 
 module _ {P : Trees} {M : Machine} {c : Core} (R : Relates P M c) (tree : FrameTree M) (inv : DequeInvariant M) where
   abbrev at : Name → ℕ
   at = R .at
 
-  abbrev fs : List ℕ
+  abbrev fs : List FrameRecord
   fs = c .frames
 
   abbrev L : List Frame
@@ -97,11 +100,11 @@ module _ {P : Trees} {M : Machine} {c : Core} (R : Relates P M c) (tree : FrameT
     unfolding dequeList
     along b = R .deques w b
 
-    pub hold-live : w < 8 → (k : ℕ) → k < size (c .deques) w → (place (c .deques) w k < places) × Lives fs (place (c .deques) w k)
+    pub hold-live : w < 8 → (k : ℕ) → k < size (c .deques) w → (place (c .deques) w k < length fs) × Lives fs (place (c .deques) w k)
     hold-live b k h =
         let r = frame-at (size (c .deques) w) (deque M w) (along b) k h in
         let m = in-live R w (r .0) (r .1) in
-        subst (λ p. (p < places) × Lives fs p) (r .2) (inside R (r .0) m, alive R (r .0) m)
+        subst (λ p. (p < length fs) × Lives fs p) (r .2) (inside R (r .0) m, alive R (r .0) m)
 
     pub absent : w < 8 → c .head .numbers .workers ≤ w → size (c .deques) w ≡ 0
     absent b h = deque-size R w b ∙ ap length (List·getD-eq-default (M .deques) [] {n = w} (omega (arith, R .numbers .workers)))
@@ -109,7 +112,7 @@ module _ {P : Trees} {M : Machine} {c : Core} (R : Relates P M c) (tree : FrameT
     pub child-of-above : w < 8 → (k : ℕ) → suc k < size (c .deques) w → frameAt fs (place (c .deques) w (suc k)) .parent ≡ place (c .deques) w k
     child-of-above b = linked-at (size (c .deques) w) (deque M w) (along b) (in-live R w) (inv .shape w .0)
 
-    pub only-below : w < 8 → (k : ℕ) → suc k < size (c .deques) w → (p : ℕ) → p < places → Lives fs p → frameAt fs p .parent ≡ place (c .deques) w (suc k)
+    pub only-below : w < 8 → (k : ℕ) → suc k < size (c .deques) w → (p : ℕ) → p < length fs → Lives fs p → frameAt fs p .parent ≡ place (c .deques) w (suc k)
         → (suc (suc k) < size (c .deques) w) × (p ≡ place (c .deques) w (suc (suc k)))
     only-below b k h p d l e =
         let x = live-frame R p d l in
@@ -120,6 +123,13 @@ module _ {P : Trees} {M : Machine} {c : Core} (R : Relates P M c) (tree : FrameT
   no-length : (n : Name) → length n ≡ 0 → n ≡ []
   no-length [] e = refl
   no-length (k ∷ n) e = absurd (omega arith)
+
+  -- a deque has no more frames than live
+  deque-short : (w : ℕ) → w < 8 → size (c .deques) w ≤ length fs
+  deque-short w b = elim (decLt w (length (M .deques))) [
+    | yes h ↦ omega (arith, deque-size R w b, perm-length (live-at M w (deque M w) h refl), length-append (deque M w) (rest M w), live-few R)
+    | no h ↦ omega (arith, deque-size R w b, ap length (List·getD-eq-default (M .deques) [] {n = w} (omega arith)))
+  ]
 
   -- the sentences on frames and deques
   pub frames-hold : Links (c .frames) (R .at) (live M) → FramesFacts (c .head .numbers .workers) (c .head .numbers .«free_place») (c .deques) fs
@@ -136,7 +146,7 @@ module _ {P : Trees} {M : Machine} {c : Core} (R : Relates P M c) (tree : FrameT
         ap (younger fs) (sym (f .2)) ∙ K .main-link (f .0) (f .1) short;
     hold-live = hold-live;
     absent = absent;
-    within = R .formed .shaped .within;
+    within = deque-short;
     zeros = R .formed .shaped .zeros;
     child-of-above = child-of-above;
     only-below = only-below;

@@ -14,7 +14,7 @@ use Rattle.words.specs.Basics.{sum, joined, same, δ, count}
 use Rattle.words.specs.Tests.{true≢false, decided}
 use Rattle.words.specs.Counting.{count-nil, count-cons, hit, miss, sum-cong}
 use Rattle.words.specs.Distinct.{same-eq, same-ne}
-use Rattle.frames.specs.Widths.{places}
+use Rattle.frames.specs.declared.Frame.{Frame as FrameRecord}
 use Rattle.frames.specs.Frames.{frameAt, freePlace}
 use Rattle.frames.specs.Deques.{size, dequeList}
 use Rattle.frames.specs.Theory.Lists.{list-length}
@@ -46,10 +46,10 @@ total-children at t p [] h = refl
 total-children at t p (f ∷ L) h = omega (arith, total-children at t p L (λ g m. h g (there m)), ap (λ (b : Bool). cond {A = ℕ} b 1 0) (h f (here refl)))
 
 -- 1 if the frame at c lives and has the root i, else 0
-abbrev rootAt : List ℕ → ℕ → ℕ → ℕ
+abbrev rootAt : List FrameRecord → ℕ → ℕ → ℕ
 rootAt fs i c = cond (lives fs c) (δ i (frameAt fs c .root)) 0
 
-total-roots : (at : Name → ℕ) (fs : List ℕ) (i : ℕ) (L : List Frame) → ((f : Frame) → In f L → Lives fs (at (f .name)))
+total-roots : (at : Name → ℕ) (fs : List FrameRecord) (i : ℕ) (L : List Frame) → ((f : Frame) → In f L → Lives fs (at (f .name)))
     → total (rootAt fs i) (placesOf at L) ≡ count i (treeRoots (rootsOf fs at L))
 total-roots at fs i [] h = sym (count-nil i)
 total-roots at fs i (f ∷ L) h =
@@ -64,7 +64,7 @@ module _ {P : Trees} {M : Machine} {c : Core} (R : Relates P M c) where
   abbrev at : Name → ℕ
   at = R .at
 
-  abbrev fs : List ℕ
+  abbrev fs : List FrameRecord
   fs = c .frames
 
   abbrev L : List Frame
@@ -75,7 +75,7 @@ module _ {P : Trees} {M : Machine} {c : Core} (R : Relates P M c) where
   pub recorded : (f : Frame) → In f L → (s : ℕ) × Recorded fs at L s f
   recorded f m = elim (In-cases (M .suspended) m) [ inl i ↦ (1, R .waiting f i) | inr i ↦ (0, R .running f i) ]
 
-  pub inside : (f : Frame) → In f L → at (f .name) < places
+  pub inside : (f : Frame) → In f L → at (f .name) < length fs
   inside f m = recorded f m .1 .inside
 
   pub alive : (f : Frame) → In f L → Lives fs (at (f .name))
@@ -91,7 +91,7 @@ module _ {P : Trees} {M : Machine} {c : Core} (R : Relates P M c) where
   abbrev Vacant : ℕ → Type 0
   Vacant p = (count p (placesOf at L) ≡ 0) × (count p (R .gs) ≡ 1) × (q : ℕ) × (frameAt fs p ≡ freePlace q)
 
-  pub place-or-free : (p : ℕ) → p < places → Taken p ⊎ Vacant p
+  pub place-or-free : (p : ℕ) → p < length fs → Taken p ⊎ Vacant p
   place-or-free p b = elim (ℕ-discrete (count p (R .gs)) 0) [
     | yes e ↦ inl (omega (arith, R .once p b), e)
     | no e ↦ (let v = R .vacant p b (omega arith) in inr (omega (arith, R .once p b), omega (arith, R .once p b), v .0, v .1))
@@ -100,14 +100,14 @@ module _ {P : Trees} {M : Machine} {c : Core} (R : Relates P M c) where
   free-dead : (p q : ℕ) → frameAt fs p ≡ freePlace q → Lives fs p → ⊥
   free-dead p q e l = omega (arith, l, ap (λ x. x .live) e)
 
-  pub live-frame : (p : ℕ) → p < places → Lives fs p → (f : Frame) × In f L × (at (f .name) ≡ p)
+  pub live-frame : (p : ℕ) → p < length fs → Lives fs p → (f : Frame) × In f L × (at (f .name) ≡ p)
   live-frame p b l = elim (place-or-free p b) [
     | inl h ↦ place-frame at p L (omega (arith, h .0))
     | inr h ↦ absurd (free-dead p (h .2) (h .3) l)
   ]
 
   -- what holds at each live frame's place holds at each live place
-  at-live : (Q : ℕ → Type 0) → ((f : Frame) → In f L → Q (at (f .name))) → (p : ℕ) → p < places → Lives fs p → Q p
+  at-live : (Q : ℕ → Type 0) → ((f : Frame) → In f L → Q (at (f .name))) → (p : ℕ) → p < length fs → Lives fs p → Q p
   at-live Q h p b l = let r = live-frame p b l in subst Q (r .2) (h (r .0) (r .1))
 
   once-there : (f : Frame) → In f L → count (at (f .name)) (placesOf at L) ≡ 1
@@ -117,16 +117,16 @@ module _ {P : Trees} {M : Machine} {c : Core} (R : Relates P M c) where
   one-frame f g mf mg e = place-apart at f g L mf mg e (omega (arith, once-there f mf))
 
   -- a sum over all places in which free ones add nothing
-  along : (h : ℕ → ℕ) → ((p q : ℕ) → frameAt fs p ≡ freePlace q → h p ≡ 0) → sum places h ≡ total h (placesOf at L)
+  along : (h : ℕ → ℕ) → ((p q : ℕ) → frameAt fs p ≡ freePlace q → h p ≡ 0) → sum (length fs) h ≡ total h (placesOf at L)
   along h z =
-      sum-total places h (placesOf at L)
-      (below-of places (placesOf at L) (λ p m. (let r = place-frame at p L (In-count (placesOf at L) m) in subst (λ q. q < places) (r .2) (inside (r .0) (r .1)))))
+      sum-total (length fs) h (placesOf at L)
+      (below-of (length fs) (placesOf at L) (λ p m. (let r = place-frame at p L (In-count (placesOf at L) m) in subst (λ q. q < length fs) (r .2) (inside (r .0) (r .1)))))
       (λ p b. elim (place-or-free p b) [ inl e ↦ inl (e .0) | inr e ↦ inr (e .0, z p (e .2) (e .3)) ])
 
   -- the live frames' roots, in the order of their places
   pub roots-count : (i : ℕ) → count i (liveRoots fs) ≡ count i (treeRoots (rootsOf fs at L))
   roots-count i =
-      roots-below i places fs
+      roots-below i (length fs) fs
       ∙ along (rootAt fs i) (λ p q e. ap (λ (b : Bool). cond {A = ℕ} b (δ i (frameAt fs p .root)) 0) (ne-eqb (frameAt fs p .live) 1 (free-dead p q e)))
       ∙ total-roots at fs i L alive
 
@@ -186,7 +186,7 @@ module _ {P : Trees} {M : Machine} {c : Core} (R : Relates P M c) where
         ∙ total-children at (isChildAt fs (at (f .name))) (f .name) L (λ g k. child-is f m g k (g .name) refl)
 
     -- "Outstanding counts are right."
-    pub outstanding : (p : ℕ) → p < places → Lives fs p → frameAt fs p .outstanding ≡ children fs p
+    pub outstanding : (p : ℕ) → p < length fs → Lives fs p → frameAt fs p .outstanding ≡ children fs p
     outstanding = at-live (λ p. frameAt fs p .outstanding ≡ children fs p) (λ f m. recorded f m .1 .outstanding ∙ sym (children-is f m))
 
     -- ---- Main and parents
@@ -231,11 +231,11 @@ module _ {P : Trees} {M : Machine} {c : Core} (R : Relates P M c) where
     parent-at f m (k ∷ p) n d =
         let g = tree .rooted f m k p n in
         let e : at (g .0 .name) ≡ frameAt fs (at (f .name)) .parent = ap at (g .2) ∙ ap (parentPlace at) (sym n) ∙ sym (parent-is f m) in
-        subst (λ q. (q < places) × Lives fs q × (frameAt fs (at (f .name)) .depth ≡ suc (frameAt fs q .depth))) e
+        subst (λ q. (q < length fs) × Lives fs q × (frameAt fs (at (f .name)) .depth ≡ suc (frameAt fs q .depth))) e
         (inside (g .0) (g .1), alive (g .0) (g .1), recorded f m .1 .depth ∙ ap length n ∙ ap suc (sym (recorded (g .0) (g .1) .1 .depth ∙ ap length (g .2))))
 
     -- "Every other live frame has a live parent one shallower."
-    pub parents : (p : ℕ) → p < places → Lives fs p → frameAt fs p .depth ≢ 0 → HasParent fs p
+    pub parents : (p : ℕ) → p < length fs → Lives fs p → frameAt fs p .depth ≢ 0 → HasParent fs p
     parents = at-live (λ p. frameAt fs p .depth ≢ 0 → HasParent fs p) (λ f m. parent-at f m (f .name) refl)
 
     -- ---- where frames stand
@@ -255,7 +255,7 @@ module _ {P : Trees} {M : Machine} {c : Core} (R : Relates P M c) where
         ]
 
     -- "Each live frame is either in just one place of one deque and not suspended, or in none and suspended with a live child."
-    pub placed : DequeInvariant M → (p : ℕ) → p < places → Lives fs p → Placed (c .deques) fs p
+    pub placed : DequeInvariant M → (p : ℕ) → p < length fs → Lives fs p → Placed (c .deques) fs p
     placed inv = at-live (Placed (c .deques) fs) (placed-at inv)
 
     -- a suspended frame may be returning, a frame in a deque is not
@@ -269,5 +269,5 @@ module _ {P : Trees} {M : Machine} {c : Core} (R : Relates P M c) where
     ]
 
     -- R-3: "1 on a frame waiting so, which is suspended, else 0"
-    pub returning : DequeInvariant M → (p : ℕ) → p < places → Lives fs p → Returning fs p
+    pub returning : DequeInvariant M → (p : ℕ) → p < length fs → Lives fs p → Returning fs p
     returning inv = at-live (Returning fs) (returning-at inv)

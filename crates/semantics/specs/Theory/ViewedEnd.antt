@@ -6,6 +6,7 @@ use mathlib.Core.List.{List·Memᴰ as In, List·Memᴰ·head as here, List·Mem
 use mathlib.Core.List.{List, [], _∷_, _++_, map, map-append, append-nil, Permᴰ·symm}
 use Prim.Native.Nat.{ℕ, _≤_, _<_}
 use native.Mathlib.Omega.{arith}
+use lib.ListN.{length}
 use borrow.Author.Tests.{eq-eqb}
 use Rattle.words.specs.Basics.{none, same}
 use Rattle.words.specs.Counting.{δ-same, count, count-cons, count-append}
@@ -15,7 +16,7 @@ use Rattle.words.specs.Distinct.{same-eq, same-ne, same-differ}
 use Rattle.words.specs.Lists.{In-perm}
 use Rattle.reducers.specs.Reducers.{joinView, viewWords, viewOf}
 use Rattle.reducers.specs.Theory.Folds.{view-append}
-use Rattle.frames.specs.Widths.{places}
+use Rattle.frames.specs.declared.Frame.{Frame as FrameRecord}
 use Rattle.frames.specs.Frames.{frameAt}
 use Rattle.frames.specs.Siblings.{Children, nextAfter}
 use Rattle.frames.specs.Theory.EndRecords.{ended-next, ended-view}
@@ -47,10 +48,10 @@ apart-counts x ls rs h = (omega (arith, count-append x ls (x ∷ rs), count-cons
 
 module _ {P : Trees} {M M′ : Machine} {c c′ : Core} (r : Relates P M c) (r′ : Relates P M′ c′) (tree : FrameTree M) (K : Links (c .frames) (r .at) (live M)) (g : Frame) (R : List Frame) (E : Ended r r′ g R)
     (childless : hasChild (g .name) (live M) ≡ false) (W : Views) (H : Viewed r W) where
-  abbrev fs : List ℕ
+  abbrev fs : List FrameRecord
   fs = c .frames
 
-  abbrev es : List ℕ
+  abbrev es : List FrameRecord
   es = c′ .frames
 
   abbrev own : ℕ
@@ -163,8 +164,8 @@ module _ {P : Trees} {M M′ : Machine} {c c′ : Core} (r : Relates P M c) (r�
       g-there : In (g .name) ns
       g-there = H .ordered .names .all g g-lives
 
-      m-inside : r .at m < places
-      m-inside = let f = placed m m-there in subst (λ (z : Name). r .at z < places) (f .2) (inside r (f .0) (f .1))
+      m-inside : r .at m < length fs
+      m-inside = let f = placed m m-there in subst (λ (z : Name). r .at z < length fs) (f .2) (inside r (f .0) (f .1))
 
       next-is : nextAfter fs own ≡ r .at m
       next-is = ap (λ (n : Name). nextAfter fs (r .at n)) is ∙ next-frame r tree W H k p m xs ys (ns-parts ∙ ap (λ (n : Name). xs ++ (n ∷ m ∷ ys)) is)
@@ -177,7 +178,7 @@ module _ {P : Trees} {M M′ : Machine} {c c′ : Core} (r : Relates P M c) (r�
       abbrev q : ℕ
       q = r .at (parent .0 .name)
 
-      q-inside : q < places
+      q-inside : q < length fs
       q-inside = inside r (parent .0) (parent .1)
 
       q-some : q ≢ none
@@ -188,16 +189,16 @@ module _ {P : Trees} {M M′ : Machine} {c c′ : Core} (r : Relates P M c) (r�
       other-view : (u : View) → Other u → frameAt es (r .at (u .name)) .view ≡ viewOf (u .folds)
       other-view u x =
           let i = In-map (λ (z : View). z .name) (x .0) in
-          ap (λ (l : List ℕ). frameAt l (r .at (u .name)) .view) (E .frames)
-          ∙ ended-view fs (c .head .numbers .«free_place») own (r .formed .long) (inside r g g-lives) q (up r tree K g R (E .before) k p is) q-some q-inside (q-apart r tree K g R (E .before) k p is)
+          ap (λ (l : List FrameRecord). frameAt l (r .at (u .name)) .view) (E .frames)
+          ∙ ended-view fs (c .head .numbers .«free_place») own (inside r g g-lives) q (up r tree K g R (E .before) k p is) q-some q-inside (q-apart r tree K g R (E .before) k p is)
           (r .at m) next-is m-inside (r .at (u .name)) (place-apart (u .name) (g .name) i g-there (x .1)) (place-apart (u .name) m i m-there (x .2))
           ∙ H .views u (x .0)
 
       -- "joins on the left of the next one's"
       next-view : frameAt es (r .at m) .view ≡ viewOf (v .folds ++ w .folds)
       next-view =
-          ap (λ (l : List ℕ). frameAt l (r .at m) .view) (E .frames)
-          ∙ ended-next fs (c .head .numbers .«free_place») own (r .formed .long) (inside r g g-lives) q (up r tree K g R (E .before) k p is) q-some q-inside (q-apart r tree K g R (E .before) k p is)
+          ap (λ (l : List FrameRecord). frameAt l (r .at m) .view) (E .frames)
+          ∙ ended-next fs (c .head .numbers .«free_place») own (inside r g g-lives) q (up r tree K g R (E .before) k p is) q-some q-inside (q-apart r tree K g R (E .before) k p is)
           (r .at m) next-is m-inside (place-apart m (g .name) m-there g-there m-not-g)
           ∙ ap₂ joinView own-view (H .views w w-there)
           ∙ sym (view-append (v .folds) (w .folds))

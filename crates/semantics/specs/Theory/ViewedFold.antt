@@ -56,7 +56,7 @@ module _ {P : Trees} {M M′ : Machine} {c c′ : Core} (r : Relates P M c) (r�
     views = view-is;
     siblings = λ f m.
         subst (λ (ns : List Name). Children (c′ .frames) (r′ .at (f .name)) (map (r′ .at) (childrenOf (f .name) ns))) (sym same-names)
-        (children-kept (c .frames) (c′ .frames) (λ p. F .alike .same p .live) (λ p. F .alike .same p .parent) (F .link)
+        (children-kept (c .frames) (c′ .frames) (F .alike .same-length) (λ p. F .alike .same p .live) (λ p. F .alike .same p .parent) (F .link)
         (children-placed (r .at) (r′ .at) (F .places-kept) (f .name) (childrenOf (f .name) (viewNames (W .views))) (H .siblings f (subst (λ (N : Machine). In f (live N)) (F .same-machine) m))));
     none-yet = λ f m. H .none-yet q lives;
     totals = λ e. F .same-totals ∙ H .totals (ap live (sym (F .same-machine)) ∙ e);

@@ -3,6 +3,7 @@ use mathlib.Core.Path.{_≡_, refl, sym, ap, _∙_, subst}
 use mathlib.Core.List.{List·Memᴰ as In, List·Memᴰ·head as here, List·Memᴰ·not-nil as not-in-nil, Memᴰ·cast}
 use mathlib.Core.List.{List, [], _∷_, map}
 use Prim.Native.Nat.{ℕ}
+use Rattle.frames.specs.declared.Frame.{Frame as FrameRecord}
 use Rattle.frames.specs.Frames.{frameAt}
 use Rattle.frames.specs.Siblings.{Children}
 use Rattle.model.specs.Machine.{Name, Frame, Machine, live}
@@ -32,7 +33,7 @@ none-lived [] to e = refl
 none-lived (f ∷ L) to e = let x = to f (here refl) in absurd (not-in-nil (subst (λ (K : List Frame). In (x .0) K) e (x .1)))
 
 -- the same places
-pub children-placed : {fs : List ℕ} (at at′ : Name → ℕ) → ((n : Name) → at′ n ≡ at n) → (n : Name) (cs : List Name) → Children fs (at n) (map at cs) → Children fs (at′ n) (map at′ cs)
+pub children-placed : {fs : List FrameRecord} (at at′ : Name → ℕ) → ((n : Name) → at′ n ≡ at n) → (n : Name) (cs : List Name) → Children fs (at n) (map at cs) → Children fs (at′ n) (map at′ cs)
 children-placed {fs} at at′ e n cs C =
     subst (λ (p : ℕ). Children fs p (map at′ cs)) (sym (e n)) (subst (Children fs (at n)) (map-cong at at′ cs (λ m i. sym (e m))) C)
 
@@ -43,7 +44,7 @@ viewed-keeps {M = M} {M′ = M′} {c = c} {c′ = c′} {r = r} {r′ = r′} K
   siblings = λ f m.
       let x = K .from f m in
       let ns = viewNames (W .views) in
-      children-kept (c .frames) (c′ .frames) (K .live) (K .parent) (K .link)
+      children-kept (c .frames) (c′ .frames) (K .same-length) (K .live) (K .parent) (K .link)
       (children-placed (r .at) (r′ .at) (K .places) (f .name) (childrenOf (f .name) ns)
       (subst (λ (n : Name). Children (c .frames) (r .at n) (map (r .at) (childrenOf n ns))) (x .2) (H .siblings (x .0) (x .1))));
   none-yet = λ f m. let x = K .from f m in H .none-yet (x .0) (x .1);

@@ -10,7 +10,7 @@ use Rattle.words.specs.Basics.{same}
 use Rattle.words.specs.Tests.{decided}
 use Rattle.words.specs.Distinct.{same-eq, same-ne}
 use Rattle.reducers.specs.Reducers.{viewOf}
-use Rattle.frames.specs.declared.Frame.{Frame as FrameWords}
+use Rattle.frames.specs.declared.Frame.{Frame as FrameRecord}
 use Rattle.frames.specs.Frames.{frameAt}
 use Rattle.frames.specs.Siblings.{Children}
 use Rattle.frames.specs.Steps.{linkChild}
@@ -87,23 +87,23 @@ module _ {P : Trees} {M M′ : Machine} {c c′ : Core} (r : Relates P M c) (r�
 
   -- ---- the views
 
-  abbrev linked : List ℕ
+  abbrev linked : List FrameRecord
   linked = linkChild (c .frames) p g
 
   -- a link is no part of a view
   linked-view : (x : ℕ) → frameAt linked x .view ≡ frameAt (c .frames) x .view
-  linked-view x = link-view (c .frames) p g (r .formed .long) x
+  linked-view x = link-view (c .frames) p g x
 
   abbrev ViewIs : Name → List (ℕ × ℕ) → Type 0
   ViewIs n folds = frameAt (c′ .frames) (r′ .at n) .view ≡ viewOf folds
 
   child-view : (u : View) → In u (W .views) → u .name ≡ q .name → ViewIs n′ (u .folds)
   child-view u m e =
-      ap (λ (x : ℕ). frameAt (c′ .frames) x .view) (S .child-place) ∙ ap (λ (f : FrameWords). f .view) (S .new) ∙ linked-view p
+      ap (λ (x : ℕ). frameAt (c′ .frames) x .view) (S .child-place) ∙ ap (λ (f : FrameRecord). f .view) (S .new) ∙ linked-view p
       ∙ ap (λ (n : Name). frameAt (c .frames) (r .at n) .view) (sym e) ∙ H .views u m
 
   own-view : ViewIs (q .name) []
-  own-view = ap (λ (x : ℕ). frameAt (c′ .frames) x .view) (S .places-kept q (S .bottom-lives)) ∙ ap (λ (f : FrameWords). f .view) (S .own)
+  own-view = ap (λ (x : ℕ). frameAt (c′ .frames) x .view) (S .places-kept q (S .bottom-lives)) ∙ ap (λ (f : FrameRecord). f .view) (S .own)
 
   other-view : (v : View) → In v (W .views) → v .name ≢ q .name → ViewIs (v .name) (v .folds)
   other-view v m d =
@@ -111,7 +111,7 @@ module _ {P : Trees} {M M′ : Machine} {c c′ : Core} (r : Relates P M c) (r�
       let f = H .ordered .names .alive (v .name) i in
       let apart : r .at (v .name) ≢ p = subst (λ (n : Name). r .at n ≢ p) (f .2) (placed-apart r (f .0) q (f .1) (S .bottom-lives) (λ e. d (sym (f .2) ∙ e))) in
       ap (λ (x : ℕ). frameAt (c′ .frames) x .view) (place-kept (v .name) i)
-      ∙ ap (λ (z : FrameWords). z .view) (S .others (r .at (v .name)) (subst (λ (n : Name). r .at n ≢ g) (f .2) (not-free (f .0) (f .1))) apart)
+      ∙ ap (λ (z : FrameRecord). z .view) (S .others (r .at (v .name)) (subst (λ (n : Name). r .at n ≢ g) (f .2) (not-free (f .0) (f .1))) apart)
       ∙ linked-view (r .at (v .name))
       ∙ H .views v m
 

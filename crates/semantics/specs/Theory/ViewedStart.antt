@@ -5,14 +5,13 @@ use mathlib.Core.List.{List, [], cons≢nil}
 use Prim.Native.Nat.{ℕ}
 use native.Mathlib.Omega.{arith}
 use native.Mathlib.Decide.{ℕ-discrete}
-use lib.ListN.{replicate, length-replicate}
+use lib.ListN.{length}
 use Rattle.reducers.specs.Reducers.{viewOf}
-use Rattle.frames.specs.Widths.{frameWords}
-use Rattle.frames.specs.declared.Frame.{Frame as FrameWords}
+use Rattle.frames.specs.declared.Frame.{Frame as FrameRecord}
 use Rattle.frames.specs.Frames.{frameAt, mainFrame, initFrames}
 use Rattle.frames.specs.Siblings.{Children}
 use Rattle.frames.specs.Theory.Siblings.{children-empty}
-use Rattle.frames.specs.Theory.Start.{init-main, init-free}
+use Rattle.frames.specs.Theory.Start.{length-init, init-main, init-free}
 use Rattle.model.specs.Machine.{Name, Frame, live, main, start}
 use Rattle.model.specs.Views.{View, viewsAtStart}
 use Rattle.model.specs.Theory.Effects.{live-start}
@@ -25,49 +24,49 @@ use Rattle.semantics.specs.Theory.StartRelates.{firstCore, start-relates
 use Rattle.semantics.specs.Theory.ToSoundFrames.{inside, alive, children-is}
 use Rattle.semantics.specs.Theory.Viewed.{Viewed}
 
-module _ (workers : ℕ) (vs ws : List ℕ) (F : Fit workers vs ws) where
+module _ (workers : ℕ) (vs : List ℕ) (lent : List FrameRecord) (ws : List ℕ) (F : Fit workers vs lent ws) where
   abbrev L : List Frame
-  L = live (start workers vs (wholeNodes ws))
+  L = live (start workers vs (wholeNodes ws) (length lent))
 
   abbrev at : Name → ℕ
-  at = start-relates workers vs ws F .at
+  at = start-relates workers vs lent ws F .at
 
-  abbrev fs : List ℕ
-  fs = initFrames (replicate frameWords 0)
+  abbrev fs : List FrameRecord
+  fs = initFrames lent
 
   -- Main lives, and no other frame
   main-lives : In (main vs) L
-  main-lives = subst (λ (l : List Frame). In (main vs) l) (sym (live-start workers vs (wholeNodes ws))) (here refl)
+  main-lives = subst (λ (l : List Frame). In (main vs) l) (sym (live-start workers vs (wholeNodes ws) (length lent))) (here refl)
 
   is-main : (f : Frame) → In f L → f .name ≡ []
-  is-main f m = ap (λ (z : Frame). z .name) (In-one (subst (λ (l : List Frame). In f l) (live-start workers vs (wholeNodes ws)) m))
+  is-main f m = ap (λ (z : Frame). z .name) (In-one (subst (λ (l : List Frame). In f l) (live-start workers vs (wholeNodes ws) (length lent)) m))
 
   -- "Main in place 0"
   main-place : at [] ≡ 0
   main-place = elim (ℕ-discrete (at []) 0) [
     | yes e ↦ e
     | no e ↦
-        let free = init-free (replicate frameWords 0) (length-replicate {A = ℕ} frameWords 0) (at []) (omega arith) (inside (start-relates workers vs ws F) (main vs) main-lives) in
-        absurd (omega (arith, alive (start-relates workers vs ws F) (main vs) main-lives, ap (λ (z : FrameWords). z .live) free))
+        let free = init-free lent (F .places-positive) (F .places-le) (at []) (omega arith) (omega (arith, length-init lent, inside (start-relates workers vs lent ws F) (main vs) main-lives)) in
+        absurd (omega (arith, alive (start-relates workers vs lent ws F) (main vs) main-lives, ap (λ (z : FrameRecord). z .live) free))
   ]
 
   main-record : frameAt fs (at []) ≡ mainFrame 0
-  main-record = ap (frameAt fs) main-place ∙ init-main (replicate frameWords 0) (length-replicate {A = ℕ} frameWords 0)
+  main-record = ap (frameAt fs) main-place ∙ init-main lent (F .places-positive) (F .places-le)
 
   no-children : Children fs (at []) []
-  no-children = children-empty fs (at []) (children-is (start-relates workers vs ws F) (tree-start workers vs (wholeNodes ws)) (main vs) main-lives ∙ ap (childCount []) (live-start workers vs (wholeNodes ws)))
+  no-children = children-empty fs (at []) (omega (arith, length-init lent, F .places-le)) (children-is (start-relates workers vs lent ws F) (tree-start workers vs (wholeNodes ws) (length lent)) (main vs) main-lives ∙ ap (childCount []) (live-start workers vs (wholeNodes ws) (length lent)))
 
-  pub start-links : Links (firstCore workers vs ws .frames) (start-relates workers vs ws F .at) (live (start workers vs (wholeNodes ws)))
+  pub start-links : Links (firstCore workers vs lent ws .frames) (start-relates workers vs lent ws F .at) (live (start workers vs (wholeNodes ws) (length lent)))
   start-links = record {
     children = λ f m. ([], subst (λ (n : Name). Children fs (at n) []) (sym (is-main f m)) no-children);
-    main-link = λ f m e. ap (λ (n : Name). frameAt fs (at n) .younger) e ∙ ap (λ (z : FrameWords). z .younger) main-record;
+    main-link = λ f m e. ap (λ (n : Name). frameAt fs (at n) .younger) e ∙ ap (λ (z : FrameRecord). z .younger) main-record;
   }
 
-  pub viewed-start : Viewed (start-relates workers vs ws F) viewsAtStart
+  pub viewed-start : Viewed (start-relates workers vs lent ws F) viewsAtStart
   viewed-start = record {
-    ordered = post-start workers vs (wholeNodes ws);
-    views = λ v m. subst (λ (u : View). frameAt fs (at (u .name)) .view ≡ viewOf (u .folds)) (sym (In-one m)) (ap (λ (z : FrameWords). z .view) main-record);
+    ordered = post-start workers vs (wholeNodes ws) (length lent);
+    views = λ v m. subst (λ (u : View). frameAt fs (at (u .name)) .view ≡ viewOf (u .folds)) (sym (In-one m)) (ap (λ (z : FrameRecord). z .view) main-record);
     siblings = λ f m. rw (is-main f m) no-children;
     none-yet = λ f m. refl;
-    totals = λ e. absurd (cons≢nil (sym (live-start workers vs (wholeNodes ws)) ∙ e));
+    totals = λ e. absurd (cons≢nil (sym (live-start workers vs (wholeNodes ws) (length lent)) ∙ e));
   }

@@ -11,34 +11,37 @@ use lib.Dec.{eqb}
 use borrow.Author.Tests.{eqb-true, eq-eqb}
 use Rattle.words.specs.Tests.{true≢false}
 use Rattle.words.specs.Below.{Words}
-use Rattle.image.specs.Image.{imageBytes, imageCheck, wrongLength}
+use Rattle.frames.specs.Widths.{dequeWords}
+use Rattle.soundness.specs.Numbers.{numberCount}
+use Rattle.image.specs.Image.{imageCheck, wrongLength}
 use Rattle.semantics.specs.Core.{Core}
 use Rattle.semantics.specs.Entries.{State, numbersOf, stateOf, isSound, chainFree}
-use Rattle.semantics.specs.Images.{savedImage, loadOn}
-use Rattle.semantics.specs.Calls.{PoolAt, HostCall, StateAndPool, afterCall, Exchange, exchangesOf, recordsIn, answersIn, poolsAt, coreIn, Past, Saved, Run, Call, call, save, load, imageAt, pastAfter, saveResult, imagesAfter, runAfter, runOf, begun}
+use Rattle.semantics.specs.Images.{savedImage, savedBytes, loadOn}
+use Rattle.semantics.specs.Calls.{PoolAt, HostCall, StateAndPool, afterCall, Exchange, exchangesOf, recordsIn, answersIn, poolsAt, coreIn, Past, Saved, Run, Call, call, save, load, imageAt, pastAfter, saveResult, intoTable, loadResult, imagesAfter, runAfter, runOf, begun}
 use Rattle.semantics.specs.Demands.{Plain, Specification, answersBy, machineBy, Answers, StateWords, HostWords, CallWords, AllCallWords}
 use Rattle.semantics.specs.Promises.{Fits}
 use Rattle.semantics.specs.Theory.Pools.{Beyond}
 use Rattle.semantics.specs.Theory.SoundSteps.{Carried, is-sound}
 use Rattle.semantics.specs.Theory.Elsewhere.{withPool}
 use Rattle.semantics.specs.Theory.AllWords.{call-words}
-use Rattle.semantics.specs.Theory.Lengths.{call-fits}
-use Rattle.semantics.specs.Theory.Images.{Refuses, refused-calls, refused-save, accepted-save, sound-room, LoadTaken, load-taken, load-leaves-none, load-fits, SaysCore, saved-says, loaded-state, loaded-nodes, loaded-words, loaded-beyond}
+use Rattle.semantics.specs.Theory.Lengths.{call-fits, call-places}
+use Rattle.semantics.specs.Theory.Images.{Refuses, refused-calls, refused-save, accepted-save, sound-room, LoadTaken, load-taken, load-leaves-none, load-fits, load-places, SaysCore, saved-says, loaded-state, loaded-nodes, loaded-words, loaded-beyond}
 use Rattle.semantics.specs.Theory.Runs.{stateAndPool, Laws, KeptBy, Fed, core-fits, beyond-then, fed-then, call-follows}
 
--- ---- the parts keep their lengths, if those that are lent for readings have them
+-- ---- the parts of words keep their lengths, if those that are lent for readings have them
 
 abbrev pub PartsFit : List Call → Type 0
 PartsFit [] = Unit {0}
 PartsFit (call k ∷ cs) = PartsFit cs
 PartsFit (save work target ∷ cs) = PartsFit cs
-PartsFit (load i s ws work ∷ cs) = Fits s × PartsFit cs
+PartsFit (load i ns ds ws work ∷ cs) = (length ns ≡ numberCount) × (length ds ≡ dequeWords) × PartsFit cs
 
 pub calls-fit : (cs : List Call) (r : Run) → PartsFit cs → Fits (r .now .state) → Fits (runOf r cs .now .state)
 calls-fit [] r p F = F
 calls-fit (call k ∷ cs) r p F = calls-fit cs (runAfter r (call k)) p (call-fits (r .now) k F)
 calls-fit (save work target ∷ cs) r p F = calls-fit cs (runAfter r (save work target)) p F
-calls-fit (load i s ws work ∷ cs) r p F = calls-fit cs (runAfter r (load i s ws work)) (p .1) (load-fits s ws work (imageAt (r .images) i .bytes) (p .0))
+calls-fit (load i ns ds ws work ∷ cs) r p F =
+    calls-fit cs (runAfter r (load i ns ds ws work)) (p .2) (load-fits (intoTable r ns ds) ws work (imageAt (r .images) i .bytes) (record { numbers = p .0; deques = p .1 }))
 
 -- ---- what each call keeps
 
@@ -60,6 +63,7 @@ module _ (S : Specification) (Follows : Plain → Core → Type 0) (L : Laws S F
     pub standing : r .stateless ≡ false → Behind (r .past) (r .now) × Beyond N (r .lent) (r .now .pool)
     pub none : r .stateless ≡ true → Refuses (r .now)
     pub images : (i : ℕ) → ImageKept (imageAt (r .images) i)
+    pub places : length (r .now .state .frames) ≡ P .machine .places
 
   -- ---- a step or a tape
 
@@ -89,7 +93,7 @@ module _ (S : Specification) (Follows : Plain → Core → Type 0) (L : Laws S F
       go : (b : Bool) → r .stateless ≡ b → RunKept (runAfter r (call k))
       go false e =
           let B = call-standing r k w K e in
-          record { long = B .0 .fed .long; same = B .0 .fed .same; standing = λ q. B; none = λ q. absurd (true≢false (sym q ∙ e)); images = K .images }
+          record { long = B .0 .fed .long; same = B .0 .fed .same; standing = λ q. B; none = λ q. absurd (true≢false (sym q ∙ e)); images = K .images; places = call-places (r .now) k ∙ K .places }
       go true e =
           let R = K .none e in
           let p = sym (same-past r k R) in
@@ -99,6 +103,7 @@ module _ (S : Specification) (Follows : Plain → Core → Type 0) (L : Laws S F
             standing = λ q. absurd (true≢false (sym e ∙ q));
             none = λ q. subst Refuses (sym (refused-calls (r .now) k R .0)) R;
             images = K .images;
+            places = call-places (r .now) k ∙ K .places;
           }
 
   -- ---- a save
@@ -111,14 +116,14 @@ module _ (S : Specification) (Follows : Plain → Core → Type 0) (L : Laws S F
 
   -- what an accepted save has written
   abbrev newImage : Run → List ℕ → List ℕ → Saved
-  newImage r work target = record { bytes = take (imageBytes (numbersOf (r .now .state) .nodes)) (saveResult (r .now) work target .target); past = r .past }
+  newImage r work target = record { bytes = take (savedBytes (r .now .state)) (saveResult (r .now) work target .target); past = r .past }
 
   written : (r : Run) (work target : List ℕ) → RunKept r → saveResult (r .now) work target .result ≡ 0 → (b : Bool) → r .stateless ≡ b → ImageKept (newImage r work target)
   written r work target K z false e = present (r .now) (K .standing e .0) (accepted-save (r .now) work target z .image)
   written r work target K z true e = absurd (true≢false (sym (eq-eqb (saveResult (r .now) work target .result) 0 z) ∙ refused-save (r .now) work target (K .none e)))
 
   kept-save : (r : Run) (work target : List ℕ) → RunKept r → RunKept (runAfter r (save work target))
-  kept-save r work target K = record { long = K .long; same = K .same; standing = K .standing; none = K .none; images = go (eqb (saveResult (r .now) work target .result) 0) refl }
+  kept-save r work target K = record { long = K .long; same = K .same; standing = K .standing; none = K .none; images = go (eqb (saveResult (r .now) work target .result) 0) refl; places = K .places }
     where
       go : (b : Bool) → eqb (saveResult (r .now) work target .result) 0 ≡ b → (i : ℕ) → ImageKept (imageAt (imagesAfter r work target) i)
       go false e i = rw e (K .images i)
@@ -192,24 +197,21 @@ module _ (S : Specification) (Follows : Plain → Core → Type 0) (L : Laws S F
   load-kept v (absent e) s ws work w T = absurd (no-bytes s ws work (subst (LoadTaken s ws work) e T))
   load-kept v (present h B is) s ws work w T = loaded v h B is s ws work w T
 
-  kept-load : (r : Run) (i : ℕ) (s : State) (ws work : List ℕ) → Words ws → RunKept r → RunKept (runAfter r (load i s ws work))
-  kept-load r i s ws work w K = go (eqb (loadOn s ws work (imageAt (r .images) i .bytes) .result) 0) refl
+  kept-load : (r : Run) (i : ℕ) (ns ds ws work : List ℕ) → Words ws → RunKept r → RunKept (runAfter r (load i ns ds ws work))
+  kept-load r i ns ds ws work w K = go (eqb (loadResult r i ns ds ws work .result) 0) refl
     where
-      v : Saved
-      v = imageAt (r .images) i
-
-      go : (b : Bool) → eqb (loadOn s ws work (imageAt (r .images) i .bytes) .result) 0 ≡ b → RunKept (runAfter r (load i s ws work))
+      go : (b : Bool) → eqb (loadResult r i ns ds ws work .result) 0 ≡ b → RunKept (runAfter r (load i ns ds ws work))
       go true e =
-          let B = load-kept (imageAt (r .images) i) (K .images i) s ws work w (load-taken s ws work (imageAt (r .images) i .bytes) (eqb-true (loadOn s ws work (imageAt (r .images) i .bytes) .result) 0 e)) in
-          rw e (record { long = B .0 .fed .long; same = B .0 .fed .same; standing = λ q. B; none = λ q. absurd (true≢false (sym q)); images = K .images })
-      go false e = rw e (record { long = K .long; same = K .same; standing = λ q. absurd (true≢false q); none = λ q. load-leaves-none s ws work (imageAt (r .images) i .bytes) e; images = K .images })
+          let B = load-kept (imageAt (r .images) i) (K .images i) (intoTable r ns ds) ws work w (load-taken (intoTable r ns ds) ws work (imageAt (r .images) i .bytes) (eqb-true (loadResult r i ns ds ws work .result) 0 e)) in
+          rw e (record { long = B .0 .fed .long; same = B .0 .fed .same; standing = λ q. B; none = λ q. absurd (true≢false (sym q)); images = K .images; places = load-places (intoTable r ns ds) ws work (imageAt (r .images) i .bytes) ∙ K .places })
+      go false e = rw e (record { long = K .long; same = K .same; standing = λ q. absurd (true≢false q); none = λ q. load-leaves-none (intoTable r ns ds) ws work (imageAt (r .images) i .bytes) e; images = K .images; places = load-places (intoTable r ns ds) ws work (imageAt (r .images) i .bytes) ∙ K .places })
 
   -- ---- any call, and calls
 
   pub kept-after : (r : Run) (c : Call) → CallWords c → RunKept r → RunKept (runAfter r c)
   kept-after r (call k) w K = kept-call r k w K
   kept-after r (save work target) w K = kept-save r work target K
-  kept-after r (load i s ws work) w K = kept-load r i s ws work w K
+  kept-after r (load i ns ds ws work) w K = kept-load r i ns ds ws work w K
 
   pub kept-calls : (cs : List Call) (r : Run) → AllCallWords cs → RunKept r → RunKept (runOf r cs)
   kept-calls [] r w K = K
@@ -222,6 +224,7 @@ module _ (S : Specification) (Follows : Plain → Core → Type 0) (L : Laws S F
     standing = λ q. (record { fed = record { long = refl; kept = K; same = refl }; words = w; nodes = e }, (refl, refl));
     none = λ q. absurd (true≢false (sym q));
     images = λ i. absent refl;
+    places = ap (λ (g : StateAndPool). length (g .state .frames)) (K .held) ∙ sym (L .carried P (K .core) (K .follows) .related .numbers .table);
   }
 
   -- steps and tapes alone, whatever they hand in
@@ -242,4 +245,5 @@ module _ (S : Specification) (Follows : Plain → Core → Type 0) (L : Laws S F
     still-sound = λ e. fed-sound (K .standing e .0 .fed);
     same-length = λ e. K .standing e .1 .0;
     beyond = λ e. K .standing e .1 .1;
+    same-places = K .places;
   }

@@ -8,6 +8,7 @@ use native.Mathlib.Omega.{arith}
 use lib.Dec.{leb}
 use lib.ListN.{length}
 use Rattle.words.specs.Tests.{decided}
+use Rattle.frames.specs.declared.Frame.{Frame}
 use Rattle.soundness.specs.declared.Numbers.{Numbers}
 use Rattle.soundness.specs.declared.Checked.{Checked}
 use Rattle.soundness.specs.declared.Checked.the-variants.{NoRoom, Sound}
@@ -17,7 +18,7 @@ has-room : (p : Bool) (m : ℕ) → cond p (Sound m) Checked.Unsound ≡ NoRoom 
 has-room true m e = let z : _≡_ {A = ℕ} 0 1 = cc in omega arith
 has-room false m e = let z : _≡_ {A = ℕ} 0 1 = cc in omega arith
 
-module _ (s : Numbers) (ts ds fs ws ks : List ℕ) where
+module _ (s : Numbers) (ts ds : List ℕ) (fs : List Frame) (ws ks : List ℕ) where
   pub checked-room : leb (s .nodes) (length ks) ≡ true → checked s ts ds fs ws ks ≡ cond (sound s ts ds fs ws) (Sound (freeCount s ws)) Checked.Unsound
   unfolding checked
   checked-room e = rw e
