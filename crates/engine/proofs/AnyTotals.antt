@@ -2,13 +2,14 @@
 use mathlib.Core.List.{List}
 use Prim.Native.Nat.{ℕ, zero, suc}
 use Rattle.frames.specs.Deques.{bottom, pop}
+use Rattle.frames.specs.declared.Frame.{Frame}
 use Rattle.frames.specs.Frames.{frameAt}
 use Rattle.semantics.specs.declared.Head.{Head}
 use Rattle.semantics.specs.Core.{endAt}
 use Rattle.semantics.specs.Ranges.{EndsUpward, Ready}
 use Rattle.engine.specs.Promises.{core}
 
-ends-any : (d : ℕ) (h : Head) (ts us ds fs ws : List ℕ) (q : ℕ) → EndsUpward d (core h ts ds fs ws) q → EndsUpward d (core h us ds fs ws) q
+ends-any : (d : ℕ) (h : Head) (ts us ds : List ℕ) (fs : List Frame) (ws : List ℕ) (q : ℕ) → EndsUpward d (core h ts ds fs ws) q → EndsUpward d (core h us ds fs ws) q
 unfolding endAt
 ends-any zero h ts us ds fs ws q x = x
 ends-any (suc d) h ts us ds fs ws q x = (
@@ -19,18 +20,19 @@ ends-any (suc d) h ts us ds fs ws q x = (
 )
 
 -- the frame at place p, which has ended
-ended-any : (d : ℕ) (h : Head) (ts us ds fs ws : List ℕ) (p q : ℕ) → EndsUpward d (endAt (core h ts ds fs ws) p) q → EndsUpward d (endAt (core h us ds fs ws) p) q
+ended-any : (d : ℕ) (h : Head) (ts us ds : List ℕ) (fs : List Frame) (ws : List ℕ) (p q : ℕ) → EndsUpward d (endAt (core h ts ds fs ws) p) q → EndsUpward d (endAt (core h us ds fs ws) p) q
 unfolding endAt
 ended-any d h ts us ds fs ws p q x = ends-any d _ _ _ _ _ _ q x
 
-pub ready-any : (h : Head) (ts us ds fs ws : List ℕ) → Ready (core h ts ds fs ws) → Ready (core h us ds fs ws)
+pub ready-any : (h : Head) (ts us ds : List ℕ) (fs : List Frame) (ws : List ℕ) → Ready (core h ts ds fs ws) → Ready (core h us ds fs ws)
 ready-any h ts us ds fs ws r = record {
   workers-le = r .workers-le;
   splitters-le = r .splitters-le;
   low = r .low;
   nodes-positive = r .nodes-positive;
   long-deques = r .long-deques;
-  long-frames = r .long-frames;
+  table = r .table;
+  few-places = r .few-places;
   links = r .links;
   free-node = r .free-node;
   free-place = r .free-place;

@@ -1,9 +1,9 @@
 -- A return's ways out, and the turns of its ends upward, over plain variables.
-use mathlib.Core.Path.{_≡_, refl, sym, ap, ap₂, _∙_, subst}
+use mathlib.Core.Path.{_≡_, refl, sym, ap, _∙_, subst}
 use mathlib.Core.Logic.{_≢_, inl, inr}
 use mathlib.Core.Bool.{true, false, cond}
 use mathlib.Core.List.{List}
-use Prim.Native.Nat.{ℕ, suc, _-_, _<_}
+use Prim.Native.Nat.{ℕ, suc, _-_, _≤_, _<_}
 use native.Mathlib.Omega.{arith}
 use lib.Dec.{eqb}
 use lib.ListN.{length}
@@ -12,7 +12,7 @@ use Rattle.words.specs.Basics.{none}
 use Rattle.reducers.specs.Reducers.{viewWords}
 use Rattle.pool.specs.Pool.{release}
 use Rattle.pool.specs.Links.{Link, LinksIn}
-use Rattle.frames.specs.Widths.{maxWorkers, places, frameWords, dequeWords}
+use Rattle.frames.specs.Widths.{maxWorkers, maxPlaces, dequeWords}
 use Rattle.frames.specs.declared.Frame.{Frame}
 use Rattle.frames.specs.declared.Returned.{Returned}
 use Rattle.frames.specs.declared.Returned.the-variants.{Continued, Finished, Waiting}
@@ -25,16 +25,23 @@ use Rattle.frames.specs.Promises.{Waits, GoesOn}
 use Rattle.model.specs.declared.Step.the-variants.{Return}
 use Rattle.semantics.specs.declared.Head.{Head}
 use Rattle.semantics.specs.declared.Done.the-variants.{Ended}
-use Rattle.semantics.specs.declared.Answer.{Answer}
 use Rattle.semantics.specs.declared.Answer.the-variants.{Accepted}
-use Rattle.semantics.specs.Core.{Core, stepResult, withTable, returned, endAt, upward, endBottom, returnOn}
+use Rattle.semantics.specs.Core.{Core, StepResult, stepResult, withTable, returned, endAt, upward, endBottom, returnOn}
 use Rattle.semantics.specs.Ranges.{EndsUpward}
 use Rattle.engine.specs.declared.Out.{Out}
-use Rattle.engine.specs.Promises.{core, renewed, headAfter, Leaves, LeavesEnded, kindOn, EndsFrom, endsFrom}
+use Rattle.engine.specs.Promises.{core, renewed, headAfter, Leaves, LeavesEnded, Answers, kindOn, EndsFrom, endsFrom}
+use Rattle.engine.proofs.Steps.{both-words, leaves}
+
+-- what ends leave, of the core that they end in
+ends-in : (h : Head) (o : Out) (ts ds : List ℕ) (fs : List Frame) (ws : List ℕ) (node place count : ℕ) (s : Returned) (d : StepResult) → LeavesEnded o node place count s
+    → stepResult (renewed h node place count) ts ds fs ws (Accepted (Ended s)) ≡ d → Leaves h o ts ds fs ws d
+ends-in h o ts ds fs ws node place count s d u e =
+    let eh : headAfter h o ≡ renewed h node place count = rw (u .0, u .1, u .2) in
+    leaves h (renewed h node place count) o ts ds fs ws (Accepted (Ended s)) d eh (both-words (u .3) (u .4)) e
 
 -- ---- one end: the core before it has the words fs, ws and the numbers node, place, count
 
-module _ (h : Head) (ts ds fs ws : List ℕ) (w n node place count p : ℕ) where
+module _ (h : Head) (ts ds : List ℕ) (fs : List Frame) (ws : List ℕ) (w n node place count p : ℕ) where
   abbrev before : Core
   before = core (renewed h node place count) ts ds fs ws
 
@@ -43,17 +50,21 @@ module _ (h : Head) (ts ds fs ws : List ℕ) (w n node place count p : ℕ) wher
     pub only-from : n ≡ 1 → EndsFrom before w 1 p
     only-from z = subst (λ (k : ℕ). EndsFrom before w k p) z r
 
-    pub frame-asks : (length fs ≡ frameWords) × (p < places)
-    frame-asks = (r .can-end .frame .long-frames, r .can-end .frame .within)
+    pub frame-asks : p < length fs
+    frame-asks = r .can-end .frame .within
 
     pub release-asks : (root : ℕ) → root ≡ frameAt fs p .root → LinksIn (h .numbers .nodes) ws × (0 < h .numbers .nodes) × Link (h .numbers .nodes) node × Link (h .numbers .nodes) root
     release-asks root e = (r .can-end .links, r .nodes-positive, r .can-end .free-node, inl (subst (λ (x : ℕ). x < h .numbers .nodes) (sym e) (r .can-end .root)))
 
-    pub end-asks : (q : ℕ) → q ≡ frameAt fs p .parent → EndsIn fs p q
-    end-asks q e = subst (λ (x : ℕ). EndsIn fs p x) (sym e) (r .can-end .frame)
+    pub end-asks : (q : ℕ) → q ≡ frameAt fs p .parent → EndsIn fs p q × (length fs ≤ maxPlaces)
+    end-asks q e = (subst (λ (x : ℕ). EndsIn fs p x) (sym e) (r .can-end .frame), r .few-places)
+
+    -- a frame that is not alone is not Main
+    pub below-asks : (q : ℕ) → q ≡ frameAt fs p .parent → n ≢ 1 → EndsIn fs p q × (length fs ≤ maxPlaces) × (q ≢ none)
+    below-asks q e z = (end-asks q e .0, r .few-places, λ m. z (r .alone (sym e ∙ m)))
 
     -- afterwards; root and q are the root and the parent of its record
-    module _ (root q : ℕ) (eo : root ≡ frameAt fs p .root) (eq : q ≡ frameAt fs p .parent) (ts₁ fs₁ ws₁ : List ℕ) (node₁ count₁ : ℕ)
+    module _ (root q : ℕ) (eo : root ≡ frameAt fs p .root) (eq : q ≡ frameAt fs p .parent) (ts₁ : List ℕ) (fs₁ : List Frame) (ws₁ : List ℕ) (node₁ count₁ : ℕ)
         (er : (ws₁ ≡ release (h .height) ws node count root .0) × (node₁ ≡ release (h .height) ws node count root .1) × (count₁ ≡ release (h .height) ws node count root .2))
         (e₁ : fs₁ ≡ endFrame fs place p) (et : ts₁ ≡ cond (eqb q none) (viewWords (frameAt fs p .view)) ts) where
       abbrev after : Core
@@ -66,7 +77,8 @@ module _ (h : Head) (ts ds fs ws : List ℕ) (w n node place count p : ℕ) wher
       -- the other frames of the deque go on
       pub continues : (o : Out) → n ≢ 1 → LeavesEnded o node₁ p count₁ Continued → Leaves h o ts₁ ds fs₁ ws₁ (endsFrom before w p)
       continues o z u =
-          rw (u .0, u .1, u .2, u .3, ne-eqb (size ds w) 0 (λ y. z (r .has ∙ ap suc y)), after-is)
+          let e : returned after Continued ≡ endsFrom before w p = rw (ne-eqb (size ds w) 0 (λ y. z (r .has ∙ ap suc y)), after-is) in
+          ends-in h o ts₁ ds fs₁ ws₁ node₁ p count₁ Continued (endsFrom before w p) u e
 
       module _ (z : n ≡ 1) where
         alone : size ds w ≡ 0
@@ -88,14 +100,11 @@ module _ (h : Head) (ts ds fs ws : List ℕ) (w n node place count p : ℕ) wher
               subst (λ (d : ℕ). EndsUpward d after q) depth-is
               (subst (λ (c : Core). EndsUpward (frameAt fs p .depth) c q) after-is (subst (λ (x : ℕ). EndsUpward (frameAt fs p .depth) (endAt before p) x) (sym eq) (r .upward)))
 
-          pub parent-asks : (length fs₁ ≡ frameWords) × (q < places)
-          parent-asks = (long, rises .0)
-            where
-              long : length fs₁ ≡ frameWords
-              long = ap length e₁ ∙ length-end fs place p ∙ r .can-end .frame .long-frames
+          pub parent-asks : q < length fs₁
+          parent-asks = rises .0
 
-          pub go-asks : (length ds ≡ dequeWords) × (length fs₁ ≡ frameWords) × (w < maxWorkers) × (q < places) × (size ds w ≡ 0)
-          go-asks = (r .long-deques, parent-asks .0, r .worker, parent-asks .1, alone)
+          pub go-asks : (length ds ≡ dequeWords) × (w < maxWorkers) × (q < length fs₁) × (size ds w ≡ 0)
+          go-asks = (r .long-deques, r .worker, parent-asks, alone)
 
           -- the parent ends too
           module _ (t : endsToo (frameAt fs₁ q) ≡ true) where
@@ -108,6 +117,7 @@ module _ (h : Head) (ts ds fs ws : List ℕ) (w n node place count p : ℕ) wher
                   has = sym (ap suc alone);
                   alone = λ _. refl;
                   nodes-positive = r .nodes-positive;
+                  few-places = subst (λ (k : ℕ). k ≤ maxPlaces) (sym (ap length e₁ ∙ length-end fs place p)) (r .few-places);
                   can-end = x .0;
                   upward = subst (λ (d : ℕ). EndsUpward d (endAt after q) (frameAt fs₁ q .parent)) (sym (x .1)) (x .2);
                 }
@@ -121,18 +131,20 @@ module _ (h : Head) (ts ds fs ws : List ℕ) (w n node place count p : ℕ) wher
             nearer = omega (arith, rises .1 t .1, deep)
 
           -- it resumes, or the worker is idle
-          pub stops : (o : Out) (ds₂ fs₂ : List ℕ) (s : Returned) → endsToo (frameAt fs₁ q) ≡ false → GoesOn ds fs₁ w q ds₂ fs₂ s → LeavesEnded o node₁ p count₁ s
+          pub stops : (o : Out) (ds₂ : List ℕ) (fs₂ : List Frame) (s : Returned) → endsToo (frameAt fs₁ q) ≡ false → GoesOn ds fs₁ w q ds₂ fs₂ s → LeavesEnded o node₁ p count₁ s
               → Leaves h o ts₁ ds₂ fs₂ ws₁ (endsFrom before w p)
           unfolding upward
           stops o ds₂ fs₂ s t g u =
-              rw (ends-is, depth-is, t, u .0, u .1, u .2, u .3, ← g .after p, ← g .outcome p)
+              let e : stepResult (renewed h node₁ p count₁) ts₁ ds₂ fs₂ ws₁ (Accepted (Ended s)) ≡ endsFrom before w p = rw (ends-is, depth-is, t, ← g .after p, ← g .outcome p) in
+              ends-in h o ts₁ ds₂ fs₂ ws₁ node₁ p count₁ s (endsFrom before w p) u e
 
       -- Main has ended
       pub finishes : (o : Out) → q ≡ none → LeavesEnded o node₁ p count₁ Finished → Leaves h o ts₁ ds fs₁ ws₁ (endsFrom before w p)
       unfolding upward
       finishes o m u =
           let flat : frameAt fs p .depth ≡ 0 = elim (r .can-end .frame .parent) [ inl y ↦ absurd (omega (arith, m, eq, y .1)) | inr y ↦ y .0 ] in
-          rw (ends-is (r .alone (sym eq ∙ m)), flat, u .0, u .1, u .2, u .3)
+          let e : returned after Finished ≡ endsFrom before w p = rw (ends-is (r .alone (sym eq ∙ m)), flat) in
+          ends-in h o ts₁ ds fs₁ ws₁ node₁ p count₁ Finished (endsFrom before w p) u e
 
 -- the totals after an end that is not Main's
 pub same-totals : (ts vs : List ℕ) (q : ℕ) → q ≢ none → ts ≡ cond (eqb q none) vs ts
@@ -144,19 +156,21 @@ read-totals ts₁ ts f g e u = u ∙ ap (λ (x : Frame). cond (eqb (f .parent) n
 
 -- ---- the return
 
-module _ (h : Head) (ts ds fs ws : List ℕ) (w p : ℕ) (f : Frame) (ep : p ≡ bottom ds w) (ef : f ≡ frameAt fs p) where
+module _ (h : Head) (ts ds : List ℕ) (fs : List Frame) (ws : List ℕ) (w p : ℕ) (f : Frame) (ep : p ≡ bottom ds w) (ef : f ≡ frameAt fs p) where
   outstanding-is : frameAt fs (bottom ds w) .outstanding ≡ f .outstanding
   outstanding-is = sym (ap (λ (g : Frame). g .outstanding) (ef ∙ ap (frameAt fs) ep))
 
-  pub return-waits : (o : Out) (ds′ fs′ : List ℕ) → f .outstanding ≢ 0 → Waits ds fs w ds′ fs′ → (headAfter h o ≡ h) × (o .answer ≡ Accepted (Ended Waiting))
+  pub return-waits : (o : Out) (ds′ : List ℕ) (fs′ : List Frame) → f .outstanding ≢ 0 → Waits ds fs w ds′ fs′ → Answers h o 102 4
       → Leaves h o ts ds′ fs′ ws (kindOn (core h ts ds fs ws) (Return w))
   unfolding returnOn
   return-waits o ds′ fs′ z e u =
       let acts : stepResult h ts ds′ fs′ ws (Accepted (Ended Waiting)) ≡ kindOn (core h ts ds fs ws) (Return w) =
       rw (ne-eqb (frameAt fs (bottom ds w) .outstanding) 0 (λ y. z (sym outstanding-is ∙ y))) (ap (λ (t : Table). returned (withTable (core h ts ds fs ws) t) Waiting) (e (h .numbers .«free_place»))) in
-      ap₂ (λ (g : Head) (a : Answer). stepResult g ts ds′ fs′ ws a) (u .0) (u .1) ∙ acts
+      leaves h h o ts ds′ fs′ ws (Accepted (Ended Waiting)) (kindOn (core h ts ds fs ws) (Return w)) (u .0) (both-words (u .1) (u .2)) acts
 
-  pub return-ends : (o : Out) (ds₁ ts′ ds′ fs′ ws′ : List ℕ) → f .outstanding ≡ 0 → ds₁ ≡ pop ds w → Leaves h o ts′ ds′ fs′ ws′ (endsFrom (core h ts ds₁ fs ws) w p)
+  pub return-ends : (o : Out) (ds₁ ts′ ds′ : List ℕ) (fs′ : List Frame) (ws′ : List ℕ) → f .outstanding ≡ 0 → ds₁ ≡ pop ds w → Leaves h o ts′ ds′ fs′ ws′ (endsFrom (core h ts ds₁ fs ws) w p)
       → Leaves h o ts′ ds′ fs′ ws′ (kindOn (core h ts ds fs ws) (Return w))
   unfolding returnOn endBottom endAt
-  return-ends o ds₁ ts′ ds′ fs′ ws′ z e u = u ∙ rw (eq-eqb (frameAt fs (bottom ds w) .outstanding) 0 (outstanding-is ∙ z), e, ep)
+  return-ends o ds₁ ts′ ds′ fs′ ws′ z e u =
+      let same : endsFrom (core h ts ds₁ fs ws) w p ≡ kindOn (core h ts ds fs ws) (Return w) = rw (eq-eqb (frameAt fs (bottom ds w) .outstanding) 0 (outstanding-is ∙ z), e, ep) in
+      subst (λ (d : StepResult). Leaves h o ts′ ds′ fs′ ws′ d) same u

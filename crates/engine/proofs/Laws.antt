@@ -14,10 +14,13 @@ use Rattle.words.specs.Counting.{all-at}
 use Rattle.frames.specs.Widths.{maxWorkers}
 use Rattle.frames.specs.Deques.{size}
 use Rattle.semantics.specs.declared.Head.{Head}
+use Rattle.engine.specs.declared.Acting.{Acting}
+use Rattle.semantics.specs.declared.Refusal.{Refusal}
 use Rattle.semantics.specs.declared.Refusal.the-variants.{NoWorker, MainReturned, WorkerIdle, ThiefBusy, NoVictim}
 use Rattle.semantics.specs.Core.{actingTests, stealTests}
-use Rattle.engine.specs.declared.Verdict.the-variants.{Pass, Refuse}
-use Rattle.engine.specs.Promises.{core, verdict, SizesIn}
+use Rattle.semantics.specs.Answers.{refusalNumber}
+use Rattle.engine.specs.Promises.{core, refusalBy, SizesIn, IsActing}
+use Rattle.engine.proofs.Steps.{refusal-some}
 
 -- ---- all idle
 
@@ -62,36 +65,40 @@ module _ (h : Head) (ds : List ℕ) where
   busy w n l e z = all-not (h .numbers .workers) (λ v. eqb (size ds v) 0) w l (ne-eqb (size ds w) 0 (λ q. z (e ∙ q)))
 
   module _ (w : ℕ) where
-    pub acting-no-worker : h .numbers .workers ≤ w → verdict (actingTests (core h [] ds [] []) w) ≡ Refuse NoWorker
+    -- refused
+    pub is-refused : (a : Acting) (r : Refusal) → a .refused ≡ true → a .refusal ≡ refusalNumber r → refusalBy (actingTests (core h [] ds [] []) w) ≡ refusalNumber r → IsActing (core h [] ds [] []) w a
+    is-refused a r t e k = record { refuses = λ _. (e ∙ sym k, λ z. refusal-some r (sym e ∙ z)); passes = λ f. absurd (true≢false (sym t ∙ f)) }
+
+    pub acting-no-worker : h .numbers .workers ≤ w → refusalBy (actingTests (core h [] ds [] []) w) ≡ refusalNumber NoWorker
     acting-no-worker l = rw (le-ltb w (h .numbers .workers) l)
 
-    pub acting-passes : (n : ℕ) → w < h .numbers .workers → n ≡ size ds w → (n ≡ 0 → ⊥) → verdict (actingTests (core h [] ds [] []) w) ≡ Pass
+    pub acting-passes : (n : ℕ) → w < h .numbers .workers → n ≡ size ds w → (n ≡ 0 → ⊥) → refusalBy (actingTests (core h [] ds [] []) w) ≡ 0
     acting-passes n l e z = rw (lt-ltb w (h .numbers .workers) l, busy w n l e z, ne-eqb (size ds w) 0 (λ q. z (e ∙ q)))
 
-    pub acting-main-returned : w < h .numbers .workers → idles ≡ true → verdict (actingTests (core h [] ds [] []) w) ≡ Refuse MainReturned
+    pub acting-main-returned : w < h .numbers .workers → idles ≡ true → refusalBy (actingTests (core h [] ds [] []) w) ≡ refusalNumber MainReturned
     acting-main-returned l a = rw (lt-ltb w (h .numbers .workers) l, a)
 
-    pub acting-idle : (n : ℕ) → w < h .numbers .workers → n ≡ size ds w → n ≡ 0 → idles ≡ false → verdict (actingTests (core h [] ds [] []) w) ≡ Refuse WorkerIdle
+    pub acting-idle : (n : ℕ) → w < h .numbers .workers → n ≡ size ds w → n ≡ 0 → idles ≡ false → refusalBy (actingTests (core h [] ds [] []) w) ≡ refusalNumber WorkerIdle
     acting-idle n l e z a = rw (lt-ltb w (h .numbers .workers) l, a, eq-eqb (size ds w) 0 (sym e ∙ z))
 
     module _ (v : ℕ) where
-      pub steal-no-worker : h .numbers .workers ≤ w → Refuse NoWorker ≡ verdict (stealTests (core h [] ds [] []) w v)
+      pub steal-no-worker : h .numbers .workers ≤ w → refusalNumber NoWorker ≡ refusalBy (stealTests (core h [] ds [] []) w v)
       steal-no-worker l = rw (le-ltb w (h .numbers .workers) l)
 
       module _ (l : w < h .numbers .workers) (n : ℕ) (e : n ≡ size ds w) where
-        pub steal-busy : (n ≡ 0 → ⊥) → Refuse ThiefBusy ≡ verdict (stealTests (core h [] ds [] []) w v)
+        pub steal-busy : (n ≡ 0 → ⊥) → refusalNumber ThiefBusy ≡ refusalBy (stealTests (core h [] ds [] []) w v)
         steal-busy z = rw (lt-ltb w (h .numbers .workers) l, busy w n l e z, ne-eqb (size ds w) 0 (λ q. z (e ∙ q)))
 
         module _ (z : n ≡ 0) (b : Bool) (eb : b ≡ (not (ltb v (h .numbers .workers)) || ltb (size ds v) 2)) where
-          pub steal-passes : b ≡ false → Pass ≡ verdict (stealTests (core h [] ds [] []) w v)
+          pub steal-passes : b ≡ false → 0 ≡ refusalBy (stealTests (core h [] ds [] []) w v)
           steal-passes f =
               let q = neither (not (ltb v (h .numbers .workers))) (ltb (size ds v) 2) (sym eb ∙ f) in
               let lv : v < h .numbers .workers = lt-of (not-false (ltb v (h .numbers .workers)) (q .0)) in
               let two : 2 ≤ size ds v = ge-of (q .1) in
               rw (lt-ltb w (h .numbers .workers) l, busy v (size ds v) lv refl (λ o. omega arith), eq-eqb (size ds w) 0 (sym e ∙ z), lt-ltb v (h .numbers .workers) lv, q .1)
 
-          pub steal-main-returned : idles ≡ true → Refuse MainReturned ≡ verdict (stealTests (core h [] ds [] []) w v)
+          pub steal-main-returned : idles ≡ true → refusalNumber MainReturned ≡ refusalBy (stealTests (core h [] ds [] []) w v)
           steal-main-returned a = rw (lt-ltb w (h .numbers .workers) l, a)
 
-          pub steal-no-victim : b ≡ true → idles ≡ false → Refuse NoVictim ≡ verdict (stealTests (core h [] ds [] []) w v)
+          pub steal-no-victim : b ≡ true → idles ≡ false → refusalNumber NoVictim ≡ refusalBy (stealTests (core h [] ds [] []) w v)
           steal-no-victim t a = rw (lt-ltb w (h .numbers .workers) l, a, eq-eqb (size ds w) 0 (sym e ∙ z), ← eb, t)

@@ -4,9 +4,10 @@ pub mod NumberWords
 pub mod Steps
 pub mod Ending
 pub mod Turns
-pub mod Starts
+pub mod Passing
+pub mod Called
 pub mod Checks
 pub mod Taping
-pub mod SaveLoad
-pub mod Passing
+pub mod Starts
 pub mod Fitting
+pub mod SaveLoad

@@ -1,48 +1,85 @@
 -- The words of the numbers and of the totals behind them, stored one by one.
-use mathlib.Core.Path.{_≡_, refl, ap, _∙_}
-use mathlib.Core.List.{List, [], _∷_, _++_}
-use Prim.Native.Nat.{ℕ, _-_}
+use mathlib.Core.Path.{_≡_, refl}
+use mathlib.Core.Bool.{_&&_}
+use mathlib.Core.List.{List, [], _∷_}
+use Prim.Native.Nat.{ℕ}
 use native.Mathlib.Omega.{arith}
-use lib.ListN.{length, set, take, drop, replicate, length-append, length-take, length-drop}
-use Rattle.frames.specs.Theory.Sizes.{rest-ends}
-use Rattle.soundness.specs.Numbers.{headCount, totalCount, numberCount, numbersIn, numberWords, totalsIn, setFreeNode, setFreePlace}
+use lib.Dec.{eqb}
+use lib.ListN.{length, getD, set, replicate}
+use Rattle.words.specs.Basics.{all}
+use Rattle.soundness.specs.Numbers.{totalCount, numberCount, numbersIn, numberWords, totalsIn, setFreeNode, setFreePlace}
 
--- four words
-pub four-words : (l : List ℕ) (a b d e : ℕ) → length l ≡ totalCount → set (set (set (set l 0 a) 1 b) 2 d) 3 e ≡ a ∷ b ∷ d ∷ e ∷ []
-four-words [] a b d e h = absurd (omega arith)
-four-words (q ∷ []) a b d e h = absurd (omega arith)
-four-words (q ∷ r ∷ []) a b d e h = absurd (omega arith)
-four-words (q ∷ r ∷ s ∷ []) a b d e h = absurd (omega arith)
-four-words (q ∷ r ∷ s ∷ t ∷ []) a b d e h = refl
-four-words (q ∷ r ∷ s ∷ t ∷ u ∷ l) a b d e h = absurd (omega arith)
+-- four words stored in the place of the totals
+pub totals-stored : (l : List ℕ) (a b d e : ℕ) → length l ≡ numberCount → (totalsIn (set (set (set (set l 5 a) 6 b) 7 d) 8 e) ≡ a ∷ b ∷ d ∷ e ∷ []) × (numbersIn (set (set (set (set l 5 a) 6 b) 7 d) 8 e) ≡ numbersIn l)
+totals-stored [] a b d e ln = absurd (omega arith)
+totals-stored (x0 ∷ []) a b d e ln = absurd (omega arith)
+totals-stored (x0 ∷ x1 ∷ []) a b d e ln = absurd (omega arith)
+totals-stored (x0 ∷ x1 ∷ x2 ∷ []) a b d e ln = absurd (omega arith)
+totals-stored (x0 ∷ x1 ∷ x2 ∷ x3 ∷ []) a b d e ln = absurd (omega arith)
+totals-stored (x0 ∷ x1 ∷ x2 ∷ x3 ∷ x4 ∷ []) a b d e ln = absurd (omega arith)
+totals-stored (x0 ∷ x1 ∷ x2 ∷ x3 ∷ x4 ∷ x5 ∷ []) a b d e ln = absurd (omega arith)
+totals-stored (x0 ∷ x1 ∷ x2 ∷ x3 ∷ x4 ∷ x5 ∷ x6 ∷ []) a b d e ln = absurd (omega arith)
+totals-stored (x0 ∷ x1 ∷ x2 ∷ x3 ∷ x4 ∷ x5 ∷ x6 ∷ x7 ∷ []) a b d e ln = absurd (omega arith)
+totals-stored (x0 ∷ x1 ∷ x2 ∷ x3 ∷ x4 ∷ x5 ∷ x6 ∷ x7 ∷ x8 ∷ []) a b d e ln = absurd (omega arith)
+totals-stored (x0 ∷ x1 ∷ x2 ∷ x3 ∷ x4 ∷ x5 ∷ x6 ∷ x7 ∷ x8 ∷ x9 ∷ []) a b d e ln = (refl, refl)
+totals-stored (x0 ∷ x1 ∷ x2 ∷ x3 ∷ x4 ∷ x5 ∷ x6 ∷ x7 ∷ x8 ∷ x9 ∷ x10 ∷ l) a b d e ln = absurd (omega arith)
 
--- five words, and four zeros behind them
-pub nine-words : (l : List ℕ) (a b d e f : ℕ) → length l ≡ numberCount
-    → set (set (set (set (set (set (set (set (set l 0 a) 1 b) 2 d) 3 e) 4 f) 5 0) 6 0) 7 0) 8 0 ≡ a ∷ b ∷ d ∷ e ∷ f ∷ replicate totalCount 0
-nine-words [] a b d e f h = absurd (omega arith)
-nine-words (q ∷ []) a b d e f h = absurd (omega arith)
-nine-words (q ∷ r ∷ []) a b d e f h = absurd (omega arith)
-nine-words (q ∷ r ∷ s ∷ []) a b d e f h = absurd (omega arith)
-nine-words (q ∷ r ∷ s ∷ t ∷ []) a b d e f h = absurd (omega arith)
-nine-words (q ∷ r ∷ s ∷ t ∷ u ∷ l) a b d e f h = ap (λ (m : List ℕ). a ∷ b ∷ d ∷ e ∷ f ∷ m) (four-words l 0 0 0 0 (omega arith))
+-- five words, four zeros behind them, and one more
+pub ten-words : (l : List ℕ) (a b d e f k : ℕ) → length l ≡ numberCount → set (set (set (set (set (set (set (set (set (set l 0 a) 1 b) 2 d) 3 e) 4 f) 5 0) 6 0) 7 0) 8 0) 9 k ≡ numberWords (record { workers = a; splitters = b; nodes = d; «free_node» = e; «free_place» = f; places = k }) (replicate totalCount 0)
+ten-words [] a b d e f k ln = absurd (omega arith)
+ten-words (x0 ∷ []) a b d e f k ln = absurd (omega arith)
+ten-words (x0 ∷ x1 ∷ []) a b d e f k ln = absurd (omega arith)
+ten-words (x0 ∷ x1 ∷ x2 ∷ []) a b d e f k ln = absurd (omega arith)
+ten-words (x0 ∷ x1 ∷ x2 ∷ x3 ∷ []) a b d e f k ln = absurd (omega arith)
+ten-words (x0 ∷ x1 ∷ x2 ∷ x3 ∷ x4 ∷ []) a b d e f k ln = absurd (omega arith)
+ten-words (x0 ∷ x1 ∷ x2 ∷ x3 ∷ x4 ∷ x5 ∷ []) a b d e f k ln = absurd (omega arith)
+ten-words (x0 ∷ x1 ∷ x2 ∷ x3 ∷ x4 ∷ x5 ∷ x6 ∷ []) a b d e f k ln = absurd (omega arith)
+ten-words (x0 ∷ x1 ∷ x2 ∷ x3 ∷ x4 ∷ x5 ∷ x6 ∷ x7 ∷ []) a b d e f k ln = absurd (omega arith)
+ten-words (x0 ∷ x1 ∷ x2 ∷ x3 ∷ x4 ∷ x5 ∷ x6 ∷ x7 ∷ x8 ∷ []) a b d e f k ln = absurd (omega arith)
+ten-words (x0 ∷ x1 ∷ x2 ∷ x3 ∷ x4 ∷ x5 ∷ x6 ∷ x7 ∷ x8 ∷ x9 ∷ []) a b d e f k ln = refl
+ten-words (x0 ∷ x1 ∷ x2 ∷ x3 ∷ x4 ∷ x5 ∷ x6 ∷ x7 ∷ x8 ∷ x9 ∷ x10 ∷ l) a b d e f k ln = absurd (omega arith)
 
--- the last two of the first five, before any other words
-last-two : (l ts : List ℕ) (e f : ℕ) → length l ≡ numberCount → set (set (take headCount l ++ ts) 3 e) 4 f ≡ numberWords (setFreePlace (setFreeNode (numbersIn l) e) f) ++ ts
-last-two [] ts e f h = absurd (omega arith)
-last-two (q ∷ []) ts e f h = absurd (omega arith)
-last-two (q ∷ r ∷ []) ts e f h = absurd (omega arith)
-last-two (q ∷ r ∷ s ∷ []) ts e f h = absurd (omega arith)
-last-two (q ∷ r ∷ s ∷ t ∷ []) ts e f h = absurd (omega arith)
-last-two (q ∷ r ∷ s ∷ t ∷ u ∷ l) ts e f h = refl
+-- all of them, by what they say
+pub words-are : (l : List ℕ) → length l ≡ numberCount → l ≡ numberWords (numbersIn l) (totalsIn l)
+words-are [] ln = absurd (omega arith)
+words-are (x0 ∷ []) ln = absurd (omega arith)
+words-are (x0 ∷ x1 ∷ []) ln = absurd (omega arith)
+words-are (x0 ∷ x1 ∷ x2 ∷ []) ln = absurd (omega arith)
+words-are (x0 ∷ x1 ∷ x2 ∷ x3 ∷ []) ln = absurd (omega arith)
+words-are (x0 ∷ x1 ∷ x2 ∷ x3 ∷ x4 ∷ []) ln = absurd (omega arith)
+words-are (x0 ∷ x1 ∷ x2 ∷ x3 ∷ x4 ∷ x5 ∷ []) ln = absurd (omega arith)
+words-are (x0 ∷ x1 ∷ x2 ∷ x3 ∷ x4 ∷ x5 ∷ x6 ∷ []) ln = absurd (omega arith)
+words-are (x0 ∷ x1 ∷ x2 ∷ x3 ∷ x4 ∷ x5 ∷ x6 ∷ x7 ∷ []) ln = absurd (omega arith)
+words-are (x0 ∷ x1 ∷ x2 ∷ x3 ∷ x4 ∷ x5 ∷ x6 ∷ x7 ∷ x8 ∷ []) ln = absurd (omega arith)
+words-are (x0 ∷ x1 ∷ x2 ∷ x3 ∷ x4 ∷ x5 ∷ x6 ∷ x7 ∷ x8 ∷ x9 ∷ []) ln = refl
+words-are (x0 ∷ x1 ∷ x2 ∷ x3 ∷ x4 ∷ x5 ∷ x6 ∷ x7 ∷ x8 ∷ x9 ∷ x10 ∷ l) ln = absurd (omega arith)
 
--- their length, as they come back
-pub words-length : (l us ts : List ℕ) → length l ≡ numberCount → us ≡ totalsIn l → length ts ≡ length us
-    → length (take headCount l ++ (ts ++ drop (length l - headCount) (drop headCount l))) ≡ numberCount
-words-length l us ts h eu e =
-    ap (λ (m : List ℕ). length (take headCount l ++ m)) (rest-ends headCount l ts)
-    ∙ omega (arith, h, e, ap length eu, length-append (take headCount l) ts, length-take headCount l, length-drop headCount l)
+-- the first free node and place stored
+pub words-after : (l : List ℕ) (e f : ℕ) → length l ≡ numberCount → set (set l 3 e) 4 f ≡ numberWords (setFreePlace (setFreeNode (numbersIn l) e) f) (totalsIn l)
+words-after [] e f ln = absurd (omega arith)
+words-after (x0 ∷ []) e f ln = absurd (omega arith)
+words-after (x0 ∷ x1 ∷ []) e f ln = absurd (omega arith)
+words-after (x0 ∷ x1 ∷ x2 ∷ []) e f ln = absurd (omega arith)
+words-after (x0 ∷ x1 ∷ x2 ∷ x3 ∷ []) e f ln = absurd (omega arith)
+words-after (x0 ∷ x1 ∷ x2 ∷ x3 ∷ x4 ∷ []) e f ln = absurd (omega arith)
+words-after (x0 ∷ x1 ∷ x2 ∷ x3 ∷ x4 ∷ x5 ∷ []) e f ln = absurd (omega arith)
+words-after (x0 ∷ x1 ∷ x2 ∷ x3 ∷ x4 ∷ x5 ∷ x6 ∷ []) e f ln = absurd (omega arith)
+words-after (x0 ∷ x1 ∷ x2 ∷ x3 ∷ x4 ∷ x5 ∷ x6 ∷ x7 ∷ []) e f ln = absurd (omega arith)
+words-after (x0 ∷ x1 ∷ x2 ∷ x3 ∷ x4 ∷ x5 ∷ x6 ∷ x7 ∷ x8 ∷ []) e f ln = absurd (omega arith)
+words-after (x0 ∷ x1 ∷ x2 ∷ x3 ∷ x4 ∷ x5 ∷ x6 ∷ x7 ∷ x8 ∷ x9 ∷ []) e f ln = refl
+words-after (x0 ∷ x1 ∷ x2 ∷ x3 ∷ x4 ∷ x5 ∷ x6 ∷ x7 ∷ x8 ∷ x9 ∷ x10 ∷ l) e f ln = absurd (omega arith)
 
--- the totals ts are lent out of the numbers l and come back, then the first free node and place are stored
-pub words-after : (l ts : List ℕ) (e f : ℕ) → length l ≡ numberCount
-    → set (set (take headCount l ++ (ts ++ drop (length l - headCount) (drop headCount l))) 3 e) 4 f ≡ numberWords (setFreePlace (setFreeNode (numbersIn l) e) f) ++ ts
-words-after l ts e f h = ap (λ (m : List ℕ). set (set (take headCount l ++ m) 3 e) 4 f) (rest-ends headCount l ts) ∙ last-two l ts e f h
+-- the totals are zero, word by word
+pub zero-totals : (l : List ℕ) → length l ≡ numberCount → ((eqb (getD l 5 0) 0 && eqb (getD l 6 0) 0) && eqb (getD l 7 0) 0) && eqb (getD l 8 0) 0 ≡ all totalCount (λ i. eqb (getD (totalsIn l) i 0) 0)
+zero-totals [] ln = absurd (omega arith)
+zero-totals (x0 ∷ []) ln = absurd (omega arith)
+zero-totals (x0 ∷ x1 ∷ []) ln = absurd (omega arith)
+zero-totals (x0 ∷ x1 ∷ x2 ∷ []) ln = absurd (omega arith)
+zero-totals (x0 ∷ x1 ∷ x2 ∷ x3 ∷ []) ln = absurd (omega arith)
+zero-totals (x0 ∷ x1 ∷ x2 ∷ x3 ∷ x4 ∷ []) ln = absurd (omega arith)
+zero-totals (x0 ∷ x1 ∷ x2 ∷ x3 ∷ x4 ∷ x5 ∷ []) ln = absurd (omega arith)
+zero-totals (x0 ∷ x1 ∷ x2 ∷ x3 ∷ x4 ∷ x5 ∷ x6 ∷ []) ln = absurd (omega arith)
+zero-totals (x0 ∷ x1 ∷ x2 ∷ x3 ∷ x4 ∷ x5 ∷ x6 ∷ x7 ∷ []) ln = absurd (omega arith)
+zero-totals (x0 ∷ x1 ∷ x2 ∷ x3 ∷ x4 ∷ x5 ∷ x6 ∷ x7 ∷ x8 ∷ []) ln = absurd (omega arith)
+zero-totals (x0 ∷ x1 ∷ x2 ∷ x3 ∷ x4 ∷ x5 ∷ x6 ∷ x7 ∷ x8 ∷ x9 ∷ []) ln = refl
+zero-totals (x0 ∷ x1 ∷ x2 ∷ x3 ∷ x4 ∷ x5 ∷ x6 ∷ x7 ∷ x8 ∷ x9 ∷ x10 ∷ l) ln = absurd (omega arith)

@@ -12,7 +12,7 @@ use Rattle.words.specs.Basics.{none}
 use Rattle.words.specs.Tests.{neither, not-false, lt-of, ge-of}
 use Rattle.pool.specs.Pool.{firstShared, rest}
 use Rattle.pool.specs.Links.{Link, PathIn, IsShared, WriteIn}
-use Rattle.frames.specs.Widths.{maxWorkers, places, frameWords, dequePlaces, dequeWords}
+use Rattle.frames.specs.Widths.{maxWorkers, maxPlaces, dequePlaces, dequeWords}
 use Rattle.frames.specs.declared.Frame.{Frame}
 use Rattle.frames.specs.Frames.{frameAt}
 use Rattle.frames.specs.Deques.{size, bottom, top, pop}
@@ -23,9 +23,8 @@ use Rattle.semantics.specs.declared.Refusal.{Refusal}
 use Rattle.semantics.specs.declared.Refusal.the-variants.{NoWorker, MainReturned, ThiefBusy, NoVictim}
 use Rattle.semantics.specs.Core.{Core, stealTests, allIdle, popped, endAt}
 use Rattle.semantics.specs.Ranges.{EndsUpward, Ready}
-use Rattle.engine.specs.declared.Verdict.{Verdict}
-use Rattle.engine.specs.declared.Verdict.the-variants.{Pass}
-use Rattle.engine.specs.Promises.{core, verdict, ActsOn, ActsAt, EndsFrom, SizesIn}
+use Rattle.engine.proofs.Steps.{refusal-some}
+use Rattle.engine.specs.Promises.{core, refusalBy, ActsOn, ActsAt, EndsFrom, SizesIn}
 
 pub sizes-in : {c : Core} → Ready c → SizesIn (c .head .numbers .workers) (c .deques)
 sizes-in r = record { long = r .long-deques; workers-le = r .workers-le; sizes = r .sizes; absent = r .absent }
@@ -42,10 +41,10 @@ acts-at c w n p r l a =
       busy = a .busy;
       most = omega (arith, a .has, r .sizes w w8);
       acting = a .acting;
-      within = subst (λ (k : ℕ). k < places) (sym (a .acting)) (r .held w (size (c .deques) w - 1) w8 (omega arith));
+      within = subst (λ (k : ℕ). k < length (c .frames)) (sym (a .acting)) (r .held w (size (c .deques) w - 1) w8 (omega arith));
       room = λ h. omega (arith, a .has, r .room w w8 h);
       root = subst (λ (q : ℕ). frameAt (c .frames) q .root < c .head .numbers .nodes) (sym (a .acting)) (r .root w w8 some);
-      parent = subst (λ (q : ℕ). ParentOf q (frameAt (c .frames) q)) (sym (a .acting)) (r .parent w w8 some);
+      parent = subst (λ (q : ℕ). ParentOf (c .frames) q (frameAt (c .frames) q)) (sym (a .acting)) (r .parent w w8 some);
       counts = subst (λ (q : ℕ). ParentCounts (c .frames) (frameAt (c .frames) q)) (sym (a .acting)) (r .counts w w8 some);
       upward = λ z. subst (λ (q : ℕ). frameAt (c .frames) q .outstanding ≡ 0 → EndsUpward (frameAt (c .frames) q .depth) (endAt (popped c w) q) (frameAt (c .frames) q .parent)) (sym (a .acting)) (r .upward w w8 some) z;
       path = λ x lx. subst (λ (q : ℕ). PathIn (c .head .numbers .nodes) (c .pool) (c .head .height) (frameAt (c .frames) q .root) x) (sym (a .acting)) (r .path w x w8 some lx);
@@ -62,15 +61,15 @@ just-one (suc (suc k)) l f = absurd (f (omega arith))
 
 module _ (c : Core) (w n p : ℕ) (r : Ready c) (a : ActsAt c w n p) (f : Frame) (ef : f ≡ frameAt (c .frames) p) where
   pub acts : Acts (c .deques) (c .frames) w n p f
-  acts = record { long-deques = r .long-deques; long-frames = r .long-frames; worker = a .worker; has = a .has; some = a .busy; most = a .most; acting = a .acting; within = a .within; is = ef }
+  acts = record { long-deques = r .long-deques; worker = a .worker; has = a .has; some = a .busy; most = a .most; acting = a .acting; within = a .within; is = ef }
 
   pub root-link : Link (c .head .numbers .nodes) (f .root)
   root-link = inl (subst (λ (g : Frame). g .root < c .head .numbers .nodes) (sym ef) (a .root))
 
-  pub spawn-asks : (c .head .numbers .«free_place» ≡ none → ⊥) → Acts (c .deques) (c .frames) w n p f × (n < dequePlaces) × (c .head .numbers .«free_place» < places)
+  pub spawn-asks : (c .head .numbers .«free_place» ≡ none → ⊥) → Acts (c .deques) (c .frames) w n p f × (n < dequePlaces) × (length (c .frames) ≤ maxPlaces) × (c .head .numbers .«free_place» < length (c .frames))
   spawn-asks o =
-      let l : c .head .numbers .«free_place» < places = elim (r .free-place) [ inl q ↦ q | inr q ↦ absurd (o q) ] in
-      (acts, a .room l, l)
+      let l : c .head .numbers .«free_place» < length (c .frames) = elim (r .free-place) [ inl q ↦ q | inr q ↦ absurd (o q) ] in
+      (acts, a .room l, r .few-places, l)
 
   -- once it has left its deque
   -- Main has no frame above it
@@ -87,25 +86,26 @@ module _ (c : Core) (w n p : ℕ) (r : Ready c) (a : ActsAt c w n p) (f : Frame)
         has = omega (arith, a .has, a .busy, size-pop (c .deques) w (r .long-deques) (a .worker));
         alone = top-alone;
         nodes-positive = r .nodes-positive;
+        few-places = r .few-places;
         can-end = record {
           links = r .links;
           free-node = r .free-node;
           root = a .root;
-          frame = record { long-frames = r .long-frames; within = a .within; up = refl; parent = a .parent; counts = a .counts };
+          frame = record { within = a .within; up = refl; parent = a .parent; counts = a .counts };
         };
         upward = a .upward (sym (ap (λ (g : Frame). g .outstanding) ef) ∙ z);
       })
 
 -- ---- a steal: the thief is idle, and the victim has two frames
 
-pass-four : (a b c d : Bool) (q r s t : Refusal) → Pass ≡ verdict ((a, q) ∷ (b, r) ∷ (c, s) ∷ (d, t) ∷ []) → (a ≡ false) × (c ≡ false) × (d ≡ false)
-pass-four true b c d q r s t e = let z : _≡_ {A = ℕ} 0 1 = cc in absurd (omega arith)
-pass-four false true c d q r s t e = let z : _≡_ {A = ℕ} 0 1 = cc in absurd (omega arith)
-pass-four false false true d q r s t e = let z : _≡_ {A = ℕ} 0 1 = cc in absurd (omega arith)
-pass-four false false false true q r s t e = let z : _≡_ {A = ℕ} 0 1 = cc in absurd (omega arith)
+pass-four : (a b c d : Bool) (q r s t : Refusal) → 0 ≡ refusalBy ((a, q) ∷ (b, r) ∷ (c, s) ∷ (d, t) ∷ []) → (a ≡ false) × (c ≡ false) × (d ≡ false)
+pass-four true b c d q r s t e = absurd (refusal-some q (sym e))
+pass-four false true c d q r s t e = absurd (refusal-some r (sym e))
+pass-four false false true d q r s t e = absurd (refusal-some s (sym e))
+pass-four false false false true q r s t e = absurd (refusal-some t (sym e))
 pass-four false false false false q r s t e = (refl, refl, refl)
 
-module _ (h : Head) (ts ds fs ws : List ℕ) (w v : ℕ) (ready : Ready (core h ts ds fs ws)) (u : Verdict) (eu : u ≡ verdict (stealTests (core h [] ds [] []) w v)) (pass : u ≡ Pass) where
+module _ (h : Head) (ts ds : List ℕ) (fs : List Frame) (ws : List ℕ) (w v : ℕ) (ready : Ready (core h ts ds fs ws)) (u : ℕ) (eu : u ≡ refusalBy (stealTests (core h [] ds [] []) w v)) (pass : u ≡ 0) where
   pub steal-asks : (length ds ≡ dequeWords) × (w < maxWorkers) × (v < maxWorkers) × (size ds w ≡ 0) × (2 ≤ size ds v) × (size ds v ≤ dequePlaces)
   steal-asks =
       let n = h .numbers .workers in
@@ -117,9 +117,9 @@ module _ (h : Head) (ts ds fs ws : List ℕ) (w v : ℕ) (ready : Ready (core h 
       let v8 : v < maxWorkers = omega (arith, ready .workers-le) in
       (ready .long-deques, w8, v8, eqb-true (size ds w) 0 (not-false (eqb (size ds w) 0) (t .1)), ge-of (d .1), ready .sizes v v8)
 
-  pub top-asks : (p : ℕ) → p ≡ top ds v → (length fs ≡ frameWords) × (p < places)
+  pub top-asks : (p : ℕ) → p ≡ top ds v → p < length fs
   unfolding top
-  top-asks p e = (ready .long-frames, subst (λ (k : ℕ). k < places) (sym e) (ready .held v 0 (steal-asks .2) (omega (arith, steal-asks .4))))
+  top-asks p e = subst (λ (k : ℕ). k < length fs) (sym e) (ready .held v 0 (steal-asks .2) (omega (arith, steal-asks .4)))
 
 -- ---- a read and a write
 

@@ -1,21 +1,21 @@
 -- A tape's ways out, over plain variables.
-use mathlib.Core.Path.{_≡_, refl, sym, ap, subst, _∙_}
+use mathlib.Core.Path.{_≡_, refl, sym, ap, _∙_}
 use mathlib.Core.Bool.{Bool, true, false, not}
-use mathlib.Core.List.{List, [], _++_}
-use Prim.Native.Nat.{ℕ, _-_, _*_, _/_, _%_, _≤_, _<_}
+use mathlib.Core.List.{List, []}
+use Prim.Native.Nat.{ℕ, _*_, _/_, _%_, _≤_}
 use native.Mathlib.Omega.{arith}
 use lib.Dec.{eqb, ltb}
-use lib.ListN.{length, set, take, drop}
+use lib.ListN.{length, set}
 use Rattle.words.specs.Tests.{neither, ge-of}
+use Rattle.frames.specs.declared.Frame.{Frame}
 use Rattle.soundness.specs.declared.Numbers.{Numbers}
 use Rattle.soundness.specs.declared.Checked.{Checked}
 use Rattle.soundness.specs.declared.Checked.the-variants.{NoRoom, Sound}
 use Rattle.soundness.specs.Soundness.{cleared}
-use Rattle.soundness.specs.Numbers.{headCount, numberCount, numbersIn, numberWords, totalsIn, setFreeNode, setFreePlace}
+use Rattle.soundness.specs.Numbers.{numberCount, numbersIn, numberWords, totalsIn, setFreeNode, setFreePlace}
 use Rattle.semantics.specs.declared.Head.{Head}
 use Rattle.semantics.specs.declared.Refusal.the-variants.{Tape}
 use Rattle.semantics.specs.Answers.{refusalNumber}
-use Rattle.semantics.specs.Core.{Core}
 use Rattle.semantics.specs.Entries.{State, stateOf, headOf, coreOf, TapeResult, tapeChecked, tapeWith, unfitTape, RecordsResult, recordsResult, recordsFrom, runOn, recordsOf}
 use Rattle.semantics.specs.Promises.{parts, Fits, IsTape}
 use Rattle.semantics.specs.Ranges.{Kept}
@@ -24,6 +24,7 @@ use Rattle.semantics.specs.Theory.WorkSlice.{no-room-keeps}
 use Rattle.semantics.specs.Theory.Kept.{kept-start}
 use Rattle.engine.specs.Promises.{core, renewed, IsCheck, IsRun, checkNumber, freeIn}
 use Rattle.engine.proofs.NumberWords.{words-after}
+use Rattle.engine.proofs.Turns.{kept-head}
 
 -- ---- a tape over parts that have their lengths
 
@@ -34,11 +35,11 @@ not-refused Checked.Unsound e = absurd (omega arith)
 not-refused (Sound free) e = refl
 
 -- the check found the parts sound
-pub found-sound : (ns ds fs ws ks ks′ : List ℕ) (k : Checked) (r free : ℕ) → Fits (parts ns ds fs) → IsCheck (parts ns ds fs) ws ks ks′ k → r ≡ checkNumber k → r ≡ 0 → free ≡ freeIn k
+pub found-sound : (ns ds : List ℕ) (fs : List Frame) (ws ks ks′ : List ℕ) (k : Checked) (r free : ℕ) → Fits (parts ns ds fs) → IsCheck (parts ns ds fs) ws ks ks′ k → r ≡ checkNumber k → r ≡ 0 → free ≡ freeIn k
     → Kept (coreOf (parts ns ds fs) ws free)
 found-sound ns ds fs ws ks ks′ k r free F ek er z e =
     let found : k ≡ Sound free = not-refused k (sym er ∙ z) ∙ ap Sound (sym e) in
-    kept-start (numbersIn ns) (totalsIn ns) ds fs ws ks free (totals-long (parts ns ds fs) F) (F .deques) (F .frames) (sym found ∙ ek .1)
+    kept-start (numbersIn ns) (totalsIn ns) ds fs ws ks free (totals-long (parts ns ds fs) F) (F .deques) (sym found ∙ ek .1)
 
 -- a tape that fits has room for its answers
 pub fit-answers : (bytes rs : List ℕ) (b : Bool) → b ≡ unfitTape bytes rs → b ≡ false → 2 * (length bytes / 8) ≤ length rs
@@ -47,7 +48,7 @@ fit-answers bytes rs b e f = ge-of (neither (not (eqb (length bytes % 8) 0)) (lt
 abbrev result : State → List ℕ → List ℕ → List ℕ → ℕ → TapeResult
 result s ws ks rs r = record { state = s; pool = ws; work = ks; answers = rs; result = r }
 
-by-result : (o : TapeResult) (ns ds fs ws ks rs : List ℕ) (r : ℕ) → result (parts ns ds fs) ws ks rs r ≡ o → IsTape o ns ds fs ws ks rs r
+by-result : (o : TapeResult) (ns ds : List ℕ) (fs : List Frame) (ws ks rs : List ℕ) (r : ℕ) → result (parts ns ds fs) ws ks rs r ≡ o → IsTape o ns ds fs ws ks rs r
 by-result o ns ds fs ws ks rs r e =
     record { result = ap (λ q. q .result) e; state = ap (λ q. q .state) e; pool = ap (λ q. q .pool) e; work = ap (λ q. q .work) e; answers = ap (λ q. q .answers) e }
 
@@ -55,13 +56,13 @@ no-records : (bytes : List ℕ) → length bytes ≡ 0 → recordsOf bytes ≡ [
 unfolding recordsFrom
 no-records bytes z = rw z
 
-module _ (ns ds fs ws ks bytes rs : List ℕ) (b : Bool) (eb : b ≡ unfitTape bytes rs) where
+module _ (ns ds : List ℕ) (fs : List Frame) (ws ks bytes rs : List ℕ) (b : Bool) (eb : b ≡ unfitTape bytes rs) where
   abbrev s : State
   s = parts ns ds fs
 
-  pub tape-unfit : (r : ℕ) → b ≡ true → r ≡ refusalNumber Tape → IsTape (tapeWith (parts ns ds fs) ws ks bytes rs) ns ds fs ws ks rs r
+  pub tape-unfit : b ≡ true → (r : ℕ) → r ≡ refusalNumber Tape → IsTape (tapeWith (parts ns ds fs) ws ks bytes rs) ns ds fs ws ks rs r
   unfolding tapeWith
-  tape-unfit r t er = rw (sym eb ∙ t, er) (by-result _ ns ds fs ws ks rs (refusalNumber Tape) refl)
+  tape-unfit t r er = rw (sym eb ∙ t, er) (by-result _ ns ds fs ws ks rs (refusalNumber Tape) refl)
 
   module _ (fit : b ≡ false) (k : Checked) (ks′ : List ℕ) (ek : IsCheck (parts ns ds fs) ws ks ks′ k) where
     -- the tape is what the check's answer says
@@ -69,53 +70,59 @@ module _ (ns ds fs ws ks bytes rs : List ℕ) (b : Bool) (eb : b ≡ unfitTape b
     unfolding tapeWith
     by-check o e = rw (sym eb ∙ fit) (e ∙ ap (λ (j : Checked). tapeChecked j s ws ks bytes rs) (ek .1))
 
-    refused-by : (j : Checked) → k ≡ j → (r : ℕ) → r ≡ checkNumber k → 0 < r → result s ws ks′ rs r ≡ tapeChecked k s ws ks bytes rs
+    refused-by : (j : Checked) → k ≡ j → (r : ℕ) → r ≡ checkNumber k → (r ≡ 0 → ⊥) → result s ws ks′ rs r ≡ tapeChecked k s ws ks bytes rs
     refused-by NoRoom e r er l =
         let kept : ks′ ≡ ks = ek .0 ∙ no-room-keeps (numbersIn ns) (totalsIn ns) ds fs ws ks (sym (ek .1) ∙ e) in
         rw (er, e, kept)
     refused-by Checked.Unsound e r er l = rw (er, e, ek .0)
-    refused-by (Sound free) e r er l = absurd (omega (arith, ap checkNumber e))
+    refused-by (Sound free) e r er l = absurd (l (er ∙ ap checkNumber e))
 
-    pub tape-refused : (r : ℕ) → r ≡ checkNumber k → 0 < r → IsTape (tapeWith (parts ns ds fs) ws ks bytes rs) ns ds fs ws ks′ rs r
+    pub tape-refused : (r : ℕ) → r ≡ checkNumber k → (r ≡ 0 → ⊥) → IsTape (tapeWith (parts ns ds fs) ws ks bytes rs) ns ds fs ws ks′ rs r
     tape-refused r er l = by-result _ ns ds fs ws ks′ rs r (by-check (result s ws ks′ rs r) (refused-by k refl r er l))
 
     -- a tape of no records: the check is all
     empty-by : length bytes ≡ 0 → Fits s → (j : Checked) → k ≡ j → (r : ℕ) → r ≡ checkNumber k → result s ws ks′ rs r ≡ tapeChecked k s ws ks bytes rs
     unfolding runOn
-    empty-by z F NoRoom e r er = refused-by NoRoom e r er (omega (arith, er, ap checkNumber e))
-    empty-by z F Checked.Unsound e r er = refused-by Checked.Unsound e r er (omega (arith, er, ap checkNumber e))
+    empty-by z F NoRoom e r er = refused-by NoRoom e r er (λ y. omega (arith, er, ap checkNumber e))
+    empty-by z F Checked.Unsound e r er = refused-by Checked.Unsound e r er (λ y. omega (arith, er, ap checkNumber e))
     empty-by z F (Sound free) e r er = rw (er, e, ek .0, no-records bytes z) (ap (λ (q : State). result q ws (cleared (numbersIn ns .nodes) ks) rs 0) (sym (state-back s ws free F)))
 
     pub tape-empty : length bytes ≡ 0 → Fits (parts ns ds fs) → (r : ℕ) → r ≡ checkNumber k → IsTape (tapeWith (parts ns ds fs) ws ks bytes rs) ns ds fs ws ks′ rs r
     tape-empty z F r er = by-result _ ns ds fs ws ks′ rs r (by-check (result s ws ks′ rs r) (empty-by z F k refl r er))
 
-    pub tape-done : (r free : ℕ) (ns′ ds′ fs′ ws′ rs′ : List ℕ) → r ≡ checkNumber k → r ≡ 0 → free ≡ freeIn k
+    pub tape-done : (r free : ℕ) (ns′ ds′ : List ℕ) (fs′ : List Frame) (ws′ rs′ : List ℕ) → r ≡ checkNumber k → r ≡ 0 → free ≡ freeIn k
         → IsRun (runOn (recordsResult (coreOf (parts ns ds fs) ws free) rs) 0 (recordsOf bytes)) ns′ ds′ fs′ ws′ rs′ → IsTape (tapeWith (parts ns ds fs) ws ks bytes rs) ns′ ds′ fs′ ws′ ks′ rs′ 0
     tape-done r free ns′ ds′ fs′ ws′ rs′ er z ef R =
         let e : k ≡ Sound free = not-refused k (sym er ∙ z) ∙ ap Sound (sym ef) in
         by-result _ ns′ ds′ fs′ ws′ ks′ rs′ 0 (by-check _ (rw e (λ i. result (R .state i) (R .pool i) (ek .0 i) (R .answers i) 0)))
 
--- ---- the records
+-- ---- the records of a tape, from the lent parts
 
--- the core that the records begin with, its totals lent out of the numbers
-pub run-asks : (ns us ds fs ws : List ℕ) (free : ℕ) (n : Numbers) (h : Head) → Kept (coreOf (parts ns ds fs) ws free) → n ≡ numbersIn ns → us ≡ totalsIn ns → h ≡ headOf n free → Kept (core h us ds fs ws)
-run-asks ns us ds fs ws free n h K en eu eh = subst (λ (c : Core). Kept c) (sym (λ i. core ((eh ∙ ap (λ (m : Numbers). headOf m free) en) i) (eu i) ds fs ws)) K
+module _ (ns ds : List ℕ) (fs : List Frame) (ws : List ℕ) (n : Numbers) (head : Head) (free : ℕ) (en : n ≡ numbersIn ns) (eh : head ≡ headOf n free) where
+  head-is : head ≡ headOf (numbersIn ns) free
+  head-is = eh ∙ ap (λ (m : Numbers). headOf m free) en
 
--- the numbers' words after a run: the totals us are lent out of them and come back as ts′, then the first free node and place are stored
-pub run-done : (ns ds fs ws rs us ts′ ns′ ds′ fs′ ws′ rs′ bytes : List ℕ) (free : ℕ) (n : Numbers) (h h′ : Head) → length ns ≡ numberCount → n ≡ numbersIn ns → us ≡ totalsIn ns → h ≡ headOf n free
-    → (recordsResult (core h′ ts′ ds′ fs′ ws′) rs′ ≡ runOn (recordsResult (core h us ds fs ws) rs) 0 (recordsOf bytes))
-    × (h′ ≡ renewed h (h′ .numbers .«free_node») (h′ .numbers .«free_place») (h′ .«free_count»))
-    → ns′ ≡ set (set (take headCount ns ++ (ts′ ++ drop (length ns - headCount) (drop headCount ns))) 3 (h′ .numbers .«free_node»)) 4 (h′ .numbers .«free_place»)
-    → IsRun (runOn (recordsResult (coreOf (parts ns ds fs) ws free) rs) 0 (recordsOf bytes)) ns′ ds′ fs′ ws′ rs′
-run-done ns ds fs ws rs us ts′ ns′ ds′ fs′ ws′ rs′ bytes free n h h′ len en eu eh er en′ =
-    let eh′ : h ≡ headOf (numbersIn ns) free = eh ∙ ap (λ (m : Numbers). headOf m free) en in
-    let o : recordsResult (core h′ ts′ ds′ fs′ ws′) rs′ ≡ runOn (recordsResult (coreOf (parts ns ds fs) ws free) rs) 0 (recordsOf bytes) =
-    er .0 ∙ (λ i. runOn (recordsResult (core (eh′ i) (eu i) ds fs ws) rs) 0 (recordsOf bytes)) in
-    let last : h′ .numbers ≡ setFreePlace (setFreeNode (numbersIn ns) (h′ .numbers .«free_node»)) (h′ .numbers .«free_place») =
-    ap (λ (g : Head). g .numbers) (er .1) ∙ ap (λ (g : Head). setFreePlace (setFreeNode (g .numbers) (h′ .numbers .«free_node»)) (h′ .numbers .«free_place»)) eh′ in
-    let words : ns′ ≡ numberWords (h′ .numbers) ++ ts′ = en′ ∙ words-after ns ts′ (h′ .numbers .«free_node») (h′ .numbers .«free_place») len ∙ ap (λ (m : Numbers). numberWords m ++ ts′) (sym last) in
-    record {
-      state = ap (λ (ms : List ℕ). parts ms ds′ fs′) words ∙ ap (λ (q : RecordsResult). stateOf (q .core)) o;
-      pool = ap (λ (q : RecordsResult). q .core .pool) o;
-      answers = ap (λ (q : RecordsResult). q .answers) o;
-    }
+  pub run-asks : Kept (coreOf (parts ns ds fs) ws free) → Kept (core head (totalsIn ns) ds fs ws)
+  run-asks K = kept-head (headOf (numbersIn ns) free) head (totalsIn ns) ds fs ws head-is K
+
+  pub run-done : (rs bytes ns₁ ds₁ : List ℕ) (fs₁ : List Frame) (ws₁ rs₁ ns₂ : List ℕ) (last : Head) → length ns₁ ≡ numberCount
+      → (numbersIn ns₁ ≡ numbersIn ns)
+      × (recordsResult (core last (totalsIn ns₁) ds₁ fs₁ ws₁) rs₁ ≡ runOn (recordsResult (core head (totalsIn ns) ds fs ws) rs) 0 (recordsOf bytes))
+      × (last ≡ renewed head (last .numbers .«free_node») (last .numbers .«free_place») (last .«free_count»))
+      → ns₂ ≡ set (set ns₁ 3 (last .numbers .«free_node»)) 4 (last .numbers .«free_place»)
+      → IsRun (runOn (recordsResult (coreOf (parts ns ds fs) ws free) rs) 0 (recordsOf bytes)) ns₂ ds₁ fs₁ ws₁ rs₁
+  run-done rs bytes ns₁ ds₁ fs₁ ws₁ rs₁ ns₂ last l er e₂ =
+      let i : ℕ = last .numbers .«free_node» in
+      let p : ℕ = last .numbers .«free_place» in
+      let o : recordsResult (core last (totalsIn ns₁) ds₁ fs₁ ws₁) rs₁ ≡ runOn (recordsResult (coreOf (parts ns ds fs) ws free) rs) 0 (recordsOf bytes) =
+      er .1 ∙ ap (λ (g : Head). runOn (recordsResult (core g (totalsIn ns) ds fs ws) rs) 0 (recordsOf bytes)) head-is in
+      let words : ns₂ ≡ numberWords (last .numbers) (totalsIn ns₁) =
+      e₂
+      ∙ words-after ns₁ i p l
+      ∙ ap (λ (m : Numbers). numberWords (setFreePlace (setFreeNode m i) p) (totalsIn ns₁)) (er .0 ∙ sym (ap (λ (g : Head). g .numbers) head-is))
+      ∙ sym (ap (λ (g : Head). numberWords (g .numbers) (totalsIn ns₁)) (er .2)) in
+      record {
+        state = ap (λ (m : List ℕ). parts m ds₁ fs₁) words ∙ ap (λ (r : RecordsResult). stateOf (r .core)) o;
+        pool = ap (λ (r : RecordsResult). r .core .pool) o;
+        answers = ap (λ (r : RecordsResult). r .answers) o;
+      }

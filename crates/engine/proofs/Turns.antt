@@ -1,5 +1,5 @@
 -- The tape's loop.
-use mathlib.Core.Path.{_≡_, sym, ap, subst, _∙_}
+use mathlib.Core.Path.{_≡_, refl, sym, ap, subst, _∙_}
 use mathlib.Core.List.{List}
 use Prim.Native.Nat.{ℕ, suc, _+_, _-_, _*_, _≤_, _<_}
 use native.Mathlib.Omega.{arith}
@@ -7,17 +7,18 @@ use lib.ListN.{set}
 use Rattle.model.specs.Record.{decodeAt}
 use Rattle.semantics.specs.Answers.{answerWords}
 use Rattle.semantics.specs.declared.Head.{Head}
-use Rattle.semantics.specs.declared.Answer.{Answer}
-use Rattle.semantics.specs.Core.{Core, StepResult, stepResult}
+use Rattle.frames.specs.declared.Frame.{Frame}
+use Rattle.semantics.specs.Core.{Core, StepResult}
 use Rattle.semantics.specs.Entries.{RecordsResult, recordsResult, runOn, recordOn, recordsFrom, putAnswer}
 use Rattle.semantics.specs.Ranges.{Kept, Ready}
 use Rattle.semantics.specs.Theory.Kept.{kept-record}
 use Rattle.semantics.specs.Theory.Ready.{kept-ready}
-use Rattle.engine.specs.Promises.{core, renewed}
+use Rattle.engine.specs.declared.Out.{Out}
+use Rattle.engine.specs.Promises.{core, renewed, headAfter, Leaves}
 
 -- where the loop begins, what is left when a record has been run, and when none is left
 module _ (tape : List ℕ) (n : ℕ) where
-  pub turn : (c : Core) (a a′ : List ℕ) (i x y : ℕ) (o : StepResult) → i < n → o ≡ recordOn c (decodeAt tape (i * 8))
+  turn : (c : Core) (a a′ : List ℕ) (i x y : ℕ) (o : StepResult) → i < n → o ≡ recordOn c (decodeAt tape (i * 8))
       → x ≡ answerWords (o .answer) .0 → y ≡ answerWords (o .answer) .1 → a′ ≡ set (set a (i * 2) x) (i * 2 + 1) y
       → runOn (recordsResult (o .core) a′) ((i + 1) * 2) (recordsFrom (n - (i + 1)) tape ((i + 1) * 8)) ≡ runOn (recordsResult c a) (i * 2) (recordsFrom (n - i) tape (i * 8))
   unfolding recordsFrom runOn
@@ -47,21 +48,25 @@ module _ (tape : List ℕ) (n : ℕ) where
       ap (λ (m : ℕ). runOn r 0 (recordsFrom m tape 0)) z
 
   -- a record, from a sound core: what is left, and that the core is sound again
-  pub turn-kept : (h head : Head) (ts ds fs ws ts′ ds′ fs′ ws′ a a′ : List ℕ) (node place count node′ place′ count′ : ℕ) (r : Answer) (i x y : ℕ) → head ≡ renewed h node place count
-      → Kept (core (renewed h node place count) ts ds fs ws) → i < n → stepResult (renewed head node′ place′ count′) ts′ ds′ fs′ ws′ r ≡ recordOn (core head ts ds fs ws) (decodeAt tape (i * 8))
-      → x ≡ answerWords r .0 → y ≡ answerWords r .1 → a′ ≡ set (set a (i * 2) x) (i * 2 + 1) y
-      → Kept (core (renewed h node′ place′ count′) ts′ ds′ fs′ ws′)
-      × (runOn (recordsResult (core (renewed h node′ place′ count′) ts′ ds′ fs′ ws′) a′) ((i + 1) * 2) (recordsFrom (n - (i + 1)) tape ((i + 1) * 8))
+  pub turn-kept : (h head : Head) (o : Out) (ts ds : List ℕ) (fs : List Frame) (ws ts′ ds′ : List ℕ) (fs′ : List Frame) (ws′ a a′ : List ℕ) (node place count i : ℕ) → head ≡ renewed h node place count
+      → Kept (core (renewed h node place count) ts ds fs ws) → i < n → Leaves head o ts′ ds′ fs′ ws′ (recordOn (core head ts ds fs ws) (decodeAt tape (i * 8)))
+      → a′ ≡ set (set a (i * 2) (o .first)) (i * 2 + 1) (o .second)
+      → Kept (core (headAfter h o) ts′ ds′ fs′ ws′)
+      × (runOn (recordsResult (core (headAfter h o) ts′ ds′ fs′ ws′) a′) ((i + 1) * 2) (recordsFrom (n - (i + 1)) tape ((i + 1) * 8))
       ≡ runOn (recordsResult (core (renewed h node place count) ts ds fs ws) a) (i * 2) (recordsFrom (n - i) tape (i * 8)))
-  turn-kept h head ts ds fs ws ts′ ds′ fs′ ws′ a a′ node place count node′ place′ count′ r i x y eh K l eo ex ey ea =
+  turn-kept h head o ts ds fs ws ts′ ds′ fs′ ws′ a a′ node place count i eh K l eo ea =
       let c : Core = core (renewed h node place count) ts ds fs ws in
-      let o : StepResult = stepResult (renewed h node′ place′ count′) ts′ ds′ fs′ ws′ r in
-      let e : o ≡ recordOn c (decodeAt tape (i * 8)) = subst (λ (g : Head). stepResult (renewed g node′ place′ count′) ts′ ds′ fs′ ws′ r ≡ recordOn (core g ts ds fs ws) (decodeAt tape (i * 8))) eh eo in
-      (subst (λ (q : StepResult). Kept (q .core)) (sym e) (kept-record c K (decodeAt tape (i * 8))), turn c a a′ i x y o l e ex ey ea)
+      let d : StepResult = recordOn c (decodeAt tape (i * 8)) in
+      let L : Leaves (renewed h node place count) o ts′ ds′ fs′ ws′ d = subst (λ (g : Head). Leaves g o ts′ ds′ fs′ ws′ (recordOn (core g ts ds fs ws) (decodeAt tape (i * 8)))) eh eo in
+      let e : core (headAfter h o) ts′ ds′ fs′ ws′ ≡ d .core = L .0 in (
+        subst (λ (q : Core). Kept q) (sym e) (kept-record c K (decodeAt tape (i * 8))),
+        ap (λ (q : Core). runOn (recordsResult q a′) ((i + 1) * 2) (recordsFrom (n - (i + 1)) tape ((i + 1) * 8))) e
+            ∙ turn c a a′ i (o .first) (o .second) d l refl (ap (λ (q : ℕ × ℕ). q .0) (L .1)) (ap (λ (q : ℕ × ℕ). q .1) (L .1)) ea,
+      )
 
 -- the numbers are those of a sound core
-pub ready-head : (h head : Head) (ts ds fs ws : List ℕ) → head ≡ h → Kept (core h ts ds fs ws) → Ready (core head ts ds fs ws)
+pub ready-head : (h head : Head) (ts ds : List ℕ) (fs : List Frame) (ws : List ℕ) → head ≡ h → Kept (core h ts ds fs ws) → Ready (core head ts ds fs ws)
 ready-head h head ts ds fs ws e K = subst (λ (g : Head). Ready (core g ts ds fs ws)) (sym e) (kept-ready (core h ts ds fs ws) K)
 
-pub kept-head : (h head : Head) (ts ds fs ws : List ℕ) → head ≡ h → Kept (core h ts ds fs ws) → Kept (core head ts ds fs ws)
+pub kept-head : (h head : Head) (ts ds : List ℕ) (fs : List Frame) (ws : List ℕ) → head ≡ h → Kept (core h ts ds fs ws) → Kept (core head ts ds fs ws)
 kept-head h head ts ds fs ws e K = subst (λ (g : Head). Kept (core g ts ds fs ws)) (sym e) K

@@ -1,16 +1,18 @@
 -- What the promises of the engine's inner functions are said in, beside the definitions of the crate semantics. Definitions only.
 use mathlib.Core.Path.{_≡_}
-use mathlib.Core.Bool.{Bool, cond, _||_}
+use mathlib.Core.Logic.{_≢_}
+use mathlib.Core.Bool.{Bool, true, false, cond, _||_, _&&_}
 use mathlib.Core.List.{List, [], _∷_}
 use Prim.Native.Nat.{ℕ, suc, _≤_, _<_}
 use lib.ListN.{length}
 use Rattle.words.specs.Basics.{none}
 use Rattle.pool.specs.Pool.{firstShared, rest}
 use Rattle.pool.specs.Links.{PathIn, WriteIn}
-use Rattle.frames.specs.Widths.{maxWorkers, places, dequePlaces, dequeWords}
+use Rattle.frames.specs.Widths.{maxWorkers, maxPlaces, dequePlaces, dequeWords}
 use Rattle.frames.specs.declared.Frame.{Frame}
 use Rattle.frames.specs.declared.Returned.{Returned}
 use Rattle.frames.specs.declared.Returned.the-variants.{Continued}
+use Rattle.frames.specs.Steps.{returnedNumber}
 use Rattle.frames.specs.Frames.{frameAt}
 use Rattle.frames.specs.Ranges.{ParentOf, ParentCounts}
 use lib.Dec.{eqb, ltb}
@@ -19,29 +21,29 @@ use Rattle.frames.specs.Deques.{size, bottom}
 use Rattle.soundness.specs.declared.Checked.{Checked}
 use Rattle.soundness.specs.declared.Checked.the-variants.{NoRoom, Sound}
 use Rattle.soundness.specs.Numbers.{setFreeNode, setFreePlace}
-use Rattle.soundness.specs.Soundness.{cleared}
+use Rattle.frame_check.specs.declared.FramesChecked.{FramesChecked}
+use Rattle.frame_check.specs.Algorithm.{liveEnd}
+use Rattle.soundness.specs.declared.Numbers.{Numbers}
+use Rattle.soundness.specs.Soundness.{numbersSound, framesSound, cleared}
 use Rattle.model.specs.declared.Step.{Step}
+use Rattle.model.specs.declared.Step.the-variants.{Spawn, Return, Steal, Sync, Read, Write, Fold}
 use Rattle.semantics.specs.declared.Head.{Head}
 use Rattle.semantics.specs.declared.Refusal.{Refusal}
-use Rattle.semantics.specs.declared.Refusal.the-variants.{Values, Workers, Nodes, Work, Blocks, BlockCheck}
+use Rattle.semantics.specs.declared.Refusal.the-variants.{Values, Workers, Places, Nodes, Work, Blocks, BlockCheck}
 use Rattle.image.specs.declared.ImageCheck.{ImageCheck}
 use Rattle.image.specs.declared.ImageCheck.the-variants.{WrongLength, WrongCheck}
-use Rattle.semantics.specs.Entries.{State, numbersOf, stateOf, checkedState, RecordsResult}
-use Rattle.semantics.specs.Images.{LoadResult}
+use Rattle.semantics.specs.Entries.{State, numbersOf, stateOf, isSound, checkedState, RecordsResult}
+use Rattle.semantics.specs.Images.{LoadResult, recordsZero, nodesZero}
 use Rattle.semantics.specs.Promises.{parts}
-use Rattle.semantics.specs.Answers.{refusalNumber}
-use Rattle.semantics.specs.declared.Done.the-variants.{Ended}
-use Rattle.semantics.specs.declared.Answer.the-variants.{Accepted}
-use Rattle.semantics.specs.Core.{Core, StepResult, stepResult, judged, actingTests, kindTests, endAt, popped, upward, returned, doneBy}
+use Rattle.semantics.specs.Answers.{refusalNumber, answerWords}
+use Rattle.semantics.specs.Core.{Core, StepResult, judged, actingTests, kindTests, endAt, popped, upward, returned, doneBy}
 use Rattle.semantics.specs.Ranges.{EndsAt, EndsUpward}
 use Rattle.engine.specs.declared.Out.{Out}
-use Rattle.engine.specs.declared.Verdict.{Verdict}
-use Rattle.engine.specs.declared.Verdict.the-variants.{Pass}
 use Rattle.engine.specs.declared.Acting.{Acting}
-use Rattle.engine.specs.declared.Acting.the-variants.{At}
+use Rattle.engine.specs.declared.Fields.{Fields}
 
 -- ts are the words of the totals
-abbrev pub core : Head → List ℕ → List ℕ → List ℕ → List ℕ → Core
+abbrev pub core : Head → List ℕ → List ℕ → List Frame → List ℕ → Core
 core h ts ds fs ws = record { head = h; totals = ts; deques = ds; frames = fs; pool = ws }
 
 -- the numbers with another first free node, first free place and number of free nodes
@@ -54,12 +56,16 @@ headAfter h o = renewed h (o .«free_node») (o .«free_place») (o .«free_coun
 
 -- ---- a step: the numbers h, the words ts, ds, fs, ws and the answer become those of the result d
 
-abbrev pub Leaves : Head → Out → List ℕ → List ℕ → List ℕ → List ℕ → StepResult → Type 0
-Leaves h o ts ds fs ws d = stepResult (headAfter h o) ts ds fs ws (o .answer) ≡ d
+abbrev pub Leaves : Head → Out → List ℕ → List ℕ → List Frame → List ℕ → StepResult → Type 0
+Leaves h o ts ds fs ws d = (core (headAfter h o) ts ds fs ws ≡ d .core) × ((o .first, o .second) ≡ answerWords (d .answer))
 
 -- a step of another kind than a return leaves the totals, whatever they are; d is its result from a core
-abbrev pub LeavesOthers : Head → Out → (ds fs ws ds′ fs′ ws′ : List ℕ) → (Core → StepResult) → Type 0
+abbrev pub LeavesOthers : Head → Out → List ℕ → List Frame → List ℕ → List ℕ → List Frame → List ℕ → (Core → StepResult) → Type 0
 LeavesOthers h o ds fs ws ds′ fs′ ws′ d = (ts : List ℕ) → Leaves h o ts ds′ fs′ ws′ (d (core h ts ds fs ws))
+
+-- the numbers stay as they are, and the answer words are a and b
+abbrev pub Answers : Head → Out → ℕ → ℕ → Type 0
+Answers h o a b = (headAfter h o ≡ h) × (o .first ≡ a) × (o .second ≡ b)
 
 -- a step of worker w's bottom frame, once refusals 8, 9 and 10 are tested: those of the kind, then the step
 abbrev pub kindOn : Core → Step → StepResult
@@ -78,10 +84,10 @@ pub record ActsAt (c : Core) (w n p : ℕ) : Type 0 where
   pub busy : 0 < n
   pub most : n ≤ dequePlaces
   pub acting : p ≡ bottom (c .deques) w
-  pub within : p < places
-  pub room : c .head .numbers .«free_place» < places → n < dequePlaces
+  pub within : p < length (c .frames)
+  pub room : c .head .numbers .«free_place» < length (c .frames) → n < dequePlaces
   pub root : frameAt (c .frames) p .root < c .head .numbers .nodes
-  pub parent : ParentOf p (frameAt (c .frames) p)
+  pub parent : ParentOf (c .frames) p (frameAt (c .frames) p)
   pub counts : ParentCounts (c .frames) (frameAt (c .frames) p)
   pub upward : frameAt (c .frames) p .outstanding ≡ 0 → EndsUpward (frameAt (c .frames) p .depth) (endAt (popped c w) p) (frameAt (c .frames) p .parent)
   pub path : (x : ℕ) → x < c .head .numbers .splitters → PathIn (c .head .numbers .nodes) (c .pool) (c .head .height) (frameAt (c .frames) p .root) x
@@ -98,6 +104,7 @@ pub record EndsFrom (c : Core) (w n p : ℕ) : Type 0 where
   -- Main is the top of its deque
   pub alone : frameAt (c .frames) p .parent ≡ none → n ≡ 1
   pub nodes-positive : 0 < c .head .numbers .nodes
+  pub few-places : length (c .frames) ≤ maxPlaces
   pub can-end : EndsAt c p
   pub upward : EndsUpward (frameAt (c .frames) p .depth) (endAt c p) (frameAt (c .frames) p .parent)
 
@@ -110,7 +117,7 @@ endsFrom c w p =
 
 -- what is handed on of them
 abbrev pub LeavesEnded : Out → ℕ → ℕ → ℕ → Returned → Type 0
-LeavesEnded r node place count o = (r .«free_node» ≡ node) × (r .«free_place» ≡ place) × (r .«free_count» ≡ count) × (r .answer ≡ Accepted (Ended o))
+LeavesEnded r node place count o = (r .«free_node» ≡ node) × (r .«free_place» ≡ place) × (r .«free_count» ≡ count) × (r .first ≡ 102) × (r .second ≡ returnedNumber o)
 
 -- deques of so many workers, as long as they may be; a worker that does not exist has an empty one
 pub record SizesIn (workers : ℕ) (ds : List ℕ) : Type 0 where
@@ -121,27 +128,42 @@ pub record SizesIn (workers : ℕ) (ds : List ℕ) : Type 0 where
 
 -- ---- tests
 
--- the first test that holds refuses
-abbrev pub verdict : List (Bool × Refusal) → Verdict
-verdict [] = Pass
-verdict (t ∷ ts) = cond (t .0) (Verdict.Refuse (t .1)) (verdict ts)
+-- the number of the first test that holds, or 0
+abbrev pub refusalBy : List (Bool × Refusal) → ℕ
+refusalBy [] = 0
+refusalBy (t ∷ ts) = cond (t .0) (refusalNumber (t .1)) (refusalBy ts)
 
 -- refusals 8, 9 and 10, or the place of the frame that worker w executes and its number of frames
-abbrev pub IsActing : Core → ℕ → Acting → Type 0
-IsActing c w (At p n) = (w < c .head .numbers .workers) × (verdict (actingTests c w) ≡ Pass) × ActsOn (c .deques) w n p
-IsActing c w (Acting.Refuse r) = verdict (actingTests c w) ≡ Verdict.Refuse r
+pub record IsActing (c : Core) (w : ℕ) (a : Acting) : Type 0 where
+  pub refuses : a .refused ≡ true → (a .refusal ≡ refusalBy (actingTests c w)) × (a .refusal ≢ 0)
+  pub passes : a .refused ≡ false → (w < c .head .numbers .workers) × (refusalBy (actingTests c w) ≡ 0) × ActsOn (c .deques) w (a .n) (a .p)
 
--- refusals 1, 2 and 3, of a start with n initial values and a pool of so many whole nodes
-abbrev pub startTests : ℕ → ℕ → ℕ → List (Bool × Refusal)
-startTests workers n nodes =
-    (eqb n 0 || ltb 256 n, Values) ∷ (eqb workers 0 || ltb 8 workers, Workers) ∷ (ltb nodes (treeNodes n) || ltb 16384 nodes, Nodes) ∷ []
+-- the step of a kind with these fields
+abbrev pub stepBy : Fields → Step
+stepBy r =
+    cond (eqb (r .kind) 1) (Spawn (r .w))
+    (cond (eqb (r .kind) 2) (Return (r .w))
+    (cond (eqb (r .kind) 3) (Steal (r .w) (r .x))
+    (cond (eqb (r .kind) 4) (Sync (r .w))
+    (cond (eqb (r .kind) 5) (Read (r .w) (r .x))
+    (cond (eqb (r .kind) 6) (Write (r .w) (r .x) (r .v)) (Fold (r .w) (r .x) (r .v)))))))
+
+-- refusals 1, 2, 21 and 3, of a start with n initial values, a table of so many places and a pool of so many whole nodes
+abbrev pub startTests : ℕ → ℕ → ℕ → ℕ → List (Bool × Refusal)
+startTests workers n places nodes =
+    (eqb n 0 || ltb 256 n, Values) ∷ (eqb workers 0 || ltb 8 workers, Workers) ∷ (eqb places 0 || ltb maxPlaces places, Places)
+    ∷ (ltb nodes (treeNodes n) || ltb 16384 nodes, Nodes) ∷ []
+
+-- the check of numbers, deques and frames: Good, with one more than the last place where a frame lives, if they are sound
+abbrev pub tablesChecked : Numbers → List ℕ → List Frame → List ℕ → FramesChecked
+tablesChecked n ds fs ws = cond (numbersSound n fs ws && framesSound (n .workers) (n .«free_place») ds fs) (FramesChecked.Good (liveEnd fs)) FramesChecked.Bad
 
 -- the answer k of the check of the state s and the pool ws, and the work slice, before and after it
 abbrev pub IsCheck : State → List ℕ → List ℕ → List ℕ → Checked → Type 0
 IsCheck s ws ks ks′ k = (ks′ ≡ cleared (numbersOf s .nodes) ks) × (k ≡ checkedState s ws ks)
 
 -- the parts, the pool ws and the answer words rs are those that a tape's records leave
-pub record IsRun (o : RecordsResult) (ns ds fs ws rs : List ℕ) : Type 0 where
+pub record IsRun (o : RecordsResult) (ns ds : List ℕ) (fs : List Frame) (ws rs : List ℕ) : Type 0 where
   pub state : parts ns ds fs ≡ stateOf (o .core)
   pub pool : ws ≡ o .core .pool
   pub answers : rs ≡ o .answers
@@ -158,12 +180,19 @@ imageNumber WrongLength = refusalNumber Blocks
 imageNumber WrongCheck = refusalNumber BlockCheck
 imageNumber ImageCheck.Good = 0
 
--- the pool ws, the work slice ks and the result r are those of a reading's result o, and so are the parts if nothing is refused
-pub record IsLoading (o : LoadResult) (ns ds fs ws ks : List ℕ) (r : ℕ) : Type 0 where
+-- the table fs, the pool ws, the work slice ks and the result r are those of a reading's result o, and so are numbers and deques if nothing is refused
+pub record IsLoading (o : LoadResult) (ns ds : List ℕ) (fs : List Frame) (ws ks : List ℕ) (r : ℕ) : Type 0 where
   pub result : r ≡ o .result
   pub state : r ≡ 0 → parts ns ds fs ≡ o .state
+  pub table : fs ≡ o .state .frames
   pub pool : ws ≡ o .pool
   pub work : ks ≡ o .work
+
+-- the check of what was read, the state s and the pool ws, leaves the table fs, the pool ws′ and the result r: nothing changes, or all of it is zero
+pub record IsRechecked (s : State) (ws ks : List ℕ) (fs : List Frame) (ws′ ks′ : List ℕ) (r : ℕ) : Type 0 where
+  pub sound : isSound s ws ≡ true → (r ≡ 0) × (fs ≡ s .frames) × (ws′ ≡ ws)
+  pub unsound : isSound s ws ≡ false → (r ≡ 6) × (fs ≡ recordsZero (s .frames)) × (ws′ ≡ nodesZero ws)
+  pub work : ks′ ≡ cleared (numbersOf s .nodes) ks
 
 -- the free nodes that it counted, if it found the state sound
 abbrev pub freeIn : Checked → ℕ

@@ -1,11 +1,9 @@
 // Document 01's words for the answers.
 ghost use mathlib.Core.Path.{_≡_};
 ghost use Rattle.frames.specs.Steps.{returnedNumber, syncedNumber};
-ghost use Rattle.semantics.specs.Answers.{refusalNumber, doneWords, answerWords};
+ghost use Rattle.semantics.specs.Answers.{refusalNumber};
 use frames::Returned;
 use frames::Synced;
-use semantics::Answer;
-use semantics::Done;
 use semantics::Refusal;
 
 // "Refused, in checking order": the number of a refusal.
@@ -32,11 +30,12 @@ pub fn refusal_number(refusal: Refusal) -> u32
         Refusal::BlockCheck => 18,
         Refusal::Target => 19,
         Refusal::NoReducer => 20,
+        Refusal::Places => 21,
         Refusal::Lengths => 99,
     }
 }
 
-fn returned_number(outcome: Returned) -> u32
+pub fn returned_number(outcome: Returned) -> u32
     ensures { λ r. ⌜ r ≡ returnedNumber outcome ⌝ }
 {
     match outcome {
@@ -48,51 +47,11 @@ fn returned_number(outcome: Returned) -> u32
     }
 }
 
-fn synced_number(outcome: Synced) -> u32
+pub fn synced_number(outcome: Synced) -> u32
     ensures { λ r. ⌜ r ≡ syncedNumber outcome ⌝ }
 {
     match outcome {
         Synced::Passed => 0,
         Synced::Suspended => 1,
-    }
-}
-
-// "100 plus the kind"
-pub fn done_kind(done: Done) -> u32
-    ensures { λ r. ⌜ r ≡ doneWords done .0 ⌝ }
-{
-    match done {
-        Done::Spawned(_) => 101,
-        Done::Ended(_) => 102,
-        Done::Stolen(_) => 103,
-        Done::Waited(_) => 104,
-        Done::Value(_) => 105,
-        Done::Written(_) => 106,
-        Done::Folded => 107,
-    }
-}
-
-// "then a number"
-pub fn done_number(done: Done) -> u32
-    ensures { λ r. ⌜ r ≡ doneWords done .1 ⌝ }
-{
-    match done {
-        Done::Spawned(depth) => depth,
-        Done::Ended(outcome) => returned_number(outcome),
-        Done::Stolen(depth) => depth,
-        Done::Waited(outcome) => synced_number(outcome),
-        Done::Value(value) => value,
-        Done::Written(free) => free,
-        Done::Folded => 0,
-    }
-}
-
-// The first of an answer's two words: of a refused one, its refusal.
-pub fn first_word(answer: Answer) -> u32
-    ensures { λ r. ⌜ r ≡ answerWords answer .0 ⌝ }
-{
-    match answer {
-        Answer::Accepted(done) => done_kind(done),
-        Answer::Refused(refusal) => refusal_number(refusal),
     }
 }

@@ -1,112 +1,110 @@
 // Soundness, checked once a call: numbers first, then frames and deques, then the pool.
 ghost use mathlib.Core.Path.{_≡_};
-ghost use mathlib.Core.Bool.{cond, _&&_, _||_};
+ghost use mathlib.Core.Bool.{_||_};
+ghost use mathlib.Core.List.{List};
 ghost use lib.Dec.{eqb};
 ghost use lib.ListN.{length, getD};
-ghost use Rattle.words.specs.Basics.{all, howMany};
-ghost use Rattle.frames.specs.Widths.{places, frameWords, dequeWords};
-ghost use Rattle.soundness.specs.Numbers.{totalCount};
-ghost use Rattle.soundness.specs.Soundness.{lives, numbersSound, framesSound, checked, cleared};
+ghost use Rattle.words.specs.Basics.{all};
+ghost use Rattle.frames.specs.Widths.{dequeWords};
+ghost use Rattle.frames.specs.declared.Frame.{Frame};
+ghost use Prim.Native.Nat.{_≤_};
+ghost use Rattle.soundness.specs.Numbers.{numberCount, totalCount, numbersIn, totalsIn};
+ghost use Rattle.soundness.specs.Soundness.{numbersSound};
 ghost use Rattle.semantics.specs.Promises.{parts, Fits};
-ghost use Rattle.engine.specs.Promises.{IsCheck};
-ghost use Rattle.frame_check.specs.declared.FramesChecked.the-variants.{Bad, Good};
-use crate::numbers::HEAD_COUNT;
+ghost use Rattle.engine.specs.Promises.{tablesChecked, IsCheck};
 use crate::numbers::numbers_in;
 use crate::numbers::totals_zero;
 use frame_check::FramesChecked;
 use frame_check::check_frames;
+use frames::Frame;
 use pool_check::PoolChecked;
 use pool_check::check_pool;
 use pool_check::clear;
 use soundness::Checked;
 use soundness::Numbers;
 
-fn check_numbers(numbers: Numbers, pool: &[u32]) -> bool
-    ensures { λ r. ⌜ r ≡ numbersSound numbers (now (pool .entry)) ⌝ }
+// With a table of so many places.
+pub fn check_numbers(numbers: Numbers, places: usize, pool: &[u32]) -> bool
+    ensures { λ r. ⌜ ((fs : List Frame) → length fs ≡ places → r ≡ numbersSound numbers fs (now (pool .entry))) ⌝ }
 {
-    let fits = (numbers.nodes <= 16384) & (4 * (numbers.nodes as usize) <= pool.len());
-    let tree = (sizes::tree_nodes(numbers.splitters) <= numbers.nodes as u64) & fits;
-    let splitters = (1 <= numbers.splitters) & ((numbers.splitters <= 256) & tree);
+    let table = (1 <= numbers.places)
+        & ((numbers.places <= 256) & (places == numbers.places as usize));
+    let pool_fits = (4 * (numbers.nodes as usize) <= pool.len()) & table;
+    let nodes = (sizes::tree_nodes(numbers.splitters) <= numbers.nodes as u64)
+        & ((numbers.nodes <= 16384) & pool_fits);
+    let splitters = (1 <= numbers.splitters) & ((numbers.splitters <= 256) & nodes);
     (1 <= numbers.workers) & ((numbers.workers <= 8) & splitters)
 }
 
-// All but the pool.
-fn check_tables(numbers: Numbers, deques: &[u32], frames: &[u32], pool: &[u32]) -> FramesChecked
-    requires { ⌜ (length (now deques) ≡ dequeWords) × (length (now frames) ≡ frameWords) ⌝ }
-    ensures { λ r. ⌜ r ≡ cond (numbersSound numbers (now (pool .entry))
-        && framesSound (numbers .workers) (numbers .«free_place») (now (deques .entry)) (now (frames .entry))) (Good (howMany places (lives (now (frames .entry))))) Bad ⌝ }
+// R-5: the totals, "zero while Main lives"; end is one more than the last place where a frame lives, or 0.
+pub fn totals_right(numbers: &[u32], end: u32) -> bool
+    requires { ⌜ length (now numbers) ≡ numberCount ⌝ }
+    ensures { λ r. ⌜ r ≡ (eqb end 0 || all totalCount (λ i. eqb (getD (totalsIn (now (numbers .entry))) i 0) 0)) ⌝ }
 {
-    if !check_numbers(numbers, pool) {
+    (end == 0) | totals_zero(numbers)
+}
+
+// All but totals and pool.
+pub fn check_tables(
+    numbers: Numbers,
+    deques: &[u32],
+    frames: &[Frame],
+    pool: &[u32],
+) -> FramesChecked
+    requires { ⌜ length (now deques) ≡ dequeWords ⌝ }
+    ensures { λ r. ⌜ r ≡ tablesChecked numbers (now (deques .entry)) (now (frames .entry)) (now (pool .entry)) ⌝ }
+{
+    if !check_numbers(numbers, frames.len(), pool) {
         return FramesChecked::Bad;
     }
     check_frames(numbers.workers, numbers.free_place, deques, frames)
 }
 
-// R-5: the totals, "zero while Main lives"; so many frames live.
-fn totals_right(totals: &[u32], live: u32) -> bool
-    requires { ⌜ length (now totals) ≡ totalCount ⌝ }
-    ensures { λ r. ⌜ r ≡ (eqb live 0 || all totalCount (λ i. eqb (getD (now (totals .entry)) i 0) 0)) ⌝ }
-{
-    (live == 0) | totals_zero(totals)
-}
-
-// Are state and pool sound? The work slice's first words, one for each recorded node, are zero afterwards, unless it has fewer.
-fn check(
-    numbers: Numbers,
-    totals: &[u32],
+// What is left to check after the tables: the totals and the pool. It and check_tables have two callers each, so that the compiler keeps them apart: the
+// tallies of the one do not lie on the stack below the walks of the other.
+pub fn check_rest(
+    numbers: &[u32],
     deques: &[u32],
-    frames: &[u32],
+    frames: &[Frame],
     pool: &[u32],
     work: &mut [u32],
+    tables: FramesChecked,
 ) -> Checked
-    requires { ⌜ (length (now totals) ≡ totalCount) × (length (now deques) ≡ dequeWords) × (length (now frames) ≡ frameWords) ⌝ }
-    ensures { λ r. ⌜ (now (work .exit) ≡ cleared (numbers .nodes) (now (work .entry)))
-        × (r ≡ checked numbers (now (totals .entry)) (now (deques .entry)) (now (frames .entry)) (now (pool .entry)) (now (work .entry))) ⌝ }
+    requires { ⌜ Fits (parts (now numbers) (now deques) (now frames)) × (numbersIn (now numbers) .nodes ≤ length (now work))
+        × (tables ≡ tablesChecked (numbersIn (now numbers)) (now deques) (now frames) (now pool)) ⌝ }
+    ensures { λ r. ⌜ IsCheck (parts (now (numbers .entry)) (now (deques .entry)) (now (frames .entry))) (now (pool .entry)) (now (work .entry)) (now (work .exit)) r ⌝ }
 {
-    let nodes = numbers.nodes;
-    if (nodes as usize) > work.len() {
-        return Checked::NoRoom;
-    }
-    let FramesChecked::Good(live) = check_tables(numbers, deques, frames, pool) else {
-        clear(work, nodes);
+    let n = numbers_in(numbers);
+    let FramesChecked::Good(end) = tables else {
+        clear(work, n.nodes);
         return Checked::Unsound;
     };
-    if !totals_right(totals, live) {
-        clear(work, nodes);
+    if !totals_right(numbers, end) {
+        clear(work, n.nodes);
         return Checked::Unsound;
     }
-    let answer = check_pool(
-        numbers.splitters,
-        nodes,
-        numbers.free_node,
-        live,
-        frames,
-        pool,
-        work,
-    );
+    let answer = check_pool(n.splitters, n.nodes, n.free_node, end, frames, pool, work);
     let PoolChecked::Good(free) = answer else {
         return Checked::Unsound;
     };
     Checked::Sound(free)
 }
 
-// The check of a state's lent parts.
+// Are state and pool sound? The work slice's first words, one for each recorded node, are zero afterwards, unless it has fewer.
 pub fn check_state(
     numbers: &[u32],
     deques: &[u32],
-    frames: &[u32],
+    frames: &[Frame],
     pool: &[u32],
     work: &mut [u32],
 ) -> Checked
     requires { ⌜ Fits (parts (now numbers) (now deques) (now frames)) ⌝ }
     ensures { λ r. ⌜ IsCheck (parts (now (numbers .entry)) (now (deques .entry)) (now (frames .entry))) (now (pool .entry)) (now (work .entry)) (now (work .exit)) r ⌝ }
 {
-    check(
-        numbers_in(numbers),
-        &numbers[HEAD_COUNT..],
-        deques,
-        frames,
-        pool,
-        work,
-    )
+    let n = numbers_in(numbers);
+    if work.len() < n.nodes as usize {
+        return Checked::NoRoom;
+    }
+    let tables = check_tables(n, deques, frames, pool);
+    check_rest(numbers, deques, frames, pool, work, tables)
 }

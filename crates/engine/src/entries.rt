@@ -1,7 +1,12 @@
-// The start, the tape, the save and the reading, on all inputs: a part of the state that has another length than it must have is refused first, by 99, and
-// nothing changes.
+// The start, the tape, the save and the reading, on all inputs: a part of the state that has another length than it must have is refused first, by 99,
+// and nothing changes.
 ghost use mathlib.Core.Path.{_≡_};
-ghost use Rattle.semantics.specs.Entries.{fits, startOn, tapeOn};
+ghost use mathlib.Core.Bool.{_&&_};
+ghost use lib.Dec.{eqb};
+ghost use lib.ListN.{length};
+ghost use Rattle.frames.specs.Widths.{dequeWords};
+ghost use Rattle.soundness.specs.Numbers.{numberCount};
+ghost use Rattle.semantics.specs.Entries.{startOn, tapeOn};
 ghost use Rattle.semantics.specs.Images.{saveOn, loadOn};
 ghost use Rattle.semantics.specs.Promises.{parts, IsStart, IsTape, IsSave, IsLoad};
 use crate::answers::refusal_number;
@@ -10,22 +15,28 @@ use crate::images::load_on;
 use crate::images::save_on;
 use crate::tapes::tape_on;
 use frames::DEQUE_WORDS;
-use frames::FRAME_WORDS;
+use frames::Frame;
 use image::NUMBER_COUNT;
 use semantics::Refusal;
 
-// Has each part its length?
-fn fit(numbers: &[u32], deques: &[u32], frames: &[u32]) -> bool
-    ensures { λ r. ⌜ r ≡ fits (parts (now (numbers .entry)) (now (deques .entry)) (now (frames .entry))) ⌝ }
+// Has each part of words its length?
+pub fn fit(numbers: &[u32], deques: &[u32]) -> bool
+    ensures { λ r. ⌜ r ≡ eqb (length (now (numbers .entry))) numberCount && eqb (length (now (deques .entry))) dequeWords ⌝ }
 {
-    (numbers.len() == NUMBER_COUNT)
-        & ((deques.len() == DEQUE_WORDS) & (frames.len() == FRAME_WORDS))
+    (numbers.len() == NUMBER_COUNT) & (deques.len() == DEQUE_WORDS)
+}
+
+// 99
+pub fn unfit() -> u32
+    ensures { λ r. ⌜ r ≡ 99 ⌝ }
+{
+    refusal_number(Refusal::Lengths)
 }
 
 pub fn start(
     numbers: &mut [u32],
     deques: &mut [u32],
-    frames: &mut [u32],
+    frames: &mut [Frame],
     workers: u32,
     values: &[u32],
     pool: &mut [u32],
@@ -33,8 +44,8 @@ pub fn start(
     ensures { λ r. ⌜ IsStart (startOn (parts (now (numbers .entry)) (now (deques .entry)) (now (frames .entry))) workers (now (values .entry)) (now (pool .entry)))
         (now (numbers .exit)) (now (deques .exit)) (now (frames .exit)) (now (pool .exit)) r ⌝ }
 {
-    if !fit(numbers, deques, frames) {
-        return refusal_number(Refusal::Lengths);
+    if !fit(numbers, deques) {
+        return unfit();
     }
     start_on(numbers, deques, frames, workers, values, pool)
 }
@@ -42,7 +53,7 @@ pub fn start(
 pub fn tape(
     numbers: &mut [u32],
     deques: &mut [u32],
-    frames: &mut [u32],
+    frames: &mut [Frame],
     pool: &mut [u32],
     work: &mut [u32],
     bytes: &[u8],
@@ -51,8 +62,8 @@ pub fn tape(
     ensures { λ r. ⌜ IsTape (tapeOn (parts (now (numbers .entry)) (now (deques .entry)) (now (frames .entry))) (now (pool .entry)) (now (work .entry)) (now (bytes .entry)) (now (answers .entry)))
         (now (numbers .exit)) (now (deques .exit)) (now (frames .exit)) (now (pool .exit)) (now (work .exit)) (now (answers .exit)) r ⌝ }
 {
-    if !fit(numbers, deques, frames) {
-        return refusal_number(Refusal::Lengths);
+    if !fit(numbers, deques) {
+        return unfit();
     }
     tape_on(numbers, deques, frames, pool, work, bytes, answers)
 }
@@ -60,7 +71,7 @@ pub fn tape(
 pub fn save(
     numbers: &[u32],
     deques: &[u32],
-    frames: &[u32],
+    frames: &[Frame],
     pool: &[u32],
     work: &mut [u32],
     target: &mut [u8],
@@ -68,8 +79,8 @@ pub fn save(
     ensures { λ r. ⌜ IsSave (saveOn (parts (now (numbers .entry)) (now (deques .entry)) (now (frames .entry))) (now (pool .entry)) (now (work .entry)) (now (target .entry)))
         (now (work .exit)) (now (target .exit)) r ⌝ }
 {
-    if !fit(numbers, deques, frames) {
-        return refusal_number(Refusal::Lengths);
+    if !fit(numbers, deques) {
+        return unfit();
     }
     save_on(numbers, deques, frames, pool, work, target)
 }
@@ -77,7 +88,7 @@ pub fn save(
 pub fn load(
     numbers: &mut [u32],
     deques: &mut [u32],
-    frames: &mut [u32],
+    frames: &mut [Frame],
     pool: &mut [u32],
     work: &mut [u32],
     image: &[u8],
@@ -85,8 +96,8 @@ pub fn load(
     ensures { λ r. ⌜ IsLoad (loadOn (parts (now (numbers .entry)) (now (deques .entry)) (now (frames .entry))) (now (pool .entry)) (now (work .entry)) (now (image .entry)))
         (now (numbers .exit)) (now (deques .exit)) (now (frames .exit)) (now (pool .exit)) (now (work .exit)) r ⌝ }
 {
-    if !fit(numbers, deques, frames) {
-        return refusal_number(Refusal::Lengths);
+    if !fit(numbers, deques) {
+        return unfit();
     }
     load_on(numbers, deques, frames, pool, work, image)
 }

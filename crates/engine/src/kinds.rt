@@ -4,34 +4,35 @@
 ghost use mathlib.Core.Path.{_≡_};
 ghost use mathlib.Core.List.{[]};
 ghost use lib.ListN.{length};
-ghost use Rattle.soundness.specs.Numbers.{totalCount};
+ghost use Rattle.words.specs.Basics.{plus};
+ghost use Rattle.frames.specs.Steps.{syncedNumber};
+ghost use Rattle.soundness.specs.Numbers.{numbersIn, totalsIn, numberCount};
 ghost use Rattle.model.specs.declared.Step.the-variants.{Spawn, Return, Steal, Sync, Read, Write, Fold};
 ghost use Rattle.semantics.specs.Core.{stepOn};
 ghost use Rattle.semantics.specs.Ranges.{Ready};
-ghost use Rattle.semantics.specs.declared.Answer.the-variants.{Refused};
-ghost use Rattle.engine.specs.Promises.{core, headAfter, Leaves, LeavesOthers, kindOn, ActsAt};
-use crate::Acting;
+ghost use Rattle.engine.specs.Promises.{core, renewed, headAfter, Leaves, LeavesOthers, Answers, kindOn, ActsAt};
 use crate::Out;
-use crate::Verdict;
+use crate::answers::refusal_number;
+use crate::answers::synced_number;
 use crate::refusals::acting;
-use crate::refusals::steal_verdict;
+use crate::refusals::steal_refusal;
 use crate::returns::return_at;
+use frames::Frame;
 use frames::NONE;
+use frames::Synced;
 use frames::fold_at;
 use frames::frame_at;
-use frames::root_at;
-use frames::set_root;
+use frames::put_frame;
 use frames::spawn_frame;
 use frames::steal_frame;
 use frames::sync_frame;
 use frames::top_at;
+use frames::with_root;
 use pool::first_shared;
 use pool::read_at;
 use pool::retain;
 use pool::set_value;
 use pool::write_shared;
-use semantics::Answer;
-use semantics::Done;
 use semantics::Head;
 use semantics::Refusal;
 
@@ -39,28 +40,93 @@ use semantics::Refusal;
 const REDUCERS: u32 = 3;
 
 // The numbers stay as they are.
-pub fn unchanged(h: Head, answer: Answer) -> Out
-    ensures { λ r. ⌜ (headAfter h r ≡ h) × (r .answer ≡ answer) ⌝ }
+pub fn unchanged(h: Head, first: u32, second: u32) -> Out
+    ensures { λ r. ⌜ Answers h r first second ⌝ }
 {
     Out {
         free_node: h.numbers.free_node,
         free_place: h.numbers.free_place,
         free_count: h.free_count,
-        answer,
+        first,
+        second,
     }
 }
 
 // A refused step changes nothing.
-pub fn refused(h: Head, refusal: Refusal) -> Out
-    ensures { λ r. ⌜ (headAfter h r ≡ h) × (r .answer ≡ Refused refusal) ⌝ }
+pub fn refused_by(h: Head, refusal: u32) -> Out
+    ensures { λ r. ⌜ Answers h r refusal 0 ⌝ }
 {
-    unchanged(h, Answer::Refused(refusal))
+    unchanged(h, refusal, 0)
 }
 
-fn spawn_at(
+// 13, 15, 16 and 20, and 7.
+pub fn frames_full(h: Head) -> Out
+    ensures { λ r. ⌜ Answers h r 13 0 ⌝ }
+{
+    refused_by(h, refusal_number(Refusal::FramesFull))
+}
+
+pub fn no_splitter(h: Head) -> Out
+    ensures { λ r. ⌜ Answers h r 15 0 ⌝ }
+{
+    refused_by(h, refusal_number(Refusal::NoSplitter))
+}
+
+pub fn pool_full(h: Head) -> Out
+    ensures { λ r. ⌜ Answers h r 16 0 ⌝ }
+{
+    refused_by(h, refusal_number(Refusal::PoolFull))
+}
+
+pub fn no_reducer(h: Head) -> Out
+    ensures { λ r. ⌜ Answers h r 20 0 ⌝ }
+{
+    refused_by(h, refusal_number(Refusal::NoReducer))
+}
+
+pub fn no_record(h: Head) -> Out
+    ensures { λ r. ⌜ Answers h r 7 0 ⌝ }
+{
+    refused_by(h, refusal_number(Refusal::Record))
+}
+
+// A spawn's answer.
+pub fn spawned(h: Head, free_place: u32, depth: u32) -> Out
+    ensures { λ r. ⌜ (headAfter h r ≡ renewed h (h .numbers .«free_node») «free_place» (h .«free_count»)) × (r .first ≡ 101) × (r .second ≡ plus depth 1) ⌝ }
+{
+    Out {
+        free_node: h.numbers.free_node,
+        free_place,
+        free_count: h.free_count,
+        first: 101,
+        second: words::add(depth, 1),
+    }
+}
+
+// A sync's answer.
+pub fn waited(h: Head, outcome: Synced) -> Out
+    ensures { λ r. ⌜ Answers h r 104 (syncedNumber outcome) ⌝ }
+{
+    unchanged(h, 104, synced_number(outcome))
+}
+
+// A write's answer, with new nodes.
+pub fn written(h: Head, free_node: u32, free_count: u32) -> Out
+    ensures { λ r. ⌜ (headAfter h r ≡ renewed h «free_node» (h .numbers .«free_place») «free_count») × (r .first ≡ 106) × (r .second ≡ «free_count») ⌝ }
+{
+    Out {
+        free_node,
+        free_place: h.numbers.free_place,
+        free_count,
+        first: 106,
+        second: free_count,
+    }
+}
+
+pub fn spawn_at(
     h: Head,
     deques: &mut [u32],
-    frames: &mut [u32],
+    frames: &mut [Frame],
     pool: &mut [u32],
     w: u32,
     n: u32,
@@ -71,23 +137,18 @@ fn spawn_at(
         (λ c. kindOn c (Spawn w)) ⌝ }
 {
     if h.numbers.free_place == NONE {
-        return refused(h, Refusal::FramesFull);
+        return frames_full(h);
     }
     let f = frame_at(frames, p);
     retain(pool, h.numbers.nodes, f.root);
-    let free_place = spawn_frame(deques, frames, h.numbers.free_place, w, n, p, f);
-    Out {
-        free_node: h.numbers.free_node,
-        free_place,
-        free_count: h.free_count,
-        answer: Answer::Accepted(Done::Spawned(words::add(f.depth, 1))),
-    }
+    let place = spawn_frame(deques, frames, h.numbers.free_place, w, n, p, f);
+    spawned(h, place, f.depth)
 }
 
-fn sync_at(
+pub fn sync_at(
     h: Head,
     deques: &mut [u32],
-    frames: &mut [u32],
+    frames: &mut [Frame],
     pool: &mut [u32],
     w: u32,
     n: u32,
@@ -97,14 +158,15 @@ fn sync_at(
     ensures { λ r. ⌜ LeavesOthers h r (now (deques .entry)) (now (frames .entry)) (now (pool .entry)) (now (deques .exit)) (now (frames .exit)) (now (pool .exit))
         (λ c. kindOn c (Sync w)) ⌝ }
 {
-    let outcome = sync_frame(deques, frames, w, n, p, frame_at(frames, p));
-    unchanged(h, Answer::Accepted(Done::Waited(outcome)))
+    let f = frame_at(frames, p);
+    let outcome = sync_frame(deques, frames, w, n, p, f);
+    waited(h, outcome)
 }
 
-fn value_at(
+pub fn value_at(
     h: Head,
     deques: &mut [u32],
-    frames: &mut [u32],
+    frames: &mut [Frame],
     pool: &mut [u32],
     w: u32,
     n: u32,
@@ -116,16 +178,17 @@ fn value_at(
         (λ c. kindOn c (Read w x)) ⌝ }
 {
     if x >= h.numbers.splitters {
-        return refused(h, Refusal::NoSplitter);
+        return no_splitter(h);
     }
-    let value = read_at(pool, h.numbers.nodes, h.height, root_at(frames, p), x);
-    unchanged(h, Answer::Accepted(Done::Value(value)))
+    let root = frame_at(frames, p).root;
+    let value = read_at(pool, h.numbers.nodes, h.height, root, x);
+    unchanged(h, 105, value)
 }
 
-fn write_at(
+pub fn write_at(
     h: Head,
     deques: &mut [u32],
-    frames: &mut [u32],
+    frames: &mut [Frame],
     pool: &mut [u32],
     w: u32,
     n: u32,
@@ -138,18 +201,18 @@ fn write_at(
         (λ c. kindOn c (Write w x v)) ⌝ }
 {
     if x >= h.numbers.splitters {
-        return refused(h, Refusal::NoSplitter);
+        return no_splitter(h);
     }
-    let root = root_at(frames, p);
+    let root = frame_at(frames, p).root;
     let found = first_shared(pool, h.numbers.nodes, h.height, root, x);
     if !found.shared {
         set_value(pool, found.at, v);
-        return unchanged(h, Answer::Accepted(Done::Written(h.free_count)));
+        return unchanged(h, 106, h.free_count);
     }
     if h.free_count <= found.level {
-        return refused(h, Refusal::PoolFull);
+        return pool_full(h);
     }
-    let written = write_shared(
+    let new = write_shared(
         pool,
         h.numbers.nodes,
         h.height,
@@ -160,20 +223,16 @@ fn write_at(
         v,
         found,
     );
-    set_root(frames, p, written.root);
-    Out {
-        free_node: written.first,
-        free_place: h.numbers.free_place,
-        free_count: written.count,
-        answer: Answer::Accepted(Done::Written(written.count)),
-    }
+    let f = frame_at(frames, p);
+    put_frame(frames, p, with_root(f, new.root));
+    written(h, new.first, new.count)
 }
 
 // "folds its value into the reducer named in its splitter field"
-fn fold_in(
+pub fn fold_in(
     h: Head,
     deques: &mut [u32],
-    frames: &mut [u32],
+    frames: &mut [Frame],
     pool: &mut [u32],
     w: u32,
     n: u32,
@@ -186,59 +245,65 @@ fn fold_in(
         (λ c. kindOn c (Fold w reducer v)) ⌝ }
 {
     if reducer >= REDUCERS {
-        return refused(h, Refusal::NoReducer);
+        return no_reducer(h);
     }
     fold_at(frames, p, reducer, v);
-    unchanged(h, Answer::Accepted(Done::Folded))
+    unchanged(h, 107, 0)
 }
 
-pub fn step_spawn(h: Head, deques: &mut [u32], frames: &mut [u32], pool: &mut [u32], w: u32) -> Out
+pub fn step_spawn(
+    h: Head,
+    deques: &mut [u32],
+    frames: &mut [Frame],
+    pool: &mut [u32],
+    w: u32,
+) -> Out
     requires { ⌜ Ready (core h [] (now deques) (now frames) (now pool)) ⌝ }
     ensures { λ r. ⌜ LeavesOthers h r (now (deques .entry)) (now (frames .entry)) (now (pool .entry)) (now (deques .exit)) (now (frames .exit)) (now (pool .exit))
         (λ c. stepOn c (Spawn w)) ⌝ }
 {
-    let acting = acting(h, deques, w);
-    match acting {
-        Acting::Refuse(refusal) => refused(h, refusal),
-        Acting::At(p, n) => spawn_at(h, deques, frames, pool, w, n, p),
+    let a = acting(h, deques, w);
+    if a.refused {
+        return refused_by(h, a.refusal);
     }
+    spawn_at(h, deques, frames, pool, w, a.n, a.p)
 }
 
 pub fn step_return(
     h: Head,
-    totals: &mut [u32],
+    numbers: &mut [u32],
     deques: &mut [u32],
-    frames: &mut [u32],
+    frames: &mut [Frame],
     pool: &mut [u32],
     w: u32,
 ) -> Out
-    requires { ⌜ (length (now totals) ≡ totalCount) × Ready (core h (now totals) (now deques) (now frames) (now pool)) ⌝ }
-    ensures { λ r. ⌜ Leaves h r (now (totals .exit)) (now (deques .exit)) (now (frames .exit)) (now (pool .exit))
-        (stepOn (core h (now (totals .entry)) (now (deques .entry)) (now (frames .entry)) (now (pool .entry))) (Return w)) ⌝ }
+    requires { ⌜ (length (now numbers) ≡ numberCount) × Ready (core h (totalsIn (now numbers)) (now deques) (now frames) (now pool)) ⌝ }
+    ensures { λ r. ⌜ (numbersIn (now (numbers .exit)) ≡ numbersIn (now (numbers .entry))) × Leaves h r (totalsIn (now (numbers .exit))) (now (deques .exit)) (now (frames .exit)) (now (pool .exit))
+        (stepOn (core h (totalsIn (now (numbers .entry))) (now (deques .entry)) (now (frames .entry)) (now (pool .entry))) (Return w)) ⌝ }
 {
-    let acting = acting(h, deques, w);
-    match acting {
-        Acting::Refuse(refusal) => refused(h, refusal),
-        Acting::At(p, n) => return_at(h, totals, deques, frames, pool, w, n, p),
+    let a = acting(h, deques, w);
+    if a.refused {
+        return refused_by(h, a.refusal);
     }
+    return_at(h, numbers, deques, frames, pool, w, a.n, a.p)
 }
 
-pub fn step_sync(h: Head, deques: &mut [u32], frames: &mut [u32], pool: &mut [u32], w: u32) -> Out
+pub fn step_sync(h: Head, deques: &mut [u32], frames: &mut [Frame], pool: &mut [u32], w: u32) -> Out
     requires { ⌜ Ready (core h [] (now deques) (now frames) (now pool)) ⌝ }
     ensures { λ r. ⌜ LeavesOthers h r (now (deques .entry)) (now (frames .entry)) (now (pool .entry)) (now (deques .exit)) (now (frames .exit)) (now (pool .exit))
         (λ c. stepOn c (Sync w)) ⌝ }
 {
-    let acting = acting(h, deques, w);
-    match acting {
-        Acting::Refuse(refusal) => refused(h, refusal),
-        Acting::At(p, n) => sync_at(h, deques, frames, pool, w, n, p),
+    let a = acting(h, deques, w);
+    if a.refused {
+        return refused_by(h, a.refusal);
     }
+    sync_at(h, deques, frames, pool, w, a.n, a.p)
 }
 
 pub fn step_read(
     h: Head,
     deques: &mut [u32],
-    frames: &mut [u32],
+    frames: &mut [Frame],
     pool: &mut [u32],
     w: u32,
     x: u32,
@@ -247,17 +312,17 @@ pub fn step_read(
     ensures { λ r. ⌜ LeavesOthers h r (now (deques .entry)) (now (frames .entry)) (now (pool .entry)) (now (deques .exit)) (now (frames .exit)) (now (pool .exit))
         (λ c. stepOn c (Read w x)) ⌝ }
 {
-    let acting = acting(h, deques, w);
-    match acting {
-        Acting::Refuse(refusal) => refused(h, refusal),
-        Acting::At(p, n) => value_at(h, deques, frames, pool, w, n, p, x),
+    let a = acting(h, deques, w);
+    if a.refused {
+        return refused_by(h, a.refusal);
     }
+    value_at(h, deques, frames, pool, w, a.n, a.p, x)
 }
 
 pub fn step_write(
     h: Head,
     deques: &mut [u32],
-    frames: &mut [u32],
+    frames: &mut [Frame],
     pool: &mut [u32],
     w: u32,
     x: u32,
@@ -267,17 +332,17 @@ pub fn step_write(
     ensures { λ r. ⌜ LeavesOthers h r (now (deques .entry)) (now (frames .entry)) (now (pool .entry)) (now (deques .exit)) (now (frames .exit)) (now (pool .exit))
         (λ c. stepOn c (Write w x v)) ⌝ }
 {
-    let acting = acting(h, deques, w);
-    match acting {
-        Acting::Refuse(refusal) => refused(h, refusal),
-        Acting::At(p, n) => write_at(h, deques, frames, pool, w, n, p, x, v),
+    let a = acting(h, deques, w);
+    if a.refused {
+        return refused_by(h, a.refusal);
     }
+    write_at(h, deques, frames, pool, w, a.n, a.p, x, v)
 }
 
 pub fn step_fold(
     h: Head,
     deques: &mut [u32],
-    frames: &mut [u32],
+    frames: &mut [Frame],
     pool: &mut [u32],
     w: u32,
     reducer: u32,
@@ -287,17 +352,17 @@ pub fn step_fold(
     ensures { λ r. ⌜ LeavesOthers h r (now (deques .entry)) (now (frames .entry)) (now (pool .entry)) (now (deques .exit)) (now (frames .exit)) (now (pool .exit))
         (λ c. stepOn c (Fold w reducer v)) ⌝ }
 {
-    let acting = acting(h, deques, w);
-    match acting {
-        Acting::Refuse(refusal) => refused(h, refusal),
-        Acting::At(p, n) => fold_in(h, deques, frames, pool, w, n, p, reducer, v),
+    let a = acting(h, deques, w);
+    if a.refused {
+        return refused_by(h, a.refusal);
     }
+    fold_in(h, deques, frames, pool, w, a.n, a.p, reducer, v)
 }
 
 pub fn step_steal(
     h: Head,
     deques: &mut [u32],
-    frames: &mut [u32],
+    frames: &mut [Frame],
     pool: &mut [u32],
     w: u32,
     v: u32,
@@ -306,11 +371,12 @@ pub fn step_steal(
     ensures { λ r. ⌜ LeavesOthers h r (now (deques .entry)) (now (frames .entry)) (now (pool .entry)) (now (deques .exit)) (now (frames .exit)) (now (pool .exit))
         (λ c. stepOn c (Steal w v)) ⌝ }
 {
-    let verdict = steal_verdict(h, deques, w, v);
-    if let Verdict::Refuse(refusal) = verdict {
-        return refused(h, refusal);
+    let refusal = steal_refusal(h, deques, w, v);
+    if refusal != 0 {
+        return refused_by(h, refusal);
     }
-    let f = frame_at(frames, top_at(deques, v));
+    let p = top_at(deques, v);
+    let f = frame_at(frames, p);
     steal_frame(deques, w, v);
-    unchanged(h, Answer::Accepted(Done::Stolen(f.depth)))
+    unchanged(h, 103, f.depth)
 }

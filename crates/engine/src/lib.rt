@@ -17,10 +17,8 @@ pub use entries::load;
 pub use entries::save;
 pub use entries::start;
 pub use entries::tape;
-use semantics::Answer;
-use semantics::Refusal;
 
-// What a step leaves of the numbers that change, and its answer.
+// What a step leaves of the numbers that change, and its two answer words.
 pub struct Out {
     // the first free node
     pub free_node: u32,
@@ -28,17 +26,22 @@ pub struct Out {
     pub free_place: u32,
     // the number of free nodes
     pub free_count: u32,
-    pub answer: Answer,
+    pub first: u32,
+    pub second: u32,
 }
 
-// What the tests of a step or a start say.
-pub enum Verdict {
-    Pass,
-    Refuse(Refusal),
+// The place of the frame that a worker executes and how many frames the worker has, or the number of the refusal of its step.
+pub struct Acting {
+    pub refused: bool,
+    pub refusal: u32,
+    pub p: u32,
+    pub n: u32,
 }
 
-// The place of the frame that a worker executes and how many frames the worker has, or the refusal of its step.
-pub enum Acting {
-    At(u32, u32),
-    Refuse(Refusal),
+// A step's kind, by its number, and what it holds; fields that it has not are 0.
+pub struct Fields {
+    pub kind: u32,
+    pub w: u32,
+    pub x: u32,
+    pub v: u32,
 }

@@ -1,6 +1,6 @@
 // Refusals 8 to 12, tested in the order of document 01. Whether all workers are idle is asked only on the way to a refusal.
 ghost use mathlib.Core.Path.{_≡_};
-ghost use mathlib.Core.Bool.{not, _||_};
+ghost use mathlib.Core.Bool.{true, not, _||_};
 ghost use mathlib.Core.List.{[]};
 ghost use Prim.Native.Nat.{_≤_};
 ghost use lib.Dec.{eqb, ltb};
@@ -8,10 +8,11 @@ ghost use lib.ListN.{length};
 ghost use Rattle.words.specs.Basics.{all};
 ghost use Rattle.frames.specs.Widths.{maxWorkers, dequeWords};
 ghost use Rattle.frames.specs.Deques.{size};
+ghost use Rattle.semantics.specs.Answers.{refusalNumber};
 ghost use Rattle.semantics.specs.Core.{stealTests};
-ghost use Rattle.engine.specs.Promises.{core, verdict, SizesIn, IsActing};
+ghost use Rattle.engine.specs.Promises.{core, refusalBy, SizesIn, IsActing};
 use crate::Acting;
-use crate::Verdict;
+use crate::answers::refusal_number;
 use frames::MAX_WORKERS;
 use frames::acting_place;
 use frames::size_at;
@@ -33,22 +34,39 @@ fn all_idle(deques: &[u32]) -> bool
     true
 }
 
+// A refusal of an acting frame's step.
+fn refuse(refusal: Refusal) -> Acting
+    ensures { λ r. ⌜ (r .refused ≡ true) × (r .refusal ≡ refusalNumber refusal) ⌝ }
+{
+    Acting {
+        refused: true,
+        refusal: refusal_number(refusal),
+        p: 0,
+        n: 0,
+    }
+}
+
 // 8, 9 and 10, or the place of the frame that worker w executes, and how many it has.
 pub fn acting(h: Head, deques: &[u32], w: u32) -> Acting
     requires { ⌜ SizesIn (h .numbers .workers) (now deques) ⌝ }
     ensures { λ r. ⌜ IsActing (core h [] (now (deques .entry)) [] []) w r ⌝ }
 {
     if w >= h.numbers.workers {
-        return Acting::Refuse(Refusal::NoWorker);
+        return refuse(Refusal::NoWorker);
     }
     let n = size_at(deques, w);
     if n != 0 {
-        return Acting::At(acting_place(deques, w, n), n);
+        return Acting {
+            refused: false,
+            refusal: 0,
+            p: acting_place(deques, w, n),
+            n,
+        };
     }
     if all_idle(deques) {
-        return Acting::Refuse(Refusal::MainReturned);
+        return refuse(Refusal::MainReturned);
     }
-    Acting::Refuse(Refusal::WorkerIdle)
+    refuse(Refusal::WorkerIdle)
 }
 
 // Does v not exist, or has it fewer than two frames?
@@ -62,22 +80,22 @@ fn no_victim(workers: u32, deques: &[u32], v: u32) -> bool
     size_at(deques, v) < 2
 }
 
-// 8, 9, 11 and 12: of a steal.
-pub fn steal_verdict(h: Head, deques: &[u32], w: u32, v: u32) -> Verdict
+// 8, 9, 11 and 12, of a steal, or 0.
+pub fn steal_refusal(h: Head, deques: &[u32], w: u32, v: u32) -> u32
     requires { ⌜ SizesIn (h .numbers .workers) (now deques) ⌝ }
-    ensures { λ r. ⌜ r ≡ verdict (stealTests (core h [] (now (deques .entry)) [] []) w v) ⌝ }
+    ensures { λ r. ⌜ r ≡ refusalBy (stealTests (core h [] (now (deques .entry)) [] []) w v) ⌝ }
 {
     if w >= h.numbers.workers {
-        return Verdict::Refuse(Refusal::NoWorker);
+        return refusal_number(Refusal::NoWorker);
     }
     if size_at(deques, w) != 0 {
-        return Verdict::Refuse(Refusal::ThiefBusy);
+        return refusal_number(Refusal::ThiefBusy);
     }
     if !no_victim(h.numbers.workers, deques, v) {
-        return Verdict::Pass;
+        return 0;
     }
     if all_idle(deques) {
-        return Verdict::Refuse(Refusal::MainReturned);
+        return refusal_number(Refusal::MainReturned);
     }
-    Verdict::Refuse(Refusal::NoVictim)
+    refusal_number(Refusal::NoVictim)
 }

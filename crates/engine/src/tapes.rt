@@ -8,10 +8,10 @@ ghost use Rattle.semantics.specs.Ranges.{Kept};
 ghost use Rattle.engine.specs.Promises.{checkNumber, freeIn, IsRun};
 use crate::answers::refusal_number;
 use crate::checking::check_state;
-use crate::numbers::HEAD_COUNT;
 use crate::numbers::numbers_in;
 use crate::numbers::put_free;
 use crate::records::run_tape;
+use frames::Frame;
 use semantics::Head;
 use semantics::Refusal;
 use sizes::height_of;
@@ -19,14 +19,14 @@ use soundness::Checked;
 use soundness::Numbers;
 
 // 4. "The tape is not a multiple of 8 bytes, or the answer slice has fewer than two words per record."
-fn unfit_tape(bytes: &[u8], answers: &[u32]) -> bool
+pub fn unfit_tape(bytes: &[u8], answers: &[u32]) -> bool
     ensures { λ r. ⌜ r ≡ unfitTape (now (bytes .entry)) (now (answers .entry)) ⌝ }
 {
     (bytes.len() % 8 != 0) | (answers.len() < 2 * (bytes.len() / 8))
 }
 
 // With so many free nodes.
-fn head_of(numbers: Numbers, free_count: u32) -> Head
+pub fn head_of(numbers: Numbers, free_count: u32) -> Head
     ensures { λ r. ⌜ r ≡ headOf numbers «free_count» ⌝ }
 {
     let height = height_of(numbers.splitters);
@@ -49,7 +49,7 @@ pub fn check_number(checked: Checked) -> u32
 }
 
 // The free nodes that the check counted, if it found the state sound.
-fn free_in(checked: Checked) -> u32
+pub fn free_in(checked: Checked) -> u32
     ensures { λ r. ⌜ r ≡ freeIn checked ⌝ }
 {
     match checked {
@@ -60,10 +60,10 @@ fn free_in(checked: Checked) -> u32
 }
 
 // The records of a tape, from a sound state with so many free nodes.
-fn run_on(
+pub fn run_on(
     numbers: &mut [u32],
     deques: &mut [u32],
-    frames: &mut [u32],
+    frames: &mut [Frame],
     pool: &mut [u32],
     bytes: &[u8],
     answers: &mut [u32],
@@ -75,15 +75,7 @@ fn run_on(
         (now (numbers .exit)) (now (deques .exit)) (now (frames .exit)) (now (pool .exit)) (now (answers .exit)) ⌝ }
 {
     let first = head_of(numbers_in(numbers), free_count);
-    let last = run_tape(
-        first,
-        &mut numbers[HEAD_COUNT..],
-        deques,
-        frames,
-        pool,
-        bytes,
-        answers,
-    );
+    let last = run_tape(first, numbers, deques, frames, pool, bytes, answers);
     put_free(numbers, last.numbers.free_node, last.numbers.free_place);
 }
 
@@ -91,7 +83,7 @@ fn run_on(
 pub fn tape_on(
     numbers: &mut [u32],
     deques: &mut [u32],
-    frames: &mut [u32],
+    frames: &mut [Frame],
     pool: &mut [u32],
     work: &mut [u32],
     bytes: &[u8],

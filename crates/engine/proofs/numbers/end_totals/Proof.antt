@@ -1,4 +1,5 @@
 -- Main, or another frame.
+use mathlib.Core.Path.{refl}
 use borrow.Author.Needs.{needs}
 use borrow.Author.Tests.{eq-eqb, ne-eqb}
 use Rattle.words.specs.Basics.{none}
@@ -12,7 +13,7 @@ returns c =
     rw (eq-eqb (i .before .before .args .parent) none (i .if1 .taken)) (p .put-totals .ensures)
 
 returns-2 : tie.Need-returns-2
-returns-2 c = rw (ne-eqb (c .before .before .args .parent) none (c .if1 .left))
+returns-2 c = rw (ne-eqb (c .before .before .args .parent) none (c .if1 .left)) (refl, refl)
 
 pub end-totals-spec : {M : Type 1} → statement M
 end-totals-spec = tie.close (tie.spec (λ c κs. search needs) (λ c. search needs) returns returns-2)

@@ -1,13 +1,13 @@
--- Nine stores into nine words.
+-- Ten stores into ten words.
 use lib.ListN.{length-set}
 use native.Mathlib.Omega.{arith}
-use Rattle.engine.proofs.NumberWords.{nine-words}
+use Rattle.engine.proofs.NumberWords.{ten-words}
 use borrow.Author.Needs.{needs}
 use Rattle.engine.proofs.numbers.put_numbers.Statement.{statement}
 use Rattle.engine.proofs.numbers.put_numbers.Tie as tie
 
 returns : tie.Need-returns
-returns c = nine-words (c .args .numbers .now) _ _ _ _ _ (c .pre)
+returns c = ten-words (c .args .numbers .now) _ _ _ _ _ _ (c .pre)
 
 pub put-numbers-spec : {M : Type 1} → statement M
 put-numbers-spec =
@@ -17,6 +17,7 @@ put-numbers-spec =
     (λ c. search needs)
     (λ c. search needs)
     (λ c. search needs)
+    (λ c. simp length-set (omega arith))
     (λ c. simp length-set (omega arith))
     (λ c. simp length-set (omega arith))
     (λ c. simp length-set (omega arith))

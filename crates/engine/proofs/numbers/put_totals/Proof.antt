@@ -1,11 +1,13 @@
--- Four stores into four words.
-use Rattle.engine.proofs.NumberWords.{four-words}
+-- Four stores into ten words.
+use lib.ListN.{length-set}
+use native.Mathlib.Omega.{arith}
+use Rattle.engine.proofs.NumberWords.{totals-stored}
 use borrow.Author.Needs.{needs}
 use Rattle.engine.proofs.numbers.put_totals.Statement.{statement}
 use Rattle.engine.proofs.numbers.put_totals.Tie as tie
 
 returns : tie.Need-returns
-returns c = four-words (c .args .totals .now) _ _ _ _ (c .pre)
+returns c = totals-stored (c .args .numbers .now) _ _ _ _ (c .pre)
 
 pub put-totals-spec : {M : Type 1} → statement M
 put-totals-spec =

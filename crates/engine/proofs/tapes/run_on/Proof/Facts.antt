@@ -1,0 +1,50 @@
+-- The facts of the walk of `engine::tapes::run_on`, for its author to prove. tools/walk wrote the statements, and never writes over this file.
+-- A module's binders are what is known at that point; a `?` is a goal (`rt dev engine --allow-holes` prints each).
+use mathlib.Core.Path.{_≡_, refl, sym, _∙_, ap, subst}
+use Prim.Native.Nat.{ℕ, _+_, _-_, _*_, _<_, _≤_, _^_}
+use mathlib.Core.List.{List}
+use mathlib.Core.Bool.{Bool, true, false}
+use lib.ListN.{length, getD, set}
+use native.Mathlib.Omega.{arith}
+use Prim.Native.Nat.{_/_}
+use Rattle.semantics.specs.Entries.{coreOf, recordsResult, recordsOf, runOn}
+use Rattle.semantics.specs.Promises.{parts, Fits}
+use Rattle.semantics.specs.Ranges.{Kept}
+use Rattle.engine.specs.Promises.{IsRun}
+use Rattle.soundness.specs.Numbers.{numbersIn, numberCount}
+use Rattle.semantics.specs.Entries.{headOf}
+use Rattle.soundness.specs.Numbers.{totalsIn}
+use Rattle.engine.specs.Promises.{core, renewed}
+use Rattle.frames.specs.declared.Frame.{Frame}
+use Rattle.soundness.specs.declared.Numbers.{Numbers}
+use Rattle.semantics.specs.declared.Head.{Head}
+use Rattle.engine.proofs.Taping.{run-asks, run-done}
+
+module _
+    (numbers : List ℕ) (deques : List ℕ) (frames : List Frame) (pool : List ℕ) (bytes : List ℕ) (answers : List ℕ) (free-count : ℕ) (numbers-fits : length numbers < 2 ^ 64) (deques-fits : length deques < 2 ^ 64) (frames-fits : length frames < 2 ^ 64) (pool-fits : length pool < 2 ^ 64) (bytes-fits : length bytes < 2 ^ 64) (answers-fits : length answers < 2 ^ 64) (free-count-fits : free-count < 2 ^ 32) (ok : Fits (parts numbers deques frames) × Kept (coreOf (parts numbers deques frames) pool free-count) × (2 * (length bytes / 8) ≤ length answers)) where
+  -- engine::numbers::numbers_in asks
+  pub needs-1 : length numbers ≡ numberCount
+  needs-1 = ok .0 .numbers
+
+  module _
+      -- engine::numbers::numbers_in(numbers)
+      (r-1 : Numbers) (r-1-is : r-1 ≡ numbersIn numbers)
+      -- engine::tapes::head_of(r-1, free-count)
+      (first′ : Head) (first′-is : first′ ≡ headOf r-1 free-count) where
+    -- engine::records::run_tape asks
+    pub needs-3 : (length numbers ≡ numberCount) × Kept (core first′ (totalsIn numbers) deques frames pool) × (2 * (length bytes / 8) ≤ length answers)
+    needs-3 = (ok .0 .numbers, run-asks numbers deques frames pool r-1 first′ free-count r-1-is first′-is (ok .1), ok .2)
+
+    module _
+        -- engine::records::run_tape(first′, numbers, deques, frames, pool, bytes, answers)
+        (last : Head) (numbers-3 : List ℕ) (deques-3 : List ℕ) (frames-3 : List Frame) (pool-3 : List ℕ) (answers-3 : List ℕ) (last-is : (numbersIn numbers-3 ≡ numbersIn numbers) × (recordsResult (core last (totalsIn numbers-3) deques-3 frames-3 pool-3) answers-3 ≡ runOn (recordsResult (core first′ (totalsIn numbers) deques frames pool) answers) 0 (recordsOf bytes)) × (last ≡ renewed first′ (last .numbers .«free_node») (last .numbers .«free_place») (last .«free_count»))) (same-numbers-3 : length numbers-3 ≡ length numbers) (same-deques-3 : length deques-3 ≡ length deques) (same-frames-3 : length frames-3 ≡ length frames) (same-pool-3 : length pool-3 ≡ length pool) (same-answers-3 : length answers-3 ≡ length answers) where
+      -- engine::numbers::put_free asks
+      pub needs-4 : length numbers-3 ≡ numberCount
+      needs-4 = same-numbers-3 ∙ ok .0 .numbers
+
+      module _
+          -- engine::numbers::put_free(numbers, ((last .numbers) .«free_node»), ((last .numbers) .«free_place»))
+          (numbers-4 : List ℕ) (done-4 : numbers-4 ≡ set (set numbers-3 3 ((last .numbers) .«free_node»)) 4 ((last .numbers) .«free_place»)) (same-numbers-4 : length numbers-4 ≡ length numbers-3) where
+        -- a way out: what the function ensures
+        pub out-5 : IsRun (runOn (recordsResult (coreOf (parts numbers deques frames) pool free-count) answers) 0 (recordsOf bytes)) numbers-4 deques-3 frames-3 pool-3 answers-3
+        out-5 = run-done numbers deques frames pool r-1 first′ free-count r-1-is first′-is answers bytes numbers-3 deques-3 frames-3 pool-3 answers-3 numbers-4 last (same-numbers-3 ∙ ok .0 .numbers) last-is done-4
