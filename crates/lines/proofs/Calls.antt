@@ -6,7 +6,7 @@ use Prim.Native.Nat.{ℕ}
 use native.Mathlib.Omega.{arith}
 use lib.ListN.{length}
 use borrow.Author.Tests.{eq-eqb, ne-eqb}
-use Rattle.semantics.specs.Entries.{State, zeros, totalsOf, chainFree, startOn, TapeResult, tapeOn}
+use Rattle.semantics.specs.Entries.{State, totalsOf, chainFree, startOn, TapeResult, tapeOn}
 use Rattle.lines.specs.Lines.{refusedLine, acceptedLines, tapeLines, runLines}
 use Rattle.lines.specs.Output.{storeAll, StoresUpTo}
 
@@ -23,13 +23,19 @@ module _ {m : ℕ} (o : List ℕ) (at : ℕ) {o' : List ℕ} {k : ℕ} (r : ℕ)
   tape-accepted p answers state ws e d an st po s =
       same o at (acceptedLines answers (chainFree state ws) (totalsOf state)) (tapeLines p) (rw (← e, eq-eqb r 0 d, ← an, ← st, ← po)) s
 
-  module _ (workers : ℕ) (vs vs' ws work records answers : List ℕ) (v : vs' ≡ vs) (e : r ≡ startOn zeros workers vs' ws .result) where
-    pub run-refused : r ≢ 0 → StoresUpTo m o at (refusedLine r) o' k → StoresUpTo m o at (runLines workers vs ws work records answers) o' k
+  module _ (s : State) (workers : ℕ) (vs ws work records answers : List ℕ) (e : r ≡ startOn s workers vs ws .result) where
+    pub run-refused : r ≢ 0 → StoresUpTo m o at (refusedLine r) o' k → StoresUpTo m o at (runLines s workers vs ws work records answers) o' k
     unfolding runLines
-    run-refused d s = same o at (refusedLine r) (runLines workers vs ws work records answers) (rw (← v, ← e, ne-eqb r 0 d)) s
+    run-refused d p = same o at (refusedLine r) (runLines s workers vs ws work records answers) (rw (← e, ne-eqb r 0 d)) p
 
-    pub run-accepted : (state : State) (ws' : List ℕ) → r ≡ 0 → state ≡ startOn zeros workers vs' ws .state → ws' ≡ startOn zeros workers vs' ws .pool
-        → StoresUpTo m o at (tapeLines (tapeOn state ws' work records answers)) o' k → StoresUpTo m o at (runLines workers vs ws work records answers) o' k
+    pub run-accepted : (state : State) (ws' : List ℕ) → r ≡ 0 → state ≡ startOn s workers vs ws .state → ws' ≡ startOn s workers vs ws .pool
+        → StoresUpTo m o at (tapeLines (tapeOn state ws' work records answers)) o' k → StoresUpTo m o at (runLines s workers vs ws work records answers) o' k
     unfolding runLines
-    run-accepted state ws' d st po s =
-        same o at (tapeLines (tapeOn state ws' work records answers)) (runLines workers vs ws work records answers) (rw (← v, ← e, eq-eqb r 0 d, ← st, ← po)) s
+    run-accepted state ws' d st po p =
+        same o at (tapeLines (tapeOn state ws' work records answers)) (runLines s workers vs ws work records answers) (rw (← e, eq-eqb r 0 d, ← st, ← po)) p
+
+-- with the values that were read
+pub run-read : {m : ℕ} (o : List ℕ) (at : ℕ) {o' : List ℕ} {k : ℕ} (s : State) (workers : ℕ) (vs vs' ws work records answers : List ℕ) → vs' ≡ vs
+    → StoresUpTo m o at (runLines s workers vs' ws work records answers) o' k → StoresUpTo m o at (runLines s workers vs ws work records answers) o' k
+run-read o at s workers vs vs' ws work records answers v p =
+    same o at (runLines s workers vs' ws work records answers) (runLines s workers vs ws work records answers) (rw v) p

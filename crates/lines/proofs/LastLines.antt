@@ -2,12 +2,12 @@
 use mathlib.Core.Path.{_≡_, refl, sym, ap, _∙_}
 use mathlib.Core.Bool.{Bool, true, false, cond, not}
 use mathlib.Core.List.{List, [], _∷_, _++_}
-use Prim.Native.Nat.{ℕ, _<_}
+use Prim.Native.Nat.{ℕ, _+_, _<_}
 use native.Mathlib.Omega.{arith}
-use lib.ListN.{length, getD}
-use lib.Seq.{getD-drop}
+use lib.ListN.{length, getD, drop}
+use lib.Seq.{getD-take, getD-drop}
 use borrow.Author.Tests.{not-true, not-false}
-use Rattle.soundness.specs.Numbers.{numbersIn, totalsIn}
+use Rattle.soundness.specs.Numbers.{headCount, totalCount, numbersIn, totalsIn}
 use Rattle.soundness.specs.Soundness.{freeNodes, freeCount}
 use Rattle.lines.specs.Lines.{decimal, line, freeLine, reducedWord, reducedLine}
 use Rattle.lines.specs.Output.{storeAll, Stores, StoresUpTo}
@@ -23,9 +23,12 @@ module _ (o : List ℕ) (at : ℕ) {o' : List ℕ} {r : ℕ} where
       rw (← n, ← f) (s ∙ ap (λ (k : ℕ). storeAll (o, at) (freeLine k)) e, free-short nodes ws first small)
 
 -- the four words of the totals
+total-at : (ns : List ℕ) (i : ℕ) → i < totalCount → getD (totalsIn ns) i 0 ≡ getD ns (headCount + i) 0
+total-at ns i h = getD-take totalCount (drop headCount ns) i 0 h ∙ getD-drop headCount ns i 0
+
 reduced-same : (ns : List ℕ) (a b c d : ℕ) → a ≡ getD ns 5 0 → b ≡ getD ns 6 0 → c ≡ getD ns 7 0 → d ≡ getD ns 8 0
     → reducedLine (totalsIn ns) ≡ (reducedWord ++ 32 ∷ []) ++ line (decimal a ∷ decimal b ∷ decimal c ∷ decimal d ∷ [])
-reduced-same ns a b c d p q s t = rw (p, q, s, t, getD-drop 5 ns 0 0, getD-drop 5 ns 1 0, getD-drop 5 ns 2 0, getD-drop 5 ns 3 0)
+reduced-same ns a b c d p q s t = rw (p, q, s, t, total-at ns 0 (omega arith), total-at ns 1 (omega arith), total-at ns 2 (omega arith), total-at ns 3 (omega arith))
 
 module _ (o : List ℕ) (at : ℕ) (ns : List ℕ) {returned b : Bool} (e : b ≡ returned) where
   pub reduced-none : not b ≡ true → StoresUpTo 52 o at (cond returned (reducedLine (totalsIn ns)) []) o at

@@ -4,3 +4,4 @@ pub mod Whole
 pub mod Calls
 pub mod Sizes
 pub mod LastLines
+pub mod Called

@@ -7,10 +7,11 @@ use lib.ListN.{length, take, drop, replicate, length-drop, length-replicate}
 use lib.Dec.{ltb}
 use lib.Seq.{take-all}
 use Rattle.words.specs.Tests.{neither, ge-of}
+use Rattle.semantics.specs.Entries.{zeros}
 use mathlib.Core.Bool.{true, false, _||_}
 use Rattle.lines.specs.Output.{storeAll, Stores, StoresUpTo, IsOutput}
 use Rattle.lines.specs.Theory.{up-to-then, is-output}
-use Rattle.lines.specs.Lines.{decimal, line, unfitWord, workersIn, splittersIn, nodesIn, numbersAt, recordsStart, recordsIn, unfit, runLines, fitLines, linesOf}
+use Rattle.lines.specs.Lines.{decimal, line, unfitWord, workersIn, splittersIn, nodesIn, numbersAt, recordsStart, recordsIn, unfit, runLines, lentTable, fitLines, linesOf}
 
 lines-unfit : (input : List ℕ) (n nodes : ℕ) → n ≡ splittersIn input → nodes ≡ nodesIn input → unfit (length input) n nodes ≡ true → linesOf input ≡ line (unfitWord ∷ [])
 unfolding linesOf
@@ -49,7 +50,7 @@ take-replicate (suc k) (suc m) h = ap (λ (l : List ℕ). 0 ∷ l) (take-replica
 -- the slices that are lent have what the definition gives
 fit-lines : (workers n nodes : ℕ) (input vs ws work records answers : List ℕ) → length vs ≡ n → ws ≡ replicate (4 * nodes) 0 → work ≡ replicate nodes 0
     → records ≡ recordsIn n input → answers ≡ replicate (2 * ((length input - recordsStart n) / 8)) 0
-    → runLines workers (numbersAt (length vs) input 8) ws work records answers ≡ fitLines workers n nodes input
+    → runLines (zeros lentTable) workers (numbersAt (length vs) input 8) ws work records answers ≡ fitLines workers n nodes input
 unfolding fitLines
 fit-lines workers n nodes input vs ws work records answers v p w r a = rw (v, p, w, r, a, length-drop)
 
@@ -60,7 +61,7 @@ length-part k m h = sym (ap length (take-replicate k m h) ∙ length-replicate k
 pub fit-stored : (workers n nodes at : ℕ) (input o : List ℕ) {o' : List ℕ} {r : ℕ} (mv mp mw ma : ℕ)
     → n ≤ mv → 4 * nodes ≤ mp → nodes ≤ mw → 2 * ((length input - recordsStart n) / 8) ≤ ma
     → StoresUpTo (11 * length (take (2 * ((length input - recordsStart n) / 8)) (replicate {A = ℕ} ma 0)) + 71) o at
-    (runLines workers (numbersAt (length (take n (replicate {A = ℕ} mv 0))) input 8) (take (4 * nodes) (replicate mp 0)) (take nodes (replicate mw 0))
+    (runLines (zeros lentTable) workers (numbersAt (length (take n (replicate {A = ℕ} mv 0))) input 8) (take (4 * nodes) (replicate mp 0)) (take nodes (replicate mw 0))
     (take (length input - recordsStart n) (drop (recordsStart n) input)) (take (2 * ((length input - recordsStart n) / 8)) (replicate ma 0))) o' r
     → StoresUpTo (11 * ma + 71) o at (fitLines workers n nodes input) o' r
 fit-stored workers n nodes at input o mv mp mw ma v p w a s =

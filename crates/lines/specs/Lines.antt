@@ -4,8 +4,10 @@ use mathlib.Core.List.{List, [], _∷_, _++_}
 use Prim.Native.Nat.{ℕ, zero, suc, _+_, _-_, _*_, _/_, _%_}
 use lib.ListN.{length, getD, drop, replicate}
 use lib.Dec.{eqb, ltb}
+use Rattle.frames.specs.declared.Frame.{Frame}
+use Rattle.frames.specs.Frames.{freePlace}
 use Rattle.model.specs.Record.{little}
-use Rattle.semantics.specs.Entries.{zeros, totalsOf, chainFree, StartResult, startOn, TapeResult, tapeOn}
+use Rattle.semantics.specs.Entries.{State, zeros, totalsOf, chainFree, StartResult, startOn, TapeResult, tapeOn}
 
 -- ---- text
 
@@ -114,16 +116,20 @@ acceptedLines answers free ts = answerLines answers ++ (freeLine free ++ cond (m
 abbrev pub tapeLines : TapeResult → List ℕ
 tapeLines p = callLines (p .result) (acceptedLines (p .answers) (chainFree (p .state) (p .pool)) (totalsOf (p .state)))
 
--- what follows the first line: of the start, over parts of zeros, then of the tape
-unfoldable pub runLines : ℕ → List ℕ → List ℕ → List ℕ → List ℕ → List ℕ → List ℕ
-runLines workers values pool work records answers =
-    let b : StartResult = startOn zeros workers values pool in
+-- what follows the first line: of the start, over the parts s, then of the tape
+unfoldable pub runLines : State → ℕ → List ℕ → List ℕ → List ℕ → List ℕ → List ℕ → List ℕ
+runLines s workers values pool work records answers =
+    let b : StartResult = startOn s workers values pool in
     callLines (b .result) (tapeLines (tapeOn (b .state) (b .pool) work records answers))
 
--- with a pool of as many whole nodes, a work slice that is long enough and two answer words per record, all zero
+-- R-6: "splitrun lends 64 places."
+abbrev pub lentTable : List Frame
+lentTable = replicate 64 (freePlace 0)
+
+-- with a pool of as many whole nodes, a work slice that is long enough and two answer words per record; all that is lent is zero
 unfoldable pub fitLines : ℕ → ℕ → ℕ → List ℕ → List ℕ
 fitLines workers n nodes input =
-    runLines workers (numbersAt n input 8) (replicate (4 * nodes) 0) (replicate nodes 0) (recordsIn n input) (replicate (2 * (length (recordsIn n input) / 8)) 0)
+    runLines (zeros lentTable) workers (numbersAt n input 8) (replicate (4 * nodes) 0) (replicate nodes 0) (recordsIn n input) (replicate (2 * (length (recordsIn n input) / 8)) 0)
 
 -- the whole output: an unfit input prints "only `unfit`"; "Else the first line is workers, n, nodes"
 unfoldable pub linesOf : List ℕ → List ℕ

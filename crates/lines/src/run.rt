@@ -6,9 +6,9 @@ ghost use Prim.Native.Nat.{_+_, _-_, _*_, _≤_};
 ghost use lib.ListN.{length};
 ghost use Rattle.soundness.specs.Numbers.{numbersIn, totalsIn};
 ghost use Rattle.soundness.specs.Soundness.{freeNodes, freeCount};
-ghost use Rattle.semantics.specs.Entries.{tapeOn};
+ghost use Rattle.semantics.specs.Entries.{zeros, tapeOn};
 ghost use Rattle.semantics.specs.Promises.{parts};
-ghost use Rattle.lines.specs.Lines.{numbersAt, recordsStart, answerLines, refusedLine, freeLine, mainReturned, reducedLine, acceptedLines, tapeLines, runLines, fitLines};
+ghost use Rattle.lines.specs.Lines.{numbersAt, recordsStart, answerLines, refusedLine, freeLine, mainReturned, reducedLine, acceptedLines, tapeLines, runLines, lentTable, fitLines};
 ghost use Rattle.lines.specs.Output.{Stores, StoresUpTo, IsOutput};
 use crate::input::is_unfit;
 use crate::input::nodes_in;
@@ -21,7 +21,8 @@ use crate::text::put_named;
 use crate::text::put_three;
 use crate::text::put_two;
 use frames::DEQUE_WORDS;
-use frames::FRAME_WORDS;
+use frames::Frame;
+use frames::free_place;
 use image::NUMBER_COUNT;
 use pool::NONE;
 use pool::left_of;
@@ -31,6 +32,9 @@ use words::word;
 
 // The words of the state's numbers before the totals.
 const HEAD_COUNT: usize = 5;
+
+// The frame places that are lent.
+const PLACES: usize = 64;
 
 // "one line per record with its two answer words"
 fn put_answers(out: &mut [u8], at: usize, answers: &[u32]) -> usize
@@ -64,7 +68,7 @@ fn count_free(nodes: u32, pool: &[u32], first: u32) -> usize
 }
 
 // `refused` and the number.
-fn put_refused(out: &mut [u8], at: usize, refusal: u32) -> usize
+pub fn put_refused(out: &mut [u8], at: usize, refusal: u32) -> usize
     ensures { λ r. ⌜ StoresUpTo 19 (now (out .entry)) at (refusedLine refusal) (now (out .exit)) r ⌝ }
 {
     put_named(out, at, b"refused ", refusal as usize)
@@ -111,7 +115,13 @@ fn put_free(out: &mut [u8], at: usize, numbers: &[u32], pool: &[u32]) -> usize
 }
 
 // The lines of the answer words, "last `free` and the free nodes", and the totals.
-fn put_accepted(out: &mut [u8], at: usize, answers: &[u32], numbers: &[u32], pool: &[u32]) -> usize
+pub fn put_accepted(
+    out: &mut [u8],
+    at: usize,
+    answers: &[u32],
+    numbers: &[u32],
+    pool: &[u32],
+) -> usize
     ensures { λ r. ⌜ StoresUpTo (11 * length (now (answers .entry)) + 71) (now (out .entry)) at
         (acceptedLines (now (answers .entry)) (freeCount (numbersIn (now (numbers .entry))) (now (pool .entry))) (totalsIn (now (numbers .entry)))) (now (out .exit)) r ⌝ }
 {
@@ -121,10 +131,10 @@ fn put_accepted(out: &mut [u8], at: usize, answers: &[u32], numbers: &[u32], poo
 }
 
 // The lines of a tape.
-fn run_tape(
+pub fn run_tape(
     numbers: &mut [u32],
     deques: &mut [u32],
-    frames: &mut [u32],
+    frames: &mut [Frame],
     pool: &mut [u32],
     work: &mut [u32],
     records: &[u8],
@@ -142,7 +152,74 @@ fn run_tape(
     put_accepted(out, at, answers, numbers, pool)
 }
 
-// The lines after the first: of the start, then of the tape.
+// The lines of a start, then of the tape.
+pub fn run_calls(
+    numbers: &mut [u32],
+    deques: &mut [u32],
+    frames: &mut [Frame],
+    workers: u32,
+    values: &[u32],
+    pool: &mut [u32],
+    work: &mut [u32],
+    records: &[u8],
+    answers: &mut [u32],
+    out: &mut [u8],
+    at: usize,
+) -> usize
+    ensures { λ r. ⌜ StoresUpTo (11 * length (now (answers .entry)) + 71) (now (out .entry)) at (runLines (parts (now (numbers .entry)) (now (deques .entry)) (now (frames .entry))) workers (now (values .entry))
+        (now (pool .entry)) (now (work .entry)) (now (records .entry)) (now (answers .entry))) (now (out .exit)) r ⌝ }
+{
+    let refused = splitter_start(numbers, deques, frames, workers, values, pool);
+    if refused != 0 {
+        return put_refused(out, at, refused);
+    }
+    run_tape(
+        numbers,
+        deques,
+        frames,
+        pool,
+        work,
+        records,
+        answers,
+        out,
+        at,
+    )
+}
+
+// R-6: "splitrun lends 64 places."
+fn run_lent(
+    numbers: &mut [u32],
+    deques: &mut [u32],
+    workers: u32,
+    values: &[u32],
+    pool: &mut [u32],
+    work: &mut [u32],
+    records: &[u8],
+    answers: &mut [u32],
+    out: &mut [u8],
+    at: usize,
+) -> usize
+    ensures { λ r. ⌜ StoresUpTo (11 * length (now (answers .entry)) + 71) (now (out .entry)) at (runLines (parts (now (numbers .entry)) (now (deques .entry)) lentTable) workers (now (values .entry))
+        (now (pool .entry)) (now (work .entry)) (now (records .entry)) (now (answers .entry))) (now (out .exit)) r ⌝ }
+{
+    let zero = free_place(0);
+    let mut frames = [zero; PLACES];
+    run_calls(
+        numbers,
+        deques,
+        &mut frames,
+        workers,
+        values,
+        pool,
+        work,
+        records,
+        answers,
+        out,
+        at,
+    )
+}
+
+// The lines after the first, with the values of the input and parts of zeros.
 fn run_on(
     workers: u32,
     input: &[u8],
@@ -154,28 +231,17 @@ fn run_on(
     out: &mut [u8],
     at: usize,
 ) -> usize
-    ensures { λ r. ⌜ StoresUpTo (11 * length (now (answers .entry)) + 71) (now (out .entry)) at (runLines workers (numbersAt (length (now (values .entry))) (now (input .entry)) 8)
+    ensures { λ r. ⌜ StoresUpTo (11 * length (now (answers .entry)) + 71) (now (out .entry)) at (runLines (zeros lentTable) workers (numbersAt (length (now (values .entry))) (now (input .entry)) 8)
         (now (pool .entry)) (now (work .entry)) (now (records .entry)) (now (answers .entry))) (now (out .exit)) r ⌝ }
 {
     read_values(input, values);
     let mut numbers = [0u32; NUMBER_COUNT];
     let mut deques = [0u32; DEQUE_WORDS];
-    let mut frames = [0u32; FRAME_WORDS];
-    let refused = splitter_start(
+    run_lent(
         &mut numbers,
         &mut deques,
-        &mut frames,
         workers,
         values,
-        pool,
-    );
-    if refused != 0 {
-        return put_refused(out, at, refused);
-    }
-    run_tape(
-        &mut numbers,
-        &mut deques,
-        &mut frames,
         pool,
         work,
         records,

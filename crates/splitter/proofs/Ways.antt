@@ -3,6 +3,7 @@ use mathlib.Core.Path.{_≡_, ap, _∙_}
 use mathlib.Core.List.{List}
 use Prim.Native.Nat.{ℕ, min}
 use lib.ListN.{length, getD}
+use Rattle.frames.specs.declared.Frame.{Frame}
 use Rattle.model.specs.Record.{recordOf, decodeAt}
 use Rattle.semantics.specs.Entries.{State, TapeResult, outsideOn, tapeOn}
 use Rattle.semantics.specs.Promises.{IsOutside, IsTape}
@@ -10,7 +11,7 @@ use Rattle.splitter.specs.OneRecord.{resultWords}
 use Rattle.splitter.specs.Theory.OneRecord.{one-step}
 use Rattle.splitter.specs.Theory.Narrow.{same-cut}
 
-pub step-by : (s : State) (ws ks bytes rs ns′ ds′ fs′ ws′ ks′ rs′ : List ℕ) (kind worker field value k r : ℕ) → length bytes ≡ 8 → length rs ≡ 2
+pub step-by : (s : State) (ws ks bytes rs ns′ ds′ : List ℕ) (fs′ : List Frame) (ws′ ks′ rs′ : List ℕ) (kind worker field value k r : ℕ) → length bytes ≡ 8 → length rs ≡ 2
     → decodeAt bytes 0 ≡ recordOf (min kind 255) (min worker 255) (min field 65535) value → IsTape (tapeOn s ws ks bytes rs) ns′ ds′ fs′ ws′ ks′ rs′ k
     → r ≡ resultWords k (getD rs′ 0 0) (getD rs′ 1 0) → IsOutside (outsideOn s ws ks (recordOf kind worker field value)) ns′ ds′ fs′ ws′ ks′ r
 step-by s ws ks bytes rs ns′ ds′ fs′ ws′ ks′ rs′ kind worker field value k r long two ed p e =

@@ -10,15 +10,15 @@ use Rattle.splitter.specs.Queries.{freeOn}
 abbrev threeNodes : List ℕ
 threeNodes = 1 ∷ none ∷ none ∷ 7 ∷ 0 ∷ 2 ∷ 0 ∷ 0 ∷ 0 ∷ none ∷ 0 ∷ 0 ∷ []
 
--- the nodes, the first free one, and R-5's totals, which are zero
+-- the nodes, the first free one, R-5's totals, which are zero, and R-6's length, of a table of two places
 abbrev numbers : ℕ → ℕ → List ℕ
-numbers nodes first = 1 ∷ 1 ∷ nodes ∷ first ∷ 1 ∷ 0 ∷ 0 ∷ 0 ∷ 0 ∷ []
+numbers nodes first = 1 ∷ 1 ∷ nodes ∷ first ∷ 1 ∷ 0 ∷ 0 ∷ 0 ∷ 0 ∷ 2 ∷ []
 
 two-free : freeOn (numbers 3 1) threeNodes ≡ 2
 unfolding freeOn left
 two-free = refl
 
--- no free node; a pool that holds fewer nodes than recorded; numbers that are not nine
+-- no free node; a pool that holds fewer nodes than recorded; numbers that are not ten
 none-free : freeOn (numbers 3 none) threeNodes ≡ 0
 unfolding freeOn left
 none-free = refl

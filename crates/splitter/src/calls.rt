@@ -1,5 +1,5 @@
-// The entries, over the state's lent parts: its numbers, its deques and its frames. A part that has another length than it must have is
-// refused first, by a number of its own, and nothing changes.
+// The entries, over the state's lent parts: its numbers, its deques and its frame table. Numbers or deques of another length than they must have are
+// refused first, by a number of their own, and nothing changes.
 ghost use mathlib.Core.Path.{_≡_};
 ghost use Prim.Native.Nat.{_%_, _^_, min};
 ghost use Rattle.sizes.specs.Sizes.{treeNodes};
@@ -13,12 +13,13 @@ use engine::load;
 use engine::save;
 use engine::start;
 use engine::tape;
+use frames::Frame;
 
 #[no_mangle]
 pub extern "C" fn splitter_start(
     numbers: &mut [u32],
     deques: &mut [u32],
-    frames: &mut [u32],
+    frames: &mut [Frame],
     workers: u32,
     values: &[u32],
     pool: &mut [u32],
@@ -60,7 +61,7 @@ fn bytes_of(kind: u32, worker: u32, field: u32, value: u32) -> [u8; 8]
 }
 
 // A record for these numbers. One that its field cannot hold becomes the field's largest: it is refused alike.
-fn record_of(kind: u32, worker: u32, field: u32, value: u32) -> [u8; 8]
+pub fn record_of(kind: u32, worker: u32, field: u32, value: u32) -> [u8; 8]
     ensures { λ r. ⌜ decodeAt r 0 ≡ recordOf (min kind 255) (min worker 255) (min field 65535) value ⌝ }
 {
     bytes_of(
@@ -72,7 +73,7 @@ fn record_of(kind: u32, worker: u32, field: u32, value: u32) -> [u8; 8]
 }
 
 // The number that the tape was refused by, or both answer words, the first in the low half.
-fn result_words(refused: u32, first: u32, second: u32) -> u64
+pub fn result_words(refused: u32, first: u32, second: u32) -> u64
     ensures { λ r. ⌜ r ≡ resultWords refused first second ⌝ }
 {
     if refused != 0 {
@@ -86,7 +87,7 @@ fn result_words(refused: u32, first: u32, second: u32) -> u64
 pub extern "C" fn splitter_step(
     numbers: &mut [u32],
     deques: &mut [u32],
-    frames: &mut [u32],
+    frames: &mut [Frame],
     pool: &mut [u32],
     work: &mut [u32],
     kind: u32,
@@ -107,7 +108,7 @@ pub extern "C" fn splitter_step(
 pub extern "C" fn splitter_tape(
     numbers: &mut [u32],
     deques: &mut [u32],
-    frames: &mut [u32],
+    frames: &mut [Frame],
     pool: &mut [u32],
     work: &mut [u32],
     bytes: &[u8],
@@ -124,7 +125,7 @@ pub extern "C" fn splitter_tape(
 pub extern "C" fn splitter_save(
     numbers: &[u32],
     deques: &[u32],
-    frames: &[u32],
+    frames: &[Frame],
     pool: &[u32],
     work: &mut [u32],
     target: &mut [u8],
@@ -140,7 +141,7 @@ pub extern "C" fn splitter_save(
 pub extern "C" fn splitter_load(
     numbers: &mut [u32],
     deques: &mut [u32],
-    frames: &mut [u32],
+    frames: &mut [Frame],
     pool: &mut [u32],
     work: &mut [u32],
     image: &[u8],
@@ -151,12 +152,12 @@ pub extern "C" fn splitter_load(
     load(numbers, deques, frames, pool, work, image)
 }
 
-// The bytes of an image of so many nodes.
+// The bytes of an image of so many places and nodes.
 #[no_mangle]
-pub extern "C" fn splitter_image_bytes(nodes: u32) -> u64
-    ensures { λ r. ⌜ r ≡ imageBytes nodes ⌝ }
+pub extern "C" fn splitter_image_bytes(places: u32, nodes: u32) -> u64
+    ensures { λ r. ⌜ r ≡ imageBytes places nodes ⌝ }
 {
-    image::image_bytes(nodes)
+    image::image_bytes(places, nodes)
 }
 
 // T(n).

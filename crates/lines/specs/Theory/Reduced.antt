@@ -22,13 +22,13 @@ use Rattle.semantics.specs.Demands.{MainReturned, traceOf, totalWords, Demand3}
 use Rattle.semantics.specs.Theory.RefusedCalls.{tape-past}
 use Rattle.semantics.specs.Theory.StartedRuns.{demand3}
 use Rattle.semantics.specs.Theory.TapeWords.{length-records}
-use Rattle.lines.specs.Lines.{isEnd, mainReturned}
+use Rattle.lines.specs.Lines.{isEnd, mainReturned, lentTable}
 use Rattle.lines.specs.Theory.Returned.{returned-here, returned-turn, returned-end}
 
--- ---- splitrun's run: a start over parts of zeros, then one tape
+-- ---- splitrun's run: a start over parts of zeros with its 64 places, then one tape
 
 abbrev pub runStart : (workers : ℕ) (values pool : List ℕ) → Start
-runStart workers values pool = record { parts = zeros; workers = workers; values = values; pool = pool }
+runStart workers values pool = record { parts = zeros lentTable; workers = workers; values = values; pool = pool }
 
 abbrev pub runCalls : (work records answers : List ℕ) → List Call
 runCalls work records answers = call (tape records work answers) ∷ []
@@ -81,6 +81,6 @@ module _ (workers : ℕ) (values pool work records answers : List ℕ) (two : le
       → totalsOf (tapeResult (afterStart (runStart workers values pool)) records work answers .state) ≡ totalWords (mainFolds (traceOf (runStart workers values pool) (runCalls work records answers)))
   totals-printed vs ps bs e =
       let works : ℕ → List ℕ = λ j. replicate (wholeNodes pool) 0 in
-      let D : Demand3 (runStart workers values pool) (runCalls work records answers) zeros pool works =
-      demand3 (runStart workers values pool) (runCalls work records answers) zeros pool works started (vs, ps) (bs, tt) (returned-said e) refl refl (λ j. omega (arith, length-replicate {A = ℕ} (wholeNodes pool) 0)) in
+      let D : Demand3 (runStart workers values pool) (runCalls work records answers) (zeros lentTable) pool works =
+      demand3 (runStart workers values pool) (runCalls work records answers) (zeros lentTable) pool works started (vs, ps) (bs, tt) (returned-said e) refl refl refl (λ j. omega (arith, length-replicate {A = ℕ} (wholeNodes pool) 0)) in
       D .totals refl

@@ -11,6 +11,7 @@ use lib.Dec.{eqb, ltb, leb}
 use lib.ListN.{length}
 use borrow.Author.Tests.{le-ltb, eq-eqb, ne-eqb}
 use Rattle.words.specs.Tests.{decided}
+use Rattle.frames.specs.declared.Frame.{Frame}
 use Rattle.soundness.specs.declared.Numbers.{Numbers}
 use Rattle.soundness.specs.declared.Checked.{Checked}
 use Rattle.soundness.specs.declared.Checked.the-variants.{NoRoom, Sound}
@@ -147,7 +148,7 @@ module _ (c : Core) where
 
 -- ---- a step by the fields of a record
 
-checked-sound : (N : Numbers) (ts ds fs ws ks : List ℕ) (k : ℕ) → checked N ts ds fs ws ks ≡ Sound k → sound N ts ds fs ws ≡ true
+checked-sound : (N : Numbers) (ts ds : List ℕ) (fs : List Frame) (ws ks : List ℕ) (k : ℕ) → checked N ts ds fs ws ks ≡ Sound k → sound N ts ds fs ws ≡ true
 unfolding checked
 checked-sound N ts ds fs ws ks k e = elim (decided (sound N ts ds fs ws)) [
   | inl t ↦ t
