@@ -73,22 +73,24 @@ static void read_call(struct call *call) {
 static uint64_t make_call(const struct call *call) {
     uint32_t *const *slice = call->slice, *argument = call->argument;
     const uint32_t *length = call->length;
+    struct splitter_frame *frames = (struct splitter_frame *)slice[FRAMES];
+    const uint32_t places = length[FRAMES] / SPLITTER_FRAME_RECORD_WORDS;
     switch (call->entry) {
     case START:
-        return splitter_start(slice[NUMBERS], length[NUMBERS], slice[DEQUES], length[DEQUES], slice[FRAMES], length[FRAMES],
+        return splitter_start(slice[NUMBERS], length[NUMBERS], slice[DEQUES], length[DEQUES], frames, places,
                               argument[0], call->value, call->values, slice[POOL], length[POOL]);
     case STEP:
-        return splitter_step(slice[NUMBERS], length[NUMBERS], slice[DEQUES], length[DEQUES], slice[FRAMES], length[FRAMES],
+        return splitter_step(slice[NUMBERS], length[NUMBERS], slice[DEQUES], length[DEQUES], frames, places,
                              slice[POOL], length[POOL], slice[WORK], length[WORK], argument[0], argument[1], argument[2], argument[3]);
     case TAPE:
-        return splitter_tape(slice[NUMBERS], length[NUMBERS], slice[DEQUES], length[DEQUES], slice[FRAMES], length[FRAMES],
+        return splitter_tape(slice[NUMBERS], length[NUMBERS], slice[DEQUES], length[DEQUES], frames, places,
                              slice[POOL], length[POOL], slice[WORK], length[WORK], call->byte, call->bytes,
                              slice[ANSWERS], length[ANSWERS]);
     case SAVE:
-        return splitter_save(slice[NUMBERS], length[NUMBERS], slice[DEQUES], length[DEQUES], slice[FRAMES], length[FRAMES],
+        return splitter_save(slice[NUMBERS], length[NUMBERS], slice[DEQUES], length[DEQUES], frames, places,
                              slice[POOL], length[POOL], slice[WORK], length[WORK], call->byte, call->bytes);
     case LOAD:
-        return splitter_load(slice[NUMBERS], length[NUMBERS], slice[DEQUES], length[DEQUES], slice[FRAMES], length[FRAMES],
+        return splitter_load(slice[NUMBERS], length[NUMBERS], slice[DEQUES], length[DEQUES], frames, places,
                              slice[POOL], length[POOL], slice[WORK], length[WORK], call->byte, call->bytes);
     default:
         stop("no such entry");

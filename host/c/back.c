@@ -5,12 +5,13 @@
 
 #include "splitter.h"
 
-enum { NODES = 40, WORKERS = 2, SPLITTERS = 5, LEFT = 1, VALUE = 3 };
+enum { NODES = 40, PLACES = 64, WORKERS = 2, SPLITTERS = 5, LEFT = 1, VALUE = 3 };
 
 static struct splitter_state state, kept_state;
+static struct splitter_frame table[PLACES], kept_table[PLACES];
 static uint32_t pool[NODES * SPLITTER_NODE_WORDS], kept_pool[NODES * SPLITTER_NODE_WORDS], work[NODES];
 static const uint32_t values[SPLITTERS] = {10, 20, 30, 40, 50};
-static const struct splitter_lent lent = {&state, pool, NODES * SPLITTER_NODE_WORDS, work, NODES};
+static const struct splitter_lent lent = {&state, table, PLACES, pool, NODES * SPLITTER_NODE_WORDS, work, NODES};
 
 static void answers(const char *what, uint64_t got, uint32_t kind, uint32_t number) {
     if (got != splitter_answer(kind, number)) {
@@ -27,6 +28,7 @@ static uint32_t keep_copy(void) {
     uint32_t refused = splitter_lent_tape(&lent, no_tape, 0, no_answers, 0);
     if (refused == SPLITTER_OK) {
         kept_state = state;
+        memcpy(kept_table, table, sizeof table);
         memcpy(kept_pool, pool, sizeof pool);
     }
     return refused;
@@ -35,13 +37,14 @@ static uint32_t keep_copy(void) {
 /* After a refusal by 6: the run as it was at the copy. The host's own part of the search must be of the same moment. */
 static void go_back(void) {
     state = kept_state;
+    memcpy(table, kept_table, sizeof table);
     memcpy(pool, kept_pool, sizeof pool);
 }
 /* ---- end */
 
 /* The leaf of splitter 0 in Main's tree: left at every level. */
 static uint32_t *leaf(void) {
-    uint32_t node = state.frames[SPLITTER_FRAME_ROOT];
+    uint32_t node = table[0].root;
     for (unsigned level = 3; level > 0; level--) {
         node = pool[node * SPLITTER_NODE_WORDS + LEFT];
     }

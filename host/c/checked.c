@@ -20,7 +20,7 @@ uint64_t same(const char *what, uint64_t got, uint64_t wanted) {
 
 uint32_t checked_start(struct checked *run, unsigned workers, const uint32_t *values, size_t values_len) {
     uint32_t got = splitter_lent_start(&run->lent, workers, values, values_len);
-    same("start", got, plain_start(&run->plain, workers, values, values_len, run->lent.pool_len / SPLITTER_NODE_WORDS));
+    same("start", got, plain_start(&run->plain, workers, values, values_len, run->lent.places, run->lent.pool_len / SPLITTER_NODE_WORDS));
     run->alone = 0;
     return got;
 }

@@ -7,19 +7,16 @@
 
 #include "checked.h"
 
-enum { NODES = 64, WORKERS = 4, LAST = SPLITTER_MAX_FRAMES - 1 };
+enum { NODES = 64, PLACES = 128, WORKERS = 4, LAST = PLACES - 1 };
 enum { MAIN, A, A1, B, C, FREE }; /* places: A, B and C are children of Main, A1 is one of A */
 
 static struct splitter_state state;
+static struct splitter_frame table[PLACES];
 static uint32_t pool[NODES * SPLITTER_NODE_WORDS], work[NODES];
 static const uint32_t values[2] = {10, 20};
-static struct checked run = {.lent = {&state, pool, NODES * SPLITTER_NODE_WORDS, work, NODES}};
-static uint8_t image[SPLITTER_IMAGE_BYTES(NODES)];
+static struct checked run = {.lent = {&state, table, PLACES, pool, NODES * SPLITTER_NODE_WORDS, work, NODES}};
+static uint8_t image[SPLITTER_IMAGE_BYTES(PLACES, NODES)];
 static struct plain saved; /* the plain machine of the image */
-
-static uint32_t *frame(unsigned place) {
-    return state.frames + place * SPLITTER_FRAME_RECORD_WORDS;
-}
 
 static void begin(void) {
     same("start", checked_start(&run, WORKERS, values, 2), SPLITTER_OK);
@@ -95,8 +92,8 @@ static void spread(void) {
 }
 
 static void check_frame(unsigned place, uint32_t addend, uint32_t younger) {
-    same("view", frame(place)[SPLITTER_FRAME_VIEW_ADDEND], addend);
-    same("younger", frame(place)[SPLITTER_FRAME_YOUNGER], younger);
+    same("view", table[place].view_addend, addend);
+    same("younger", table[place].younger, younger);
 }
 
 /* A child inherits what was folded before its spawn; links go from the elder to the younger. */
@@ -115,6 +112,7 @@ static void save(void) {
 
 static void load(void) {
     memset(&state, 0xa5, sizeof state);
+    memset(table, 0xa5, sizeof table);
     memset(pool, 0xa5, sizeof pool);
     same("load", splitter_lent_load(&run.lent, image, sizeof image), SPLITTER_OK);
     run.plain = saved;
@@ -187,39 +185,42 @@ static void unsound(uint32_t *word, uint32_t other) {
 }
 
 static void unsound_link(unsigned place, uint32_t other) {
-    unsound(frame(place) + SPLITTER_FRAME_YOUNGER, other);
+    unsound(&table[place].younger, other);
 }
 
 /* "These links chain the live children of each frame, each once, Main's being none." */
 static void unsound_links(void) {
-    static const uint32_t not_b[] = {MAIN, A, A1, C, FREE, SPLITTER_MAX_FRAMES, SPLITTER_NONE};
+    static const uint32_t not_b[] = {MAIN, A, A1, C, FREE, PLACES, SPLITTER_NONE};
     for (unsigned i = 0; i < sizeof not_b / sizeof not_b[0]; i++) {
         unsound_link(A, not_b[i]);
     }
-    static const uint32_t not_none[] = {MAIN, A, A1, B, C, FREE, SPLITTER_MAX_FRAMES};
+    static const uint32_t not_none[] = {MAIN, A, A1, B, C, FREE, PLACES};
     for (unsigned i = 0; i < sizeof not_none / sizeof not_none[0]; i++) {
         unsound_link(MAIN, not_none[i]);
         unsound_link(A1, not_none[i]);
         unsound_link(C, not_none[i]);
     }
-    frame(C)[SPLITTER_FRAME_YOUNGER] = B; /* B and C link to each other, and A to none: all but the tail are linked to once */
+    table[C].younger = B; /* B and C link to each other, and A to none: all but the tail are linked to once */
     unsound_link(A, SPLITTER_NONE);
-    frame(C)[SPLITTER_FRAME_YOUNGER] = SPLITTER_NONE;
+    table[C].younger = SPLITTER_NONE;
 }
 
 /* "Soundness asks for those zeros": of the totals while Main lives, and of free places. A view may hold anything. */
 static void unsound_words(void) {
+    struct splitter_frame *free = &table[FREE], *b = &table[B];
+    uint32_t *const free_view[4] = {&free->view_sum, &free->view_min, &free->view_multiplier, &free->view_addend};
+    uint32_t *const view[4] = {&b->view_sum, &b->view_min, &b->view_multiplier, &b->view_addend};
     for (unsigned i = 0; i < 4; i++) {
         unsound(state.numbers + SPLITTER_NUMBER_TOTAL_SUM + i, 1);
         unsound(state.numbers + SPLITTER_NUMBER_TOTAL_SUM + i, SPLITTER_NONE);
-        unsound(frame(FREE) + SPLITTER_FRAME_VIEW_SUM + i, 1);
-        with_word(frame(B) + SPLITTER_FRAME_VIEW_SUM + i, 77, splitter_answer(SPLITTER_VALUE, 10));
+        unsound(free_view[i], 1);
+        with_word(view[i], 77, splitter_answer(SPLITTER_VALUE, 10));
     }
     unsound_link(FREE, SPLITTER_NONE);
     unsound_link(FREE, 1);
 }
 
-/* 63 frames fold, spawn, fold and wait as returning; the last return joins all views upward. */
+/* 127 frames fold, spawn, fold and wait as returning; the last return joins all views upward. */
 static void chain(void) {
     uint32_t addend = 0;
     begin();

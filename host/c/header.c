@@ -4,6 +4,8 @@
 
 #include "splitter.h"
 
+enum { PLACES = 4 };
+
 static int failures = 0;
 
 static void expect(int line, uint64_t got, uint64_t wanted) {
@@ -26,7 +28,7 @@ static void records(void) {
 
 /* Is this a number of the interface? 14 was one before R-3. */
 static unsigned is_number(uint32_t i) {
-    return (i <= SPLITTER_UNKNOWN_REDUCER && i != 14) || i == SPLITTER_BAD_STATE || (i >= SPLITTER_SPAWNED && i <= SPLITTER_FOLDED);
+    return (i <= SPLITTER_BAD_PLACE_COUNT && i != 14) || i == SPLITTER_BAD_STATE || (i >= SPLITTER_SPAWNED && i <= SPLITTER_FOLDED);
 }
 
 /* Each number of the interface has its own text, and no other number has one. */
@@ -40,7 +42,7 @@ static void names(void) {
             EXPECT(strcmp(splitter_name(i), splitter_name(j)) == 0, 0);
         }
     }
-    EXPECT(named, 28);
+    EXPECT(named, 29);
 }
 
 /* Below 100 all but SPLITTER_OK is a refusal, alone and as the first half of a step's result. */
@@ -63,16 +65,27 @@ static void layout(void) {
     const size_t word = sizeof(uint32_t);
     EXPECT(offsetof(struct splitter_state, numbers), 0);
     EXPECT(offsetof(struct splitter_state, deques), SPLITTER_NUMBERS_WORDS * word);
-    EXPECT(offsetof(struct splitter_state, frames), (SPLITTER_NUMBERS_WORDS + SPLITTER_DEQUES_WORDS) * word);
-    EXPECT(sizeof(struct splitter_state), (SPLITTER_NUMBERS_WORDS + SPLITTER_DEQUES_WORDS + SPLITTER_FRAMES_WORDS) * word);
-    EXPECT(SPLITTER_DEQUES_WORDS, SPLITTER_MAX_WORKERS * (1 + SPLITTER_MAX_FRAMES));
-    EXPECT(SPLITTER_FRAMES_WORDS, SPLITTER_MAX_FRAMES * SPLITTER_FRAME_RECORD_WORDS);
-    EXPECT(SPLITTER_NUMBERS_WORDS, SPLITTER_NUMBER_TOTAL_ADDEND + 1);
-    EXPECT(SPLITTER_FRAME_RECORD_WORDS, SPLITTER_FRAME_YOUNGER + 1);
+    EXPECT(sizeof(struct splitter_state), (SPLITTER_NUMBERS_WORDS + SPLITTER_DEQUES_WORDS) * word);
+    EXPECT(SPLITTER_DEQUES_WORDS, SPLITTER_MAX_WORKERS * (1 + SPLITTER_DEQUE_PLACES));
+    EXPECT(SPLITTER_DEQUE_PLACES, SPLITTER_MAX_PLACES);
+    EXPECT(SPLITTER_NUMBERS_WORDS, SPLITTER_NUMBER_PLACES + 1);
     EXPECT(SPLITTER_REDUCERS, SPLITTER_REDUCER_AFFINE + 1);
-    EXPECT(SPLITTER_STATE_WORDS, 1297);
     EXPECT(SPLITTER_NONE, UINT32_MAX);
     EXPECT(sizeof(splitter_len), 8);
+}
+
+/* A frame record is its words in the order of an image, with nothing between them; an array of them has nothing between the records. */
+static void frame_layout(void) {
+    struct splitter_frame table[2] = {{0, 1, 2, 3, 4, 5, 6, 7, 8, 9, 10, 11}, {12, 13, 14, 15, 16, 17, 18, 19, 20, 21, 22, 23}};
+    uint32_t words[2 * SPLITTER_FRAME_RECORD_WORDS];
+    EXPECT(sizeof table, sizeof words);
+    memcpy(words, table, sizeof words);
+    for (uint32_t i = 0; i < 2 * SPLITTER_FRAME_RECORD_WORDS; i++) {
+        EXPECT(words[i], i);
+    }
+    EXPECT(table[1].live == 12 && table[1].parent == 13 && table[1].depth == 14 && table[1].outstanding == 15, 1);
+    EXPECT(table[1].waiting == 16 && table[1].root == 17 && table[1].returning == 18 && table[1].view_sum == 19, 1);
+    EXPECT(table[1].view_min == 20 && table[1].view_multiplier == 21 && table[1].view_addend == 22 && table[1].younger == 23, 1);
 }
 
 static void sizes(void) {
@@ -80,11 +93,16 @@ static void sizes(void) {
     EXPECT(splitter_tree_nodes(5), 11);
     EXPECT(splitter_tree_nodes(256), 511);
     EXPECT(splitter_tree_nodes(UINT32_MAX), UINT64_C(8589934590));
-    EXPECT(splitter_image_bytes(25), 5632);
-    EXPECT(splitter_image_bytes(26), 6144);
-    EXPECT(splitter_image_bytes(UINT32_MAX), UINT64_C(69260580352));
+    EXPECT(splitter_image_bytes(0, 0), 512);
+    EXPECT(splitter_image_bytes(1, 22), 512);  /* 18 + 20 + 88 words, of 127 */
+    EXPECT(splitter_image_bytes(1, 23), 1024);
+    EXPECT(splitter_image_bytes(64, 24), 5632); /* 18 + 1,280 + 96 words, of 1,397 */
+    EXPECT(splitter_image_bytes(64, 25), 6144);
+    EXPECT(splitter_image_bytes(256, SPLITTER_MAX_NODES), 285184);
+    EXPECT(splitter_image_bytes(UINT32_MAX, UINT32_MAX), 512 * ((18 + 24 * UINT64_C(4294967295) + 126) / 127));
     for (uint32_t nodes = 0; nodes <= SPLITTER_MAX_NODES; nodes++) {
-        EXPECT(splitter_image_bytes(nodes), SPLITTER_IMAGE_BYTES(nodes));
+        uint32_t places = nodes % (SPLITTER_MAX_PLACES + 1);
+        EXPECT(splitter_image_bytes(places, nodes), SPLITTER_IMAGE_BYTES(places, nodes));
     }
 }
 
@@ -100,20 +118,25 @@ static void steps(const struct splitter_lent *lent) {
 
 /* What the header says of frame records: Main and its child, after Main's return on another worker, and after the child's. */
 static void returns(const struct splitter_lent *lent) {
-    const uint32_t *main_frame = lent->state->frames, *child = main_frame + SPLITTER_FRAME_RECORD_WORDS;
+    const struct splitter_frame *main_frame = lent->frames, *child = main_frame + 1;
     ANSWER(splitter_spawn(lent, 0), SPLITTER_SPAWNED, 1);
     ANSWER(splitter_steal(lent, 1, 0), SPLITTER_STOLEN, 0);
     ANSWER(splitter_return(lent, 1), SPLITTER_RETURNED, SPLITTER_WAITS);
-    EXPECT(main_frame[SPLITTER_FRAME_LIVE] == 1 && main_frame[SPLITTER_FRAME_PARENT] == UINT32_MAX, 1);
-    EXPECT(main_frame[SPLITTER_FRAME_OUTSTANDING] == 1 && main_frame[SPLITTER_FRAME_DEPTH] == 0, 1);
-    EXPECT(main_frame[SPLITTER_FRAME_WAITING] == 1 && main_frame[SPLITTER_FRAME_RETURNING] == 1, 1);
-    EXPECT(child[SPLITTER_FRAME_LIVE] == 1 && child[SPLITTER_FRAME_PARENT] == 0 && child[SPLITTER_FRAME_DEPTH] == 1, 1);
-    EXPECT(child[SPLITTER_FRAME_WAITING] == 0 && child[SPLITTER_FRAME_RETURNING] == 0, 1);
-    EXPECT(main_frame[SPLITTER_FRAME_ROOT], child[SPLITTER_FRAME_ROOT]);
+    EXPECT(main_frame->live == 1 && main_frame->parent == UINT32_MAX, 1);
+    EXPECT(main_frame->outstanding == 1 && main_frame->depth == 0, 1);
+    EXPECT(main_frame->waiting == 1 && main_frame->returning == 1, 1);
+    EXPECT(child->live == 1 && child->parent == 0 && child->depth == 1, 1);
+    EXPECT(child->waiting == 0 && child->returning == 0, 1);
+    EXPECT(main_frame->root, child->root);
     ANSWER(splitter_return(lent, 0), SPLITTER_RETURNED, SPLITTER_FINISHED);
-    EXPECT(main_frame[SPLITTER_FRAME_LIVE] == 0 && main_frame[SPLITTER_FRAME_PARENT] == 1, 1);
-    EXPECT(main_frame[SPLITTER_FRAME_WAITING] == 0 && main_frame[SPLITTER_FRAME_RETURNING] == 0, 1);
+    EXPECT(main_frame->live == 0 && main_frame->parent == 1, 1);
+    EXPECT(main_frame->waiting == 0 && main_frame->returning == 0, 1);
     ANSWER(splitter_spawn(lent, 0), SPLITTER_RUN_IS_OVER, 0);
+}
+
+static void view(const struct splitter_frame *frame, uint32_t sum, uint32_t min, uint32_t multiplier, uint32_t addend) {
+    EXPECT(frame->view_sum == sum && frame->view_min == min, 1);
+    EXPECT(frame->view_multiplier == multiplier && frame->view_addend == addend, 1);
 }
 
 static void totals(const struct splitter_state *state, bool returned, uint32_t sum, uint32_t min, uint32_t multiplier, uint32_t addend) {
@@ -125,16 +148,16 @@ static void totals(const struct splitter_state *state, bool returned, uint32_t s
 
 /* Folds of Main and its child; the child's view after the spawn is Main's, which begins anew. The child ends last and comes first. */
 static void folds(const struct splitter_lent *lent) {
-    const uint32_t *main_view = lent->state->frames + SPLITTER_FRAME_VIEW_SUM, *child_view = main_view + SPLITTER_FRAME_RECORD_WORDS;
-    const uint32_t folded[4] = {5, SPLITTER_NONE, 3, 1}, nothing[4] = {0, SPLITTER_NONE, 1, 0};
+    const struct splitter_frame *main_frame = lent->frames, *child = main_frame + 1;
     EXPECT(splitter_affine(3, 1), 3 * 65536 + 1);
     EXPECT(splitter_affine(65535, 65535), UINT32_MAX);
     ANSWER(splitter_fold(lent, 0, SPLITTER_REDUCER_SUM, 5), SPLITTER_FOLDED, 0);
     ANSWER(splitter_fold(lent, 0, SPLITTER_REDUCER_AFFINE, splitter_affine(3, 1)), SPLITTER_FOLDED, 0);
     ANSWER(splitter_fold(lent, 0, SPLITTER_REDUCERS, 5), SPLITTER_UNKNOWN_REDUCER, 0);
     ANSWER(splitter_spawn(lent, 0), SPLITTER_SPAWNED, 1);
-    EXPECT(memcmp(child_view, folded, sizeof folded) == 0 && memcmp(main_view, nothing, sizeof nothing) == 0, 1);
-    EXPECT(main_view[4] == SPLITTER_NONE && child_view[4] == SPLITTER_NONE, 1); /* SPLITTER_FRAME_YOUNGER: no sibling */
+    view(child, 5, SPLITTER_NONE, 3, 1);
+    view(main_frame, 0, SPLITTER_NONE, 1, 0);
+    EXPECT(main_frame->younger == SPLITTER_NONE && child->younger == SPLITTER_NONE, 1); /* no sibling */
     ANSWER(splitter_steal(lent, 1, 0), SPLITTER_STOLEN, 0);
     ANSWER(splitter_fold(lent, 1, SPLITTER_REDUCER_AFFINE, splitter_affine(10, 7)), SPLITTER_FOLDED, 0);
     ANSWER(splitter_return(lent, 1), SPLITTER_RETURNED, SPLITTER_WAITS);
@@ -152,7 +175,7 @@ static void free_nodes(const struct splitter_lent *lent) {
     EXPECT(splitter_free_nodes(lent->state->numbers, SPLITTER_NUMBERS_WORDS - 1, lent->pool, lent->pool_len), 0);
 }
 
-/* The numbers after a start with 2 workers, 2 splitters and 6 nodes: 3 are Main's, and Main has place 0. */
+/* The numbers after a start with 2 workers, 2 splitters, 4 places and 6 nodes: 3 are Main's, and Main has place 0. */
 static void numbers(const struct splitter_state *state) {
     EXPECT(state->numbers[SPLITTER_NUMBER_WORKERS], 2);
     EXPECT(state->numbers[SPLITTER_NUMBER_SPLITTERS], 2);
@@ -161,6 +184,8 @@ static void numbers(const struct splitter_state *state) {
     EXPECT(state->numbers[SPLITTER_NUMBER_FREE_FRAME], 1);
     EXPECT(state->numbers[SPLITTER_NUMBER_TOTAL_SUM] | state->numbers[SPLITTER_NUMBER_TOTAL_MIN], 0);
     EXPECT(state->numbers[SPLITTER_NUMBER_TOTAL_MULTIPLIER] | state->numbers[SPLITTER_NUMBER_TOTAL_ADDEND], 0);
+    EXPECT(state->numbers[SPLITTER_NUMBER_PLACES], PLACES);
+    EXPECT(splitter_places(state), PLACES);
 }
 
 /* The calls over a state go on with the run that the calls over lent memory began, and the other way. */
@@ -168,26 +193,29 @@ static void tapes(const struct splitter_lent *lent) {
     const uint8_t tape[SPLITTER_RECORD_BYTES] = {SPLITTER_STEP_READ, 0, 1};
     uint32_t answers[4] = {0, 0, 7, 7};
     EXPECT(splitter_lent_tape(lent, tape, sizeof tape, answers, 4), SPLITTER_OK);
-    EXPECT(splitter_state_tape(lent->state, lent->pool, lent->pool_len, lent->work, lent->work_len, tape, sizeof tape, answers + 2, 2),
-           SPLITTER_OK);
+    EXPECT(splitter_state_tape(lent->state, lent->frames, lent->places, lent->pool, lent->pool_len, lent->work, lent->work_len,
+                               tape, sizeof tape, answers + 2, 2), SPLITTER_OK);
     ANSWER(splitter_answer(answers[0], answers[1]), SPLITTER_VALUE, 99);
     ANSWER(splitter_answer(answers[2], answers[3]), SPLITTER_VALUE, 99);
-    ANSWER(splitter_state_step(lent->state, lent->pool, lent->pool_len, lent->work, lent->work_len, SPLITTER_STEP_READ, 0, 0, 0),
-           SPLITTER_VALUE, 10);
+    ANSWER(splitter_state_step(lent->state, lent->frames, lent->places, lent->pool, lent->pool_len, lent->work, lent->work_len,
+                               SPLITTER_STEP_READ, 0, 0, 0), SPLITTER_VALUE, 10);
 }
 
 /* A run saved over lent memory and read over a state, and the other way; both images are the same, and go on. */
 static void images(const struct splitter_lent *lent) {
-    static uint8_t image[SPLITTER_IMAGE_BYTES(6)], again[SPLITTER_IMAGE_BYTES(6) + 1];
+    static uint8_t image[SPLITTER_IMAGE_BYTES(PLACES, 6)], again[SPLITTER_IMAGE_BYTES(PLACES, 6) + 1];
     again[sizeof image] = 7;
     EXPECT(splitter_lent_save(lent, image, sizeof image - 1), SPLITTER_SHORT_TARGET);
     EXPECT(splitter_lent_save(lent, image, sizeof image), SPLITTER_OK);
-    EXPECT(splitter_state_load(lent->state, lent->pool, lent->pool_len, lent->work, lent->work_len, image, sizeof image - 1),
-           SPLITTER_BAD_BLOCKS);
+    EXPECT(splitter_state_load(lent->state, lent->frames, lent->places, lent->pool, lent->pool_len, lent->work, lent->work_len,
+                               image, sizeof image - 1), SPLITTER_BAD_BLOCKS);
     EXPECT(lent->state->numbers[SPLITTER_NUMBER_WORKERS], 0);
-    EXPECT(splitter_state_load(lent->state, lent->pool, lent->pool_len, lent->work, lent->work_len, image, sizeof image), SPLITTER_OK);
+    EXPECT(splitter_state_load(lent->state, lent->frames, lent->places, lent->pool, lent->pool_len, lent->work, lent->work_len,
+                               image, sizeof image), SPLITTER_OK);
+    EXPECT(image[36], PLACES); /* word SPLITTER_NUMBER_PLACES */
     EXPECT(image[0] | (uint32_t)image[1] << 8, SPLITTER_IMAGE_VERSION + lent->state->numbers[SPLITTER_NUMBER_WORKERS]);
-    EXPECT(splitter_state_save(lent->state, lent->pool, lent->pool_len, lent->work, lent->work_len, again, sizeof again), SPLITTER_OK);
+    EXPECT(splitter_state_save(lent->state, lent->frames, lent->places, lent->pool, lent->pool_len, lent->work, lent->work_len,
+                               again, sizeof again), SPLITTER_OK);
     EXPECT(memcmp(image, again, sizeof image) == 0 && again[sizeof image] == 7, 1);
     ANSWER(splitter_write(lent, 0, 1, 98), SPLITTER_WRITTEN, 3);
     EXPECT(splitter_lent_load(lent, again, sizeof image), SPLITTER_OK);
@@ -213,9 +241,15 @@ static void nulls(const struct splitter_lent *lent) {
     const uint8_t tape[SPLITTER_RECORD_BYTES] = {SPLITTER_STEP_READ, 0, 1};
     uint32_t answers[2] = {7, 7};
     for (splitter_len len = 0; len <= 24; len += 24) {
-        const struct splitter_lent no_pool = {lent->state, NULL, len, lent->work, lent->work_len};
-        const struct splitter_lent no_work = {lent->state, lent->pool, lent->pool_len, NULL, len};
-        const struct splitter_lent neither = {lent->state, NULL, len, NULL, len};
+        const struct splitter_lent no_table = {lent->state, NULL, len, lent->pool, lent->pool_len, lent->work, lent->work_len};
+        const struct splitter_lent no_pool = {lent->state, lent->frames, lent->places, NULL, len, lent->work, lent->work_len};
+        const struct splitter_lent no_work = {lent->state, lent->frames, lent->places, lent->pool, lent->pool_len, NULL, len};
+        const struct splitter_lent neither = {lent->state, lent->frames, lent->places, NULL, len, NULL, len};
+        ANSWER(splitter_read(&no_table, 0, 1), SPLITTER_UNSOUND, 0);
+        EXPECT(splitter_lent_tape(&no_table, NULL, 0, NULL, len), SPLITTER_UNSOUND);
+        EXPECT(splitter_lent_save(&no_table, NULL, len), SPLITTER_UNSOUND);
+        EXPECT(splitter_lent_live_frames(&no_table), 0);
+        EXPECT(splitter_lent_bottom_depth(&no_table, 0), SPLITTER_NONE);
         ANSWER(splitter_read(&no_pool, 0, 1), SPLITTER_UNSOUND, 0);
         ANSWER(splitter_read(&no_work, 0, 1), SPLITTER_SHORT_WORK, 0);
         ANSWER(splitter_read(&neither, 0, 1), SPLITTER_SHORT_WORK, 0);
@@ -236,15 +270,18 @@ static void nulls(const struct splitter_lent *lent) {
 /* The same of the calls that clear the state when they are refused. */
 static void nulls_that_clear(const struct splitter_lent *lent) {
     static const uint32_t values[2] = {10, 20};
-    static uint8_t image[SPLITTER_IMAGE_BYTES(6)];
+    static uint8_t image[SPLITTER_IMAGE_BYTES(PLACES, 6)];
     EXPECT(splitter_lent_save(lent, image, sizeof image), SPLITTER_OK);
     for (splitter_len len = 0; len <= 24; len += 24) {
-        const struct splitter_lent no_pool = {lent->state, NULL, len, lent->work, lent->work_len};
-        const struct splitter_lent no_work = {lent->state, lent->pool, lent->pool_len, NULL, len};
+        const struct splitter_lent no_table = {lent->state, NULL, len, lent->pool, lent->pool_len, lent->work, lent->work_len};
+        const struct splitter_lent no_pool = {lent->state, lent->frames, lent->places, NULL, len, lent->work, lent->work_len};
+        const struct splitter_lent no_work = {lent->state, lent->frames, lent->places, lent->pool, lent->pool_len, NULL, len};
+        EXPECT(splitter_lent_start(&no_table, 2, values, 2), SPLITTER_BAD_PLACE_COUNT);
         EXPECT(splitter_lent_start(lent, 2, NULL, len), SPLITTER_BAD_VALUE_COUNT);
         EXPECT(splitter_lent_start(&no_pool, 2, values, 2), SPLITTER_BAD_NODE_COUNT);
         EXPECT(splitter_lent_start(&no_work, 2, values, 2), SPLITTER_OK);
         EXPECT(splitter_lent_load(lent, NULL, len), SPLITTER_BAD_BLOCKS);
+        EXPECT(splitter_lent_load(&no_table, image, sizeof image), SPLITTER_UNSOUND);
         EXPECT(splitter_lent_load(&no_pool, image, sizeof image), SPLITTER_UNSOUND);
         EXPECT(splitter_lent_load(&no_work, image, sizeof image), SPLITTER_SHORT_WORK);
     }
@@ -253,15 +290,17 @@ static void nulls_that_clear(const struct splitter_lent *lent) {
 int main(void) {
     static const uint32_t values[2] = {10, 20};
     static struct splitter_state state;
+    static struct splitter_frame table[PLACES];
     static uint32_t pool[6 * SPLITTER_NODE_WORDS], work[6];
-    const struct splitter_lent lent = {&state, pool, 6 * SPLITTER_NODE_WORDS, work, 6};
+    const struct splitter_lent lent = {&state, table, PLACES, pool, 6 * SPLITTER_NODE_WORDS, work, 6};
     records();
     names();
     refused();
     layout();
+    frame_layout();
     sizes();
     EXPECT(splitter_lent_start(&lent, 2, values, 0), SPLITTER_BAD_VALUE_COUNT);
-    EXPECT(splitter_state_start(&state, 2, values, 2, pool, 6 * SPLITTER_NODE_WORDS), SPLITTER_OK);
+    EXPECT(splitter_state_start(&state, table, PLACES, 2, values, 2, pool, 6 * SPLITTER_NODE_WORDS), SPLITTER_OK);
     numbers(&state);
     free_nodes(&lent);
     steps(&lent);

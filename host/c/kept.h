@@ -7,8 +7,8 @@
 
 #include "splitter.h"
 
-enum { KEPT_FILES = 2, KEPT_NODES = 72 /* the search's */ };
-enum { KEPT_IMAGE = SPLITTER_BLOCK_BYTES, KEPT_BYTES = KEPT_IMAGE + SPLITTER_IMAGE_BYTES(KEPT_NODES) };
+enum { KEPT_FILES = 2, KEPT_PLACES = 256, KEPT_NODES = 72 /* the search's */ };
+enum { KEPT_IMAGE = SPLITTER_BLOCK_BYTES, KEPT_BYTES = KEPT_IMAGE + SPLITTER_IMAGE_BYTES(KEPT_PLACES, KEPT_NODES) };
 
 /* The words of the block. */
 enum { KEPT_SEQUENCE = 0, KEPT_OWN = 1, KEPT_CRC = 127 };

@@ -1,27 +1,54 @@
 /* The search: a branch for each choice of a spare. A branch marks its choice in its own view of the blocks, so nobody has to undo it.
  * The costs of the layouts are folded: their sum, the least of them, and a digest of them in the order of a search by one worker.
- * Of 16 blocks the factory marked 3 and 9 bad and 12 to 15 spare. Each bad block needs a spare that passes its erase test. */
+ * Each bad block needs a spare that passes its erase test. Of the small card's 16 blocks the factory marked 3 and 9 bad and 12 to 15
+ * spare. The large card has 80 rows of three blocks: the first is bad, the others are its spares. */
 #include <stdarg.h>
 #include <stdio.h>
 
 #include "search.h"
 
-enum { FIRST_SPARE = 12, BAD_BLOCKS = 2, BRANCHES = 16, BRANCH_WORDS = 6, SEARCH_WORDS = 9, DIGEST = 31 };
+enum { MOST_BLOCKS = 240, MOST_BRANCHES = 96, BRANCH_WORDS = 6, SEARCH_WORDS = 9, DIGEST = 31, NAMED = 3 };
 
 /* A block's state, kept in its splitter. A spare in use holds STANDS_FOR plus the number of the bad block. */
 enum { GOOD = 0, BAD = 1, SPARE = 2, STANDS_FOR = 100 };
 
-const uint32_t factory_marks[BLOCKS] = {GOOD, GOOD, GOOD, BAD,  GOOD,  GOOD,  GOOD,  GOOD,
-                                        GOOD, BAD,  GOOD, GOOD, SPARE, SPARE, SPARE, SPARE};
-static const unsigned bad_blocks[BAD_BLOCKS] = {3, 9};
+const struct card small_card = {.blocks = BLOCKS, .bad_blocks = 2, .first_bad = 3, .bad_apart = 6, .spares = 4, .first_spare = 12,
+                                .strong = 14, .branches = 16};
+const struct card large_card = {.blocks = MOST_BLOCKS, .bad_blocks = 80, .bad_apart = 3, .spares = 2, .first_spare = 1, .spares_apart = 3,
+                                .strong = 234, .branches = MOST_BRANCHES};
+
+/* The bad block that a branch of this depth chose a spare for. */
+static unsigned bad_block(const struct card *card, unsigned depth) {
+    return card->first_bad + (depth - 1) * card->bad_apart;
+}
+
+/* The first spare that a branch of this depth may choose from, for the next bad block. */
+static unsigned first_spare(const struct card *card, unsigned depth) {
+    return card->first_spare + depth * card->spares_apart;
+}
+
+const uint32_t *factory_marks(const struct card *card) {
+    static uint32_t marks[MOST_BLOCKS];
+    for (unsigned block = 0; block < card->blocks; block++) {
+        marks[block] = GOOD;
+    }
+    for (unsigned depth = 0; depth < card->bad_blocks; depth++) {
+        marks[bad_block(card, depth + 1)] = BAD;
+        for (unsigned i = 0; i < card->spares; i++) {
+            marks[first_spare(card, depth) + i] = SPARE;
+        }
+    }
+    return marks;
+}
 
 /* The memory lent to the library, and what may be used of it. */
 static struct splitter_state state;
+static struct splitter_frame table[PLACES + 1]; /* one too many, to be refused */
 static uint32_t pool[MOST_NODES * SPLITTER_NODE_WORDS], work[MOST_NODES];
 struct checked run;
 
-void lend(unsigned nodes) {
-    struct splitter_lent lent = {&state, pool, nodes * SPLITTER_NODE_WORDS, work, nodes};
+void lend(unsigned places, unsigned nodes) {
+    struct splitter_lent lent = {&state, table, places, pool, nodes * SPLITTER_NODE_WORDS, work, nodes};
     run.lent = lent;
 }
 
@@ -37,21 +64,30 @@ struct branch {
     unsigned failed; /* a spare that failed its test here and was marked bad, or 0 */
 };
 
-static struct branch branches[BRANCHES];
+static struct branch branches[MOST_BRANCHES];
 static struct branch *runs[WORKERS]; /* the branch that a worker runs, or NULL */
 
 struct search search;
 
-static void print_name(const struct branch *b) {
-    if (b->depth == 0) {
-        printf("Main");
+/* The last choices of a branch, so many at most. */
+static void print_choices(const struct branch *b, unsigned most) {
+    if (most == 0) {
+        printf("..");
         return;
     }
     if (b->depth > 1) {
-        print_name(b->parent);
+        print_choices(b->parent, most - 1);
         printf(" ");
     }
-    printf("%u>%u", bad_blocks[b->depth - 1], b->spare);
+    printf("%u>%u", bad_block(search.card, b->depth), b->spare);
+}
+
+static void print_name(const struct branch *b) {
+    if (b->depth == 0) {
+        printf("Main");
+    } else {
+        print_choices(b, NAMED);
+    }
 }
 
 /* A line of the report: the turn, the worker, its branch, and what it did. */
@@ -69,9 +105,9 @@ static void tell(unsigned worker, const struct branch *b, const char *format, ..
     printf("\n");
 }
 
-/* Stands for the controller's own test. */
+/* Stands for the controller's own test: of the weak blocks each third fails. */
 static bool passes_erase_test(unsigned block) {
-    return block != 13;
+    return block >= search.card->strong || block % 3 != 1;
 }
 
 static unsigned read_block(unsigned worker, unsigned block) {
@@ -110,25 +146,39 @@ static bool steal_turn(unsigned thief) {
 
 /* A new branch marks its choice. Where the pool has no room it tries again in its next turn: other branches end and free their nodes. */
 static bool take_turn(unsigned worker, struct branch *b) {
-    if (!write_block(worker, b->spare, STANDS_FOR + bad_blocks[b->depth - 1])) {
+    if (!write_block(worker, b->spare, STANDS_FOR + bad_block(search.card, b->depth))) {
         search.waits += 1;
         tell(worker, b, "no room in the pool, waits");
         return false;
     }
-    b->stage = b->depth < BAD_BLOCKS ? LOOK : SCORE;
+    b->stage = b->depth < search.card->bad_blocks ? LOOK : SCORE;
     tell(worker, b, "takes %u", b->spare);
     return true;
 }
 
+/* How deep the search has come, and how wide. */
+static void measure(unsigned depth) {
+    unsigned live = splitter_lent_live_frames(&run.lent);
+    search.deepest = depth > search.deepest ? depth : search.deepest;
+    search.most_live = live > search.most_live ? live : search.most_live;
+}
+
+/* Where the table has no place, the search goes on without this branch and all below it. */
 static void spawn_branch(unsigned worker, struct branch *parent, unsigned spare) {
-    if (search.made == BRANCHES) {
+    if (search.made == search.card->branches) {
         surprise("more branches than the host has places for");
     }
+    uint64_t answer = checked_spawn(&run, worker);
+    if (splitter_answer_kind(answer) == SPLITTER_FRAMES_FULL) {
+        search.given_up += 1;
+        return;
+    }
+    unsigned depth = splitter_answer_number(answer);
     struct branch *child = &branches[search.made++];
-    struct branch begun = {parent, TAKE, parent->depth + 1, spare, FIRST_SPARE, 0};
-    checked_spawn(&run, worker);
+    struct branch begun = {parent, TAKE, depth, spare, first_spare(search.card, depth), 0};
     *child = begun;
     runs[worker] = child;
+    measure(depth);
     tell(worker, parent, "%u is a good spare: spawns a branch", spare);
 }
 
@@ -149,7 +199,7 @@ static bool syncs(const struct branch *b) {
 static bool look_turn(unsigned worker, struct branch *b) {
     unsigned spare = b->next++;
     unsigned is = read_block(worker, spare);
-    if (b->next == BLOCKS) {
+    if (b->next == first_spare(search.card, b->depth) + search.card->spares) {
         b->stage = syncs(b) ? WAIT : END;
     }
     if (is != SPARE) {
@@ -188,7 +238,7 @@ static void fold_cost(unsigned worker, unsigned cost) {
 /* A whole layout, read from the branch's own view. The cost is the sum of the squared moves: no block should be far from its spare. */
 static bool score_turn(unsigned worker, struct branch *b) {
     unsigned cost = 0;
-    for (unsigned spare = FIRST_SPARE; spare < BLOCKS; spare++) {
+    for (unsigned spare = search.card->first_spare; spare < search.card->blocks; spare++) {
         unsigned is = read_block(worker, spare);
         unsigned move = is >= STANDS_FOR ? spare - (is - STANDS_FOR) : 0;
         cost += move * move;
@@ -260,12 +310,12 @@ static void give_up_a_branch(void) {
     surprise("no worker runs a branch");
 }
 
-void begin(unsigned workers, unsigned nodes, enum syncs syncs, bool told) {
-    struct search begun = {.told = told, .syncs = syncs, .workers = workers, .made = 1,
-                           .least_free = nodes - (unsigned)splitter_tree_nodes(BLOCKS)};
-    struct branch main_branch = {.stage = LOOK, .next = FIRST_SPARE};
-    lend(nodes);
-    same("start", checked_start(&run, workers, factory_marks, BLOCKS), SPLITTER_OK);
+void begin(const struct card *card, unsigned workers, unsigned places, unsigned nodes, enum syncs syncs, bool told) {
+    struct search begun = {.told = told, .syncs = syncs, .card = card, .workers = workers, .made = 1,
+                           .least_free = nodes - (unsigned)splitter_tree_nodes(card->blocks)};
+    struct branch main_branch = {.stage = LOOK, .next = first_spare(card, 0)};
+    lend(places, nodes);
+    same("start", checked_start(&run, workers, factory_marks(card), card->blocks), SPLITTER_OK);
     search = begun;
     branches[0] = main_branch;
     runs[0] = &branches[0];
@@ -327,8 +377,8 @@ void put_search(uint32_t *words) {
 }
 
 void get_search(const uint32_t *words, bool told) {
-    struct search read = {.told = told, .workers = run.lent.state->numbers[SPLITTER_NUMBER_WORKERS], .made = words[0], .turn = words[1],
-                          .waits = words[2], .given_up = words[3], .least_free = words[4], .layouts = words[5],
+    struct search read = {.told = told, .card = &small_card, .workers = splitter_lent_workers(&run.lent), .made = words[0],
+                          .turn = words[1], .waits = words[2], .given_up = words[3], .least_free = words[4], .layouts = words[5],
                           .least_cost = words[6], .best = branch_of(words[7]), .syncs = (enum syncs)words[8]};
     search = read;
     words += SEARCH_WORDS;

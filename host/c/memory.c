@@ -8,8 +8,9 @@
 enum { NODES = SPLITTER_MAX_NODES, FRAMES = 32, NODE_BYTES = 4 * (SPLITTER_NODE_WORDS + 1) /* with its word of work */ };
 
 static struct splitter_state state;
+static struct splitter_frame table[FRAMES];
 static uint32_t pool[NODES * SPLITTER_NODE_WORDS], work[NODES], values[SPLITTER_MAX_SPLITTERS];
-static const struct splitter_lent lent = {&state, pool, NODES * SPLITTER_NODE_WORDS, work, NODES};
+static const struct splitter_lent lent = {&state, table, FRAMES, pool, NODES * SPLITTER_NODE_WORDS, work, NODES};
 static uint32_t seed;
 
 /* Xorshift: a number below the bound. */

@@ -52,13 +52,14 @@ static void mirror(unsigned worker, unsigned victim, struct frame *child, uint64
 }
 /* ---- end */
 
-enum { NODES = 256, SPLITTERS = 8, RUNS = 400, STEPS = 500, DEQUE_WORDS = 1 + SPLITTER_MAX_FRAMES };
+enum { NODES = 256, SPLITTERS = 8, RUNS = 400, STEPS = 500, PLACES = 100, DEQUE_WORDS = 1 + SPLITTER_DEQUE_PLACES };
 
 static struct splitter_state state;
+static struct splitter_frame table[PLACES];
 static uint32_t pool[NODES * SPLITTER_NODE_WORDS], work[NODES], values[SPLITTERS];
-static const struct splitter_lent lent = {&state, pool, NODES * SPLITTER_NODE_WORDS, work, NODES};
-static struct frame frames[SPLITTER_MAX_FRAMES];
-static uint32_t places[SPLITTER_MAX_FRAMES]; /* the library's place of each of them */
+static const struct splitter_lent lent = {&state, table, PLACES, pool, NODES * SPLITTER_NODE_WORDS, work, NODES};
+static struct frame frames[PLACES];
+static uint32_t places[PLACES]; /* the library's place of each of them */
 static unsigned long steals, resumed, waits, ends;
 
 static uint32_t seed = 20261116;
@@ -95,14 +96,14 @@ static void same_deque(unsigned worker) {
 /* Each frame of the host against its record. */
 static unsigned same_frames(void) {
     unsigned live = 0;
-    for (const struct frame *f = frames; f < frames + SPLITTER_MAX_FRAMES; f++) {
+    for (const struct frame *f = frames; f < frames + PLACES; f++) {
         if (f->live) {
-            const uint32_t *record = state.frames + place_of(f) * SPLITTER_FRAME_RECORD_WORDS;
-            same("live", 1, record[SPLITTER_FRAME_LIVE]);
-            same("parent", place_of(f->parent), record[SPLITTER_FRAME_PARENT]);
-            same("depth", f->depth, record[SPLITTER_FRAME_DEPTH]);
-            same("children", f->children, record[SPLITTER_FRAME_OUTSTANDING]);
-            same("returned", f->returned, record[SPLITTER_FRAME_RETURNING]);
+            const struct splitter_frame *record = &table[place_of(f)];
+            same("live", 1, record->live);
+            same("parent", place_of(f->parent), record->parent);
+            same("depth", f->depth, record->depth);
+            same("children", f->children, record->outstanding);
+            same("returned", f->returned, record->returning);
             live += 1;
         }
     }
@@ -111,14 +112,14 @@ static unsigned same_frames(void) {
 
 static unsigned live_records(void) {
     unsigned live = 0;
-    for (unsigned place = 0; place < SPLITTER_MAX_FRAMES; place++) {
-        live += state.frames[place * SPLITTER_FRAME_RECORD_WORDS + SPLITTER_FRAME_LIVE];
+    for (unsigned place = 0; place < PLACES; place++) {
+        live += table[place].live;
     }
     return live;
 }
 
 static struct frame *free_frame(void) {
-    for (struct frame *f = frames; f < frames + SPLITTER_MAX_FRAMES; f++) {
+    for (struct frame *f = frames; f < frames + PLACES; f++) {
         if (!f->live) {
             return f;
         }
@@ -148,7 +149,7 @@ static void take_step(unsigned workers) {
 }
 
 static void begin(unsigned workers) {
-    for (unsigned i = 0; i < SPLITTER_MAX_FRAMES; i++) {
+    for (unsigned i = 0; i < PLACES; i++) {
         frames[i].live = false;
     }
     for (unsigned worker = 0; worker < SPLITTER_MAX_WORKERS; worker++) {

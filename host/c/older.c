@@ -1,5 +1,7 @@
 #include "older.h"
 
+#include <string.h>
+
 /* Words into blocks. The check is a sum of bytes, each times 256 raised to its offset modulo 4: a sum of words. */
 struct blocks {
     uint8_t *to;
@@ -30,13 +32,18 @@ static void put_words(struct blocks *blocks, const uint32_t *words, size_t len) 
     }
 }
 
-size_t older_image(const struct splitter_state *state, const uint32_t *pool, unsigned version, uint8_t *target) {
+size_t older_image(const struct splitter_state *state, const struct splitter_frame *table, const uint32_t *pool, unsigned version,
+                   uint8_t *target) {
     struct blocks blocks = {target, 0, 0};
     put_word(&blocks, OLDER_VERSION * version + state->numbers[SPLITTER_NUMBER_WORKERS]);
-    put_words(&blocks, state->numbers + 1, OLDER_NUMBERS_WORDS - 1);
-    put_words(&blocks, state->deques, SPLITTER_DEQUES_WORDS);
-    for (unsigned place = 0; place < SPLITTER_MAX_FRAMES; place++) {
-        put_words(&blocks, state->frames + place * SPLITTER_FRAME_RECORD_WORDS, OLDER_FRAME_RECORD_WORDS(version));
+    put_words(&blocks, state->numbers + 1, OLDER_NUMBERS_WORDS(version) - 1);
+    for (unsigned worker = 0; worker < SPLITTER_MAX_WORKERS; worker++) {
+        put_words(&blocks, state->deques + worker * (1 + SPLITTER_DEQUE_PLACES), 1 + OLDER_PLACES);
+    }
+    for (unsigned place = 0; place < OLDER_PLACES; place++) {
+        uint32_t words[SPLITTER_FRAME_RECORD_WORDS];
+        memcpy(words, &table[place], sizeof words);
+        put_words(&blocks, words, OLDER_FRAME_RECORD_WORDS(version));
     }
     put_words(&blocks, pool, SPLITTER_NODE_WORDS * (size_t)state->numbers[SPLITTER_NUMBER_NODES]);
     while (blocks.words > 0) {

@@ -28,7 +28,7 @@ static struct plain_view join(struct plain_view left, struct plain_view right) {
 }
 
 uint32_t plain_start(struct plain *machine, uint32_t workers, const uint32_t *values, splitter_len values_len,
-                     splitter_len nodes) {
+                     splitter_len places, splitter_len nodes) {
     static const struct plain none;
     *machine = none;
     if (values_len < 1 || values_len > SPLITTER_MAX_SPLITTERS) {
@@ -37,11 +37,15 @@ uint32_t plain_start(struct plain *machine, uint32_t workers, const uint32_t *va
     if (workers < 1 || workers > SPLITTER_MAX_WORKERS) {
         return SPLITTER_BAD_WORKER_COUNT;
     }
+    if (places < 1 || places > SPLITTER_MAX_PLACES) {
+        return SPLITTER_BAD_PLACE_COUNT;
+    }
     if (nodes < tree_nodes((unsigned)values_len) || nodes > SPLITTER_MAX_NODES) {
         return SPLITTER_BAD_NODE_COUNT;
     }
     machine->workers = workers;
     machine->splitters = (unsigned)values_len;
+    machine->places = (unsigned)places;
     machine->nodes = (unsigned)nodes;
     machine->live = 1;
     machine->lengths[0] = 1;
@@ -64,8 +68,8 @@ static unsigned last_write(const struct plain_frame *frame, unsigned first, unsi
 
 /* How many different last writes the live frames have for one group. */
 static unsigned group_nodes(const struct plain *machine, unsigned first, unsigned end) {
-    unsigned seen[SPLITTER_MAX_FRAMES], count = 0;
-    for (unsigned f = 0; f < SPLITTER_MAX_FRAMES; f++) {
+    unsigned seen[SPLITTER_MAX_PLACES], count = 0;
+    for (unsigned f = 0; f < machine->places; f++) {
         if (!machine->frames[f].live) {
             continue;
         }
@@ -133,7 +137,7 @@ static uint32_t refusal(const struct plain *machine, uint32_t kind, uint32_t wor
     if (machine->lengths[worker] == 0) {
         return SPLITTER_WORKER_HAS_NO_FRAME;
     }
-    if (kind == SPLITTER_STEP_SPAWN && machine->live == SPLITTER_MAX_FRAMES) {
+    if (kind == SPLITTER_STEP_SPAWN && machine->live == machine->places) {
         return SPLITTER_FRAMES_FULL;
     }
     return name_refusal(machine, kind, field);
@@ -161,7 +165,7 @@ static uint64_t spawn(struct plain *machine, unsigned worker) {
 /* The eldest live child of the frame that was born after that spawn, or the frame itself if there is none. */
 static unsigned eldest(const struct plain *machine, unsigned parent, unsigned after) {
     unsigned found = parent;
-    for (unsigned place = 0; place < SPLITTER_MAX_FRAMES; place++) {
+    for (unsigned place = 0; place < machine->places; place++) {
         const struct plain_frame *frame = &machine->frames[place];
         int younger = frame->live && frame->parent == parent && frame->born > after;
         if (younger && (found == parent || frame->born < machine->frames[found].born)) {

@@ -1,4 +1,4 @@
-/* The plain machine of documents 01 and 02 (R-2, R-3, R-5): a full list of values for each frame, free nodes by counting the distinct
+/* The plain machine of documents 01 and 02 (R-2, R-3, R-5, R-6): a full list of values for each frame, free nodes by counting the distinct
  * triples, views in the order of the live frames. The worked hosts compare the library's answers with it. A product needs no such thing. */
 #ifndef PLAIN_H
 #define PLAIN_H
@@ -20,16 +20,16 @@ struct plain_frame {
 };
 
 struct plain {
-    unsigned workers, splitters, nodes, writes, spawns, live;
+    unsigned workers, splitters, places, nodes, writes, spawns, live;
     struct plain_view totals; /* zeros while Main lives */
-    struct plain_frame frames[SPLITTER_MAX_FRAMES];
-    unsigned deques[SPLITTER_MAX_WORKERS][SPLITTER_MAX_FRAMES]; /* from the top */
+    struct plain_frame frames[SPLITTER_MAX_PLACES];
+    unsigned deques[SPLITTER_MAX_WORKERS][SPLITTER_MAX_PLACES]; /* from the top */
     unsigned lengths[SPLITTER_MAX_WORKERS];
 };
 
 /* What splitter_start answers: SPLITTER_OK or a refusal. */
 uint32_t plain_start(struct plain *machine, uint32_t workers, const uint32_t *values, splitter_len values_len,
-                     splitter_len nodes);
+                     splitter_len places, splitter_len nodes);
 
 /* What splitter_step answers to a sound state and a long enough work slice: 101 to 107, or a refusal 7 to 13, 15, 20, 16. */
 uint64_t plain_step(struct plain *machine, uint32_t kind, uint32_t worker, uint32_t field, uint32_t value);

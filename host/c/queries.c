@@ -1,17 +1,17 @@
-/* The header's queries. On random runs they give what the plain machine has; on random words they read nothing outside the state, which
- * the sanitizers see (run compiles this with them). Usage: queries [RUNS [SEED]]. */
+/* The header's queries. On random runs they give what the plain machine has; on random words they read nothing outside state and table,
+ * which the sanitizers see (run compiles this with them). Usage: queries [RUNS [SEED]]. */
 #include <stdio.h>
 #include <stdlib.h>
-#include <string.h>
 
 #include "checked.h"
 
-enum { NODES = 256, SPLITTERS = 7, STEPS = 300, STATES = 5000 };
+enum { NODES = 256, PLACES = 90, SPLITTERS = 7, STEPS = 300, STATES = 5000 };
 
 static struct splitter_state state;
+static struct splitter_frame table[PLACES];
 static uint32_t pool[NODES * SPLITTER_NODE_WORDS], work[NODES];
 static const uint32_t values[SPLITTERS];
-static struct checked run = {.lent = {&state, pool, NODES * SPLITTER_NODE_WORDS, work, NODES}};
+static struct checked run = {.lent = {&state, table, PLACES, pool, NODES * SPLITTER_NODE_WORDS, work, NODES}};
 static unsigned long asked;
 
 static uint32_t seed;
@@ -47,6 +47,7 @@ static void compare(void) {
     same("workers", splitter_lent_workers(lent), run.plain.workers);
     same("splitters", splitter_lent_splitters(lent), run.plain.splitters);
     same("nodes", splitter_lent_nodes(lent), run.plain.nodes);
+    same("places", splitter_lent_places(lent), run.plain.places);
     same("live frames", splitter_lent_live_frames(lent), run.plain.live);
     same("Main has returned", splitter_lent_main_returned(lent), run.plain.live == 0);
     for (unsigned worker = 0; worker < SPLITTER_MAX_WORKERS; worker++) {
@@ -80,7 +81,7 @@ static void step(void) {
 /* Every worker returns, until Main has: the queries lead the way. */
 static void end_run(void) {
     for (unsigned round = 0; !splitter_lent_main_returned(&run.lent); round++) {
-        if (round > SPLITTER_MAX_FRAMES) {
+        if (round > PLACES) {
             surprise("Main does not return");
         }
         for (unsigned worker = 0; worker < splitter_lent_workers(&run.lent); worker++) {
@@ -107,45 +108,53 @@ static void random_run(void) {
 
 /* A word: small, at an edge, or any. */
 static uint32_t any_word(void) {
-    static const uint32_t edges[] = {0, 1, 63, 64, 65, 519, 520, 66076420, 1073741824, 2147483648u, SPLITTER_NONE};
+    static const uint32_t edges[] = {0, 1, 255, 256, 257, 2055, 2056, 16711936, 1073741824, 2147483648u, SPLITTER_NONE};
     switch (any(4)) {
     case 0: return edges[any(sizeof edges / sizeof edges[0])];
     case 1: return any(UINT32_MAX);
-    default: return any(70);
+    default: return any(260);
     }
 }
 
-static void in_bounds(const struct splitter_state *words, uint32_t worker) {
-    uint32_t length = splitter_deque_length(words, worker), depth = splitter_bottom_depth(words, worker);
-    if (length > SPLITTER_MAX_FRAMES || (length == 0 && depth != SPLITTER_NONE) || (worker >= SPLITTER_MAX_WORKERS && length != 0)) {
+static void in_bounds(const struct splitter_state *words, const struct splitter_frame *frames, splitter_len places, uint32_t worker) {
+    uint32_t length = splitter_deque_length(words, worker), depth = splitter_bottom_depth(words, frames, places, worker);
+    if (length > SPLITTER_DEQUE_PLACES || (length == 0 && depth != SPLITTER_NONE) || (worker >= SPLITTER_MAX_WORKERS && length != 0)) {
         surprise("a deque of random words");
     }
 }
 
-/* All queries of a state of any words, in a block of its own. */
-static void random_words(void) {
-    struct splitter_state *words = (struct splitter_state *)malloc(sizeof *words);
-    uint32_t word[SPLITTER_STATE_WORDS];
-    if (words == NULL) {
+/* A block of its own, of any words. */
+static void *random_block(size_t bytes) {
+    uint32_t *words = (uint32_t *)malloc(bytes);
+    if (words == NULL && bytes > 0) {
         surprise("no memory");
     }
-    for (unsigned i = 0; i < SPLITTER_STATE_WORDS; i++) {
-        word[i] = any_word();
+    for (size_t i = 0; i < bytes / sizeof *words; i++) {
+        words[i] = any_word();
     }
-    memcpy(words, word, sizeof word);
-    same("workers", splitter_workers(words), word[0]);
-    same("splitters", splitter_splitters(words), word[1]);
-    same("nodes", splitter_nodes(words), word[2]);
-    if (splitter_live_frames(words) > SPLITTER_MAX_FRAMES || (splitter_main_returned(words) && words->deques[0] != 0)) {
+    return words;
+}
+
+/* All queries of a state and a table of any words and any length. */
+static void random_words(void) {
+    const splitter_len places = any(SPLITTER_MAX_PLACES + 10);
+    struct splitter_state *words = (struct splitter_state *)random_block(sizeof *words);
+    struct splitter_frame *frames = (struct splitter_frame *)random_block((size_t)places * sizeof *frames);
+    same("workers", splitter_workers(words), words->numbers[0]);
+    same("splitters", splitter_splitters(words), words->numbers[1]);
+    same("nodes", splitter_nodes(words), words->numbers[2]);
+    same("places", splitter_places(words), words->numbers[9]);
+    if (splitter_live_frames(frames, places) > places || (splitter_main_returned(words) && words->deques[0] != 0)) {
         surprise("frames of random words");
     }
     struct splitter_totals totals;
     same("totals are there", splitter_get_totals(words, &totals), splitter_main_returned(words));
-    same("a total of random words", totals.addend, splitter_main_returned(words) ? word[8] : 0);
+    same("a total of random words", totals.addend, splitter_main_returned(words) ? words->numbers[8] : 0);
     for (uint32_t worker = 0; worker < SPLITTER_MAX_WORKERS + 2; worker++) {
-        in_bounds(words, worker);
-        in_bounds(words, any_word());
+        in_bounds(words, frames, places, worker);
+        in_bounds(words, frames, places, any_word());
     }
+    free(frames);
     free(words);
 }
 
@@ -166,10 +175,11 @@ static void random_pool(void) {
 /* A state without a run. */
 static void zeros(void) {
     static const struct splitter_state none;
+    static const struct splitter_frame nobody[PLACES];
     same("no workers", splitter_workers(&none), 0);
-    same("no live frames", splitter_live_frames(&none), 0);
+    same("no live frames", splitter_live_frames(nobody, PLACES), 0);
     same("no deque", splitter_deque_length(&none, 0), 0);
-    same("no bottom frame", splitter_bottom_depth(&none, 0), SPLITTER_NONE);
+    same("no bottom frame", splitter_bottom_depth(&none, nobody, PLACES, 0), SPLITTER_NONE);
     same("no run", splitter_main_returned(&none), 0);
     struct splitter_totals totals;
     same("no totals", splitter_get_totals(&none, &totals), 0);

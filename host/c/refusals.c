@@ -19,7 +19,7 @@ void show_tape(void) {
     splitter_put_record(at, SPLITTER_STEP_RETURN, 0, 0, 0);
 
     printf("\nTape: 2 workers, 5 splitters, 20 nodes\n");
-    lend(20);
+    lend(PLACES, 20);
     same("start", checked_start(&run, 2, values, 5), SPLITTER_OK);
     checked_tape(&run, tape, sizeof tape, answers, 2 * RECORDS);
     for (unsigned i = 0; i < RECORDS; i++) {
@@ -35,13 +35,17 @@ static void show(uint64_t answer, uint32_t wanted, const char *what) {
 }
 
 static void refused_starts(void) {
-    show(checked_start(&run, 2, factory_marks, 0), SPLITTER_BAD_VALUE_COUNT, "a start without values");
-    show(checked_start(&run, 9, factory_marks, BLOCKS), SPLITTER_BAD_WORKER_COUNT, "a start with 9 workers");
-    lend((unsigned)splitter_tree_nodes(BLOCKS) - 1);
-    show(checked_start(&run, 2, factory_marks, BLOCKS), SPLITTER_BAD_NODE_COUNT, "a start with a node too few");
+    show(checked_start(&run, 2, factory_marks(&small_card), 0), SPLITTER_BAD_VALUE_COUNT, "a start without values");
+    show(checked_start(&run, 9, factory_marks(&small_card), BLOCKS), SPLITTER_BAD_WORKER_COUNT, "a start with 9 workers");
+    lend(0, 20);
+    show(checked_start(&run, 2, factory_marks(&small_card), BLOCKS), SPLITTER_BAD_PLACE_COUNT, "a start without a frame table");
+    lend(PLACES + 1, 20);
+    show(checked_start(&run, 2, factory_marks(&small_card), BLOCKS), SPLITTER_BAD_PLACE_COUNT, "a start with 257 places");
+    lend(PLACES, (unsigned)splitter_tree_nodes(BLOCKS) - 1);
+    show(checked_start(&run, 2, factory_marks(&small_card), BLOCKS), SPLITTER_BAD_NODE_COUNT, "a start with a node too few");
 }
 
-/* Calls refused whole. Each leaves state and pool as they were, so the run goes on. */
+/* Calls refused whole. Each leaves state, table and pool as they were, so the run goes on. */
 static void refused_calls(void) {
     struct splitter_lent lent = run.lent;
     const uint8_t tape[SPLITTER_RECORD_BYTES] = {SPLITTER_STEP_SPAWN};
@@ -50,9 +54,13 @@ static void refused_calls(void) {
     lent.work_len -= 1;
     show(splitter_read(&lent, 0, 3), SPLITTER_SHORT_WORK, "a work slice with a word too few");
     lent = run.lent;
-    show(splitter_step(lent.state->numbers, SPLITTER_NUMBERS_WORDS, lent.state->deques, SPLITTER_DEQUES_WORDS,
-                       lent.state->frames, SPLITTER_FRAMES_WORDS - 1, lent.pool, lent.pool_len, lent.work, lent.work_len,
-                       SPLITTER_STEP_READ, 0, 3, 0), SPLITTER_BAD_STATE, "frames with a word too few");
+    show(splitter_step(lent.state->numbers, SPLITTER_NUMBERS_WORDS, lent.state->deques, SPLITTER_DEQUES_WORDS - 1,
+                       lent.frames, lent.places, lent.pool, lent.pool_len, lent.work, lent.work_len,
+                       SPLITTER_STEP_READ, 0, 3, 0), SPLITTER_BAD_STATE, "deques with a word too few");
+    lent.places -= 1;
+    show(splitter_read(&lent, 0, 3), SPLITTER_UNSOUND, "a table with a place less than at the start");
+    lent.places += 2;
+    show(splitter_read(&lent, 0, 3), SPLITTER_UNSOUND, "a table with a place more");
     run.lent.pool[0] ^= 1;
     show(splitter_read(&run.lent, 0, 3), SPLITTER_UNSOUND, "a bit of the pool has flipped");
     run.lent.pool[0] ^= 1;
@@ -61,9 +69,9 @@ static void refused_calls(void) {
 
 /* A refused save leaves the run. A refused reading leaves a state of zeros: the host reads another image, or this one in a better way. */
 static void refused_images(void) {
-    static uint8_t image[SPLITTER_IMAGE_BYTES(NODES)];
+    static uint8_t image[SPLITTER_IMAGE_BYTES(PLACES, NODES)];
     struct splitter_lent lent = run.lent;
-    const size_t len = (size_t)splitter_image_bytes(splitter_lent_nodes(&lent));
+    const size_t len = (size_t)splitter_image_bytes(splitter_lent_places(&lent), splitter_lent_nodes(&lent));
     show(splitter_lent_save(&lent, image, len - 1), SPLITTER_SHORT_TARGET, "a target with a byte too few");
     same("save", splitter_lent_save(&lent, image, sizeof image), SPLITTER_OK);
     show(splitter_lent_load(&lent, image, len - 1), SPLITTER_BAD_BLOCKS, "an image with a byte too few");
@@ -77,6 +85,9 @@ static void refused_images(void) {
     image[1] += 1;
     lent.pool_len -= SPLITTER_NODE_WORDS;
     show(splitter_lent_load(&lent, image, len), SPLITTER_UNSOUND, "an image read into a pool with a node too few");
+    lent = run.lent;
+    lent.places = 64;
+    show(splitter_lent_load(&lent, image, len), SPLITTER_UNSOUND, "an image of 256 places read into a table of 64");
     same("state of zeros", lent.state->numbers[SPLITTER_NUMBER_WORKERS], 0);
     same("load", splitter_lent_load(&run.lent, image, len), SPLITTER_OK);
     printf("    the image read as it was saved, block 3 reads %u\n", splitter_answer_number(checked_read(&run, 0, 3)));
@@ -124,7 +135,7 @@ static void full_frames(void) {
     while (splitter_answer_kind(answer) == SPLITTER_SPAWNED) {
         answer = checked_spawn(&run, 1);
     }
-    show(answer, SPLITTER_FRAMES_FULL, "64 frames, each the child of the one before, and one more");
+    show(answer, SPLITTER_FRAMES_FULL, "256 frames, each the child of the one before, and one more");
     checked_return(&run, 1);
     printf("    one has ended, the next spawn has depth %u\n", splitter_answer_number(checked_spawn(&run, 1)));
     do {
@@ -136,7 +147,7 @@ static void full_frames(void) {
 
 /* What 14 refused before: the frame waits as returning, and can do nothing more. Main has returned only when it has ended. */
 static void waiting_main(void) {
-    same("start", checked_start(&run, 2, factory_marks, BLOCKS), SPLITTER_OK);
+    same("start", checked_start(&run, 2, factory_marks(&small_card), BLOCKS), SPLITTER_OK);
     move_main();
     same("return", checked_return(&run, 1), splitter_answer(SPLITTER_RETURNED, SPLITTER_WAITS));
     printf("    Main returns while its child runs elsewhere: it waits\n");
@@ -150,8 +161,8 @@ static void waiting_main(void) {
 void show_refusals(void) {
     printf("\nRefusals\n");
     refused_starts();
-    lend((unsigned)splitter_tree_nodes(BLOCKS) + 5);
-    same("start", checked_start(&run, 2, factory_marks, BLOCKS), SPLITTER_OK);
+    lend(PLACES, (unsigned)splitter_tree_nodes(BLOCKS) + 5);
+    same("start", checked_start(&run, 2, factory_marks(&small_card), BLOCKS), SPLITTER_OK);
     refused_calls();
     refused_images();
     refused_steps();

@@ -6,9 +6,10 @@
 
 #include "splitter.h"
 
-enum { AT_ONCE = 4096, MOST_VALUES = 65535 };
+enum { AT_ONCE = 4096, PLACES = 64 /* as splitrun lends */, MOST_VALUES = 65535 };
 
 static struct splitter_state state;
+static struct splitter_frame table[PLACES];
 static uint32_t pool[(SPLITTER_MAX_NODES + 1u) * SPLITTER_NODE_WORDS], work[SPLITTER_MAX_NODES + 1u];
 static uint32_t values[MOST_VALUES + 1], answers[2 * AT_ONCE];
 static uint8_t records[AT_ONCE * SPLITTER_RECORD_BYTES];
@@ -63,7 +64,7 @@ int main(void) {
         values[i] = read_word("the initial values are cut short");
     }
     uint32_t lend = nodes <= SPLITTER_MAX_NODES ? nodes : SPLITTER_MAX_NODES + 1u; /* the library refuses one too many */
-    struct splitter_lent lent = {&state, pool, lend * SPLITTER_NODE_WORDS, work, lend};
+    struct splitter_lent lent = {&state, table, PLACES, pool, lend * SPLITTER_NODE_WORDS, work, lend};
     printf("%u %u %u\n", workers, n, nodes);
     uint32_t refused = splitter_lent_start(&lent, workers, values, n);
     if (refused != SPLITTER_OK) {

@@ -15,7 +15,7 @@
 enum { FIRST = 1, NEVER = 1000 };
 
 static void search_with(unsigned workers, unsigned nodes, enum syncs syncs, unsigned told_from) {
-    begin(workers, nodes, syncs, told_from == FIRST);
+    begin(&small_card, workers, PLACES, nodes, syncs, told_from == FIRST);
     while (!search.finished) {
         search.told = search.turn + 1 >= told_from;
         take_turns();
@@ -44,11 +44,30 @@ static void show_without_syncs(void) {
     search_with(WORKERS, 47, MAIN_SYNCS, 16);
 }
 
+/* A branch for each of 80 bad blocks, one below the other: a table of 64 places refuses one of them, and all below it are lost. */
+static void search_deep(unsigned workers, unsigned places, enum syncs syncs) {
+    begin(&large_card, workers, places, MOST_NODES, syncs, false);
+    while (!search.finished) {
+        take_turns();
+    }
+    printf("places %u: deepest frame %u, most live %u\n", places, search.deepest, search.most_live);
+    tell_result();
+}
+
+static void show_larger_card(void) {
+    printf("\nA larger card: %u bad blocks of %u, each with 2 spares of its own\n", large_card.bad_blocks, large_card.blocks);
+    search_deep(1, 64, ALL_SYNC);
+    search_deep(1, PLACES, ALL_SYNC);
+    search_deep(WORKERS, PLACES, ALL_SYNC);
+    search_deep(WORKERS, PLACES, NONE_SYNCS);
+}
+
 static void show_all(void) {
     printf("Search: bad blocks 3 and 9, spares 12 to 15\n");
     search_with(WORKERS, NODES, ALL_SYNC, FIRST);
     show_smaller_pools();
     show_without_syncs();
+    show_larger_card();
     show_tape();
     show_refusals();
 }

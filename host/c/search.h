@@ -6,14 +6,24 @@
 
 #include "checked.h"
 
-enum { BLOCKS = 16, NODES = 72, MOST_NODES = 96, WORKERS = 3, OWN_WORDS = 108 };
+enum { BLOCKS = 16, NODES = 72, MOST_NODES = 2048, PLACES = SPLITTER_MAX_PLACES, WORKERS = 3, OWN_WORDS = 108 };
 
-/* The run, its lent memory, and the blocks as the factory marked them. */
+/* A card: where its bad blocks are, which spares may stand for each, and the first block from which on all pass their erase test. */
+struct card {
+    unsigned blocks, bad_blocks, first_bad, bad_apart, spares, first_spare, spares_apart, strong, branches;
+};
+
+/* 16 blocks: the search that is told, saved and read back. 240 blocks, 80 of them bad: it needs more than 64 frames. */
+extern const struct card small_card, large_card;
+
+/* The blocks as the factory marked them. */
+const uint32_t *factory_marks(const struct card *card);
+
+/* The run and its lent memory. */
 extern struct checked run;
-extern const uint32_t factory_marks[BLOCKS];
 
-/* Lends the state, and pool and work for so many nodes, at most MOST_NODES. */
-void lend(unsigned nodes);
+/* Lends the state, a table of so many places, and pool and work for so many nodes, at most MOST_NODES. */
+void lend(unsigned places, unsigned nodes);
 
 /* Which branches sync before they return: all, Main alone, or none. The others return at once and wait as returning, as Cilk has it. */
 enum syncs { NONE_SYNCS, MAIN_SYNCS, ALL_SYNC };
@@ -22,13 +32,15 @@ enum syncs { NONE_SYNCS, MAIN_SYNCS, ALL_SYNC };
 struct search {
     bool told, finished;
     enum syncs syncs;
+    const struct card *card;
     unsigned workers, made, turn, waits, given_up, least_free, layouts, least_cost;
+    unsigned deepest, most_live; /* frames */
     const struct branch *best;
 };
 extern struct search search;
 
 /* Begins the search, takes a turn of each worker, prints what was found and what was folded. */
-void begin(unsigned workers, unsigned nodes, enum syncs syncs, bool told);
+void begin(const struct card *card, unsigned workers, unsigned places, unsigned nodes, enum syncs syncs, bool told);
 void take_turns(void);
 void tell_result(void);
 

@@ -66,10 +66,11 @@ static uint32_t read_newest(const char *folder) {
     return 0;
 }
 
-/* A pool of more nodes than the image has, full of garbage: no word of it may matter. */
+/* A table and a pool full of garbage, the pool of more nodes than the image has: no word of them may matter. */
 static void soil(unsigned more) {
-    lend(NODES + more);
+    lend(PLACES, NODES + more);
     memset(run.lent.state, 0x5a, sizeof *run.lent.state);
+    memset(run.lent.frames, 0x69, (size_t)run.lent.places * sizeof run.lent.frames[0]);
     memset(run.lent.pool, 0xa5, (size_t)run.lent.pool_len * sizeof run.lent.pool[0]);
     rest = 0xa5a5a5a5u;
     memset(run.lent.work, 0xc3, (size_t)run.lent.work_len * sizeof run.lent.work[0]);
@@ -87,7 +88,7 @@ void work_a_shift(const char *folder, unsigned turns, unsigned more) {
     uint32_t sequence = read_newest(folder);
     if (sequence == 0) {
         printf("    no image can be read: begins\n");
-        begin(WORKERS, NODES, ALL_SYNC, true);
+        begin(&small_card, WORKERS, PLACES, NODES, ALL_SYNC, true);
     }
     for (unsigned i = 0; i < turns && !search.finished; i++) {
         take_turns();

@@ -1,5 +1,5 @@
 /* How much stack a call takes: each runs on a painted stack of its own. Exit status 1 above splitter.h's SPLITTER_STACK_BYTES.
- * 256 splitters and 64 frames: the deepest walks and releases that there are. */
+ * 256 splitters and 256 frames: the deepest walks and releases that there are. */
 #define _XOPEN_SOURCE 700
 #include <stdio.h>
 #include <stdlib.h>
@@ -8,14 +8,15 @@
 
 #include "splitter.h"
 
-enum { NODES = 2048, PAINT = 0xa5, FRAMES = 64, RECORDS = 6 * FRAMES };
+enum { NODES = 4096, PAINT = 0xa5, FRAMES = SPLITTER_MAX_PLACES, RECORDS = 6 * FRAMES };
 
 static struct splitter_state state;
+static struct splitter_frame table[FRAMES];
 static uint32_t pool[NODES * SPLITTER_NODE_WORDS], work[NODES], values[SPLITTER_MAX_SPLITTERS];
-static const struct splitter_lent lent = {&state, pool, NODES * SPLITTER_NODE_WORDS, work, NODES};
+static const struct splitter_lent lent = {&state, table, FRAMES, pool, NODES * SPLITTER_NODE_WORDS, work, NODES};
 static uint8_t tape[RECORDS * SPLITTER_RECORD_BYTES];
 static uint32_t answers[2 * RECORDS];
-static uint8_t image[SPLITTER_IMAGE_BYTES(NODES)];
+static uint8_t image[SPLITTER_IMAGE_BYTES(FRAMES, NODES)];
 static uint32_t saved, loaded; /* what the calls answered */
 static unsigned char stack[1 << 17];
 

@@ -1,16 +1,17 @@
 /* Random runs through the archive, every answer compared with the plain machine's. Usage: stress [RUNS [SEED]].
  *
  * Beyond the answers: words around the state, past each other slice and past the last whole node never change; the work slice is zero
- * after each call; a refused call or step leaves state and pool as they were; a wrong count of holders, a wrong link to a sibling and a
- * total while Main lives are refused, and so is a part of the state with another length. The views of the frames in deques and the totals
- * are the plain machine's. Runs are saved and read back into garbage, and go on as the plain machine of that moment does. */
+ * after each call; a refused call or step leaves state, table and pool as they were; a wrong count of holders, a wrong link to a sibling,
+ * a total while Main lives and another table length are refused, and so is a part of the state with another length. The views of the
+ * frames in deques and the totals are the plain machine's. Runs in tables of any length begin in garbage; they are saved and read back
+ * into garbage, and go on as the plain machine of that moment does. */
 #include <stdio.h>
 #include <stdlib.h>
 #include <string.h>
 
 #include "checked.h"
 
-enum { NODES = 1024, GUARD = 3, STEPS = 300, RECORDS = 20 };
+enum { NODES = 1024, PLACES = SPLITTER_MAX_PLACES, GUARD = 3, STEPS = 300, RECORDS = 20 };
 #define GUARD_WORD 0xdeadbeefu
 
 static struct {
@@ -20,10 +21,11 @@ static struct {
 } guarded;
 static struct splitter_state *const state = &guarded.state;
 static struct splitter_state old_state;
+static struct splitter_frame table[PLACES + 1], old_table[PLACES + 1]; /* a record past the longest table stands guard */
 static uint32_t pool[NODES * SPLITTER_NODE_WORDS + GUARD], old_pool[NODES * SPLITTER_NODE_WORDS];
 static uint32_t work[NODES + GUARD], answers[2 * RECORDS + GUARD], values[SPLITTER_MAX_SPLITTERS];
 static struct checked run;
-static uint8_t image[SPLITTER_IMAGE_BYTES(NODES) + GUARD], spare[SPLITTER_IMAGE_BYTES(NODES)];
+static uint8_t image[SPLITTER_IMAGE_BYTES(PLACES, NODES) + GUARD], spare[SPLITTER_IMAGE_BYTES(PLACES, NODES)];
 static size_t image_len;         /* of the run's last save, or 0 */
 static struct plain saved_plain; /* the plain machine of that moment */
 static unsigned long counts[SPLITTER_FOLDED + 1];  /* by first answer word */
@@ -31,6 +33,7 @@ static unsigned long outcomes[SPLITTER_WAITS + 1]; /* of returns */
 static unsigned long chains[SPLITTER_WAITS + 1];   /* of those by which more than one frame ended */
 static unsigned long siblings; /* runs in which a frame had three live children or more at some time */
 static unsigned long totals;   /* runs whose totals were compared */
+static unsigned long full;     /* runs with a full table of more than 64 places */
 
 static uint32_t seed;
 
@@ -58,13 +61,12 @@ static void check_guard(const uint32_t *words, const char *what) {
 
 /* The view of a frame in a deque, in the library's place and in the plain machine's. */
 static void check_view(unsigned worker, unsigned i) {
-    uint32_t place = state->deques[worker * (1 + SPLITTER_MAX_FRAMES) + 1 + i];
-    const uint32_t *view = state->frames + place * SPLITTER_FRAME_RECORD_WORDS + SPLITTER_FRAME_VIEW_SUM;
+    const struct splitter_frame *frame = &table[state->deques[worker * (1 + SPLITTER_DEQUE_PLACES) + 1 + i]];
     const struct plain_view *wanted = &run.plain.frames[run.plain.deques[worker][i]].view;
-    same("view: sum", view[0], wanted->sum);
-    same("view: minimum", view[1], wanted->min);
-    same("view: multiplier", view[2], wanted->multiplier);
-    same("view: addend", view[3], wanted->addend);
+    same("view: sum", frame->view_sum, wanted->sum);
+    same("view: minimum", frame->view_min, wanted->min);
+    same("view: multiplier", frame->view_multiplier, wanted->multiplier);
+    same("view: addend", frame->view_addend, wanted->addend);
 }
 
 /* After every call: the views, and the totals once Main has returned. */
@@ -82,16 +84,30 @@ static void check_views(void) {
 
 static unsigned most_children(void) {
     unsigned most = 0;
-    for (const struct plain_frame *frame = run.plain.frames; frame < run.plain.frames + SPLITTER_MAX_FRAMES; frame++) {
+    for (const struct plain_frame *frame = run.plain.frames; frame < run.plain.frames + run.plain.places; frame++) {
         most = frame->live && frame->children > most ? frame->children : most;
     }
     return most;
+}
+
+static void soil_frames(unsigned from, unsigned end) {
+    memset(table + from, 0x96, (end - from) * sizeof table[0]);
+}
+
+/* The records past the lent table. */
+static void check_garbage_frames(unsigned from) {
+    for (unsigned place = from; place <= PLACES; place++) {
+        if (table[place].live != 0x96969696u || table[place].younger != 0x96969696u) {
+            surprise("a record past the table changed");
+        }
+    }
 }
 
 /* After every call. */
 static void check_memory(void) {
     check_guard(guarded.before, "words before the state changed");
     check_guard(guarded.after, "words past the state changed");
+    check_garbage_frames((unsigned)run.lent.places);
     check_guard(run.lent.pool + run.plain.nodes * SPLITTER_NODE_WORDS, "words past the last whole node changed");
     check_guard(run.lent.work + run.lent.work_len, "words past the work slice changed");
     for (size_t i = 0; i < run.lent.work_len; i++) {
@@ -108,12 +124,14 @@ static void soil_work(void) {
 
 static void remember(void) {
     old_state = *state;
+    memcpy(old_table, table, sizeof old_table);
     memcpy(old_pool, pool, sizeof old_pool);
 }
 
 static void check_unchanged(void) {
-    if (memcmp(&old_state, state, sizeof old_state) != 0 || memcmp(old_pool, pool, sizeof old_pool) != 0) {
-        surprise("a refused step changed state or pool");
+    if (memcmp(&old_state, state, sizeof old_state) != 0 || memcmp(old_table, table, sizeof old_table) != 0
+        || memcmp(old_pool, pool, sizeof old_pool) != 0) {
+        surprise("a refused step changed state, table or pool");
     }
 }
 
@@ -196,10 +214,11 @@ static void stress_refused(const struct splitter_lent *lent, uint32_t wanted) {
 }
 
 /* A word that is never sound with another bit: a count of holders and a link to a sibling, in use or free; a total, which is zero while
- * Main lives. */
+ * Main lives; the recorded length of the table. */
 static uint32_t *any_settled_word(void) {
-    switch (any(4)) {
-    case 0: return &state->frames[any(SPLITTER_MAX_FRAMES) * SPLITTER_FRAME_RECORD_WORDS + SPLITTER_FRAME_YOUNGER];
+    switch (any(5)) {
+    case 0: return &table[any(run.plain.places)].younger;
+    case 4: return &state->numbers[SPLITTER_NUMBER_PLACES];
     case 1: return &state->numbers[SPLITTER_NUMBER_TOTAL_SUM + any(4)];
     default: return &pool[any(run.plain.nodes) * SPLITTER_NODE_WORDS];
     }
@@ -213,15 +232,24 @@ static void stress_unsound(void) {
     *word ^= bit;
 }
 
+/* A table of another length than recorded. */
+static void stress_other_table(void) {
+    struct splitter_lent lent = run.lent;
+    lent.places = any(PLACES + 1);
+    lent.places += lent.places == run.lent.places ? 1 : 0;
+    soil_work();
+    stress_refused(&lent, SPLITTER_UNSOUND);
+}
+
 static void stress_short_work(void) {
     struct splitter_lent lent = run.lent;
     lent.work_len = any(run.plain.nodes);
     stress_refused(&lent, SPLITTER_SHORT_WORK);
 }
 
-/* State and pool are only read; the bytes past the image stay. */
+/* State, table and pool are only read; the bytes past the image stay. */
 static void stress_save(void) {
-    image_len = (size_t)splitter_image_bytes(run.plain.nodes);
+    image_len = (size_t)splitter_image_bytes(run.plain.places, run.plain.nodes);
     memset(image, 0x5a, sizeof image);
     soil_work();
     remember();
@@ -233,16 +261,17 @@ static void stress_save(void) {
     saved_plain = run.plain;
 }
 
-/* Whatever state and pool hold, the run is the saved one again. */
+/* Whatever state, table and pool hold, the run is the saved one again. */
 static void stress_load(void) {
     memset(state, 0xa5, sizeof *state);
+    soil_frames(0, run.plain.places);
     memset(pool, 0xa5, run.plain.nodes * SPLITTER_NODE_WORDS * sizeof pool[0]);
     soil_work();
     same("load", splitter_lent_load(&run.lent, image, image_len), SPLITTER_OK);
     run.plain = saved_plain;
 }
 
-/* A bit of the image or of its length is wrong: a state of zeros, and the pool as it was. Then the right image. */
+/* A bit of the image or of its length is wrong: a state of zeros, and table and pool as they were. Then the right image. */
 static void stress_bad_image(void) {
     static const struct splitter_state zeros;
     size_t len = image_len;
@@ -251,7 +280,8 @@ static void stress_bad_image(void) {
     if (any(2) == 0) {
         len = any((uint32_t)image_len);
     } else {
-        spare[SPLITTER_BLOCK_BYTES + any((uint32_t)image_len - SPLITTER_BLOCK_BYTES)] ^= (uint8_t)(1u << any(8));
+        size_t from = SPLITTER_BLOCK_BYTES - 4; /* the first block's check; its data tell how long the image is */
+        spare[from + any((uint32_t)(image_len - from))] ^= (uint8_t)(1u << any(8));
     }
     uint32_t wanted = len < image_len ? SPLITTER_BAD_BLOCKS : SPLITTER_BAD_CHECK;
     same("bad image", splitter_lent_load(&run.lent, spare, len), wanted);
@@ -265,7 +295,7 @@ static void stress_bad_image(void) {
 }
 
 static void stress_short_target(void) {
-    size_t len = any((uint32_t)splitter_image_bytes(run.plain.nodes));
+    size_t len = any((uint32_t)splitter_image_bytes(run.plain.places, run.plain.nodes));
     memset(spare, 0x5a, sizeof spare);
     soil_work();
     remember();
@@ -287,20 +317,21 @@ static void stress_image(void) {
 }
 
 /* The five calls over parts of these lengths, one of them wrong; other refusals' conditions may hold as well. */
-static void call_bad_state(uint32_t *const parts[3], const size_t lengths[3]) {
+static void call_bad_state(uint32_t *const parts[2], const size_t lengths[2]) {
     const uint8_t tape[SPLITTER_RECORD_BYTES] = {0};
     uint32_t words[2] = {GUARD_WORD, GUARD_WORD};
     const struct splitter_lent *lent = &run.lent;
+    const splitter_len places = any(PLACES + 2);
     struct step s = any_step();
-    same("start", splitter_start(parts[0], lengths[0], parts[1], lengths[1], parts[2], lengths[2],
+    same("start", splitter_start(parts[0], lengths[0], parts[1], lengths[1], table, places,
                                  any(10), values, any(3), lent->pool, lent->pool_len), SPLITTER_BAD_STATE);
-    same("step", splitter_step(parts[0], lengths[0], parts[1], lengths[1], parts[2], lengths[2], lent->pool, lent->pool_len,
+    same("step", splitter_step(parts[0], lengths[0], parts[1], lengths[1], table, places, lent->pool, lent->pool_len,
                                lent->work, any(2), s.kind, s.worker, s.field, s.value), SPLITTER_BAD_STATE);
-    same("tape", splitter_tape(parts[0], lengths[0], parts[1], lengths[1], parts[2], lengths[2], lent->pool, lent->pool_len,
+    same("tape", splitter_tape(parts[0], lengths[0], parts[1], lengths[1], table, places, lent->pool, lent->pool_len,
                                lent->work, any(2), tape, 7 + any(2), words, any(3)), SPLITTER_BAD_STATE);
-    same("save", splitter_save(parts[0], lengths[0], parts[1], lengths[1], parts[2], lengths[2], lent->pool, lent->pool_len,
+    same("save", splitter_save(parts[0], lengths[0], parts[1], lengths[1], table, places, lent->pool, lent->pool_len,
                                lent->work, any(2), image, any(2)), SPLITTER_BAD_STATE);
-    same("load", splitter_load(parts[0], lengths[0], parts[1], lengths[1], parts[2], lengths[2], lent->pool, lent->pool_len,
+    same("load", splitter_load(parts[0], lengths[0], parts[1], lengths[1], table, places, lent->pool, lent->pool_len,
                                lent->work, any(2), image, image_len - any(2) * (image_len > 0)), SPLITTER_BAD_STATE);
     if (words[0] != GUARD_WORD || words[1] != GUARD_WORD) {
         surprise("a refused tape changed its answers");
@@ -310,10 +341,10 @@ static void call_bad_state(uint32_t *const parts[3], const size_t lengths[3]) {
 
 /* Any other length of a part, shorter or longer: nothing changes. */
 static void stress_bad_state(void) {
-    static uint32_t longer[SPLITTER_FRAMES_WORDS + GUARD]; /* apart, for slices must not overlap; always zero */
-    uint32_t *parts[3] = {state->numbers, state->deques, state->frames};
-    size_t lengths[3] = {SPLITTER_NUMBERS_WORDS, SPLITTER_DEQUES_WORDS, SPLITTER_FRAMES_WORDS};
-    unsigned part = any(3);
+    static uint32_t longer[SPLITTER_DEQUES_WORDS + GUARD]; /* apart, for slices must not overlap; always zero */
+    uint32_t *parts[2] = {state->numbers, state->deques};
+    size_t lengths[2] = {SPLITTER_NUMBERS_WORDS, SPLITTER_DEQUES_WORDS};
+    unsigned part = any(2);
     if (any(2) == 0) {
         lengths[part] = any((uint32_t)lengths[part]);
     } else {
@@ -332,7 +363,7 @@ static void stress_bad_state(void) {
 
 static void stress_call(void) {
     switch (any(40)) {
-    case 0: stress_unsound(); break;
+    case 0: any(4) != 0 ? stress_unsound() : stress_other_table(); break;
     case 1: stress_short_work(); break;
     case 2: stress_bad_state(); break;
     case 3:
@@ -342,23 +373,51 @@ static void stress_call(void) {
     }
 }
 
+/* A table of 0 places or one too many: a state of zeros, and table and pool as they were. */
+static void stress_refused_start(unsigned n) {
+    static const struct splitter_state zeros;
+    splitter_len places = run.lent.places;
+    remember();
+    old_state = zeros;
+    run.lent.places = any(2) * (PLACES + 1);
+    same("places", checked_start(&run, 1 + any(SPLITTER_MAX_WORKERS), values, n), SPLITTER_BAD_PLACE_COUNT);
+    check_unchanged();
+    counts[SPLITTER_BAD_PLACE_COUNT] += 1;
+    run.lent.places = places;
+}
+
+/* Worker 0 spawns until the table is full. */
+static void fill_table(void) {
+    while (splitter_answer_kind(checked_spawn(&run, 0)) == SPLITTER_SPAWNED) {
+    }
+    same("a full table", run.plain.live, run.plain.places);
+    same("the last place", table[run.plain.places - 1].depth, run.plain.places - 1);
+    full += run.plain.places > 64;
+}
+
 static void stress_run(void) {
     unsigned n = 1 + any(any(4) == 0 ? SPLITTER_MAX_SPLITTERS : 20);
     unsigned tree = (unsigned)splitter_tree_nodes(n);
     unsigned nodes = tree + any(any(2) == 0 ? 3 * tree : NODES - tree + 1);
     nodes = nodes < NODES ? nodes : NODES;
-    struct splitter_lent lent = {state, pool, nodes * SPLITTER_NODE_WORDS + any(4), work, nodes};
+    unsigned places = 1 + any(any(2) == 0 ? 8 : PLACES);
+    struct splitter_lent lent = {state, table, places, pool, nodes * SPLITTER_NODE_WORDS + any(4), work, nodes};
     run.lent = lent;
     for (unsigned i = 0; i < n; i++) {
         values[i] = any(5);
     }
     memset(work, 0, sizeof work);
     image_len = 0;
+    soil_frames(0, PLACES + 1);
     guard(guarded.before);
     guard(guarded.after);
     guard(pool + nodes * SPLITTER_NODE_WORDS);
     guard(work + lent.work_len);
+    stress_refused_start(n);
     same("start", checked_start(&run, 1 + any(SPLITTER_MAX_WORKERS), values, n), SPLITTER_OK);
+    if (any(8) == 0) {
+        fill_table();
+    }
     unsigned most = 0;
     for (unsigned i = 0; i < STEPS && run.plain.live > 0; i++) {
         stress_call();
@@ -388,8 +447,8 @@ static void check_outcomes(void) {
             exit(1);
         }
     }
-    if (siblings == 0 || totals == 0) {
-        surprise("no run had three live siblings, or none came to its end");
+    if (siblings == 0 || totals == 0 || full == 0) {
+        surprise("no run had three live siblings, more than 64 frames or an end");
     }
 }
 
@@ -397,7 +456,7 @@ static void check_outcomes(void) {
 static unsigned long count_answers(void) {
     unsigned long sum = 0;
     for (uint32_t kind = SPLITTER_SHORT_WORK; kind <= SPLITTER_FOLDED; kind++) {
-        int comes = (kind <= SPLITTER_UNKNOWN_REDUCER && kind != 14) || kind == SPLITTER_BAD_STATE || kind >= SPLITTER_SPAWNED;
+        int comes = (kind <= SPLITTER_BAD_PLACE_COUNT && kind != 14) || kind == SPLITTER_BAD_STATE || kind >= SPLITTER_SPAWNED;
         if (comes && counts[kind] == 0) {
             printf("never answered: %u (%s)\n", kind, splitter_name(kind));
             exit(1);
@@ -413,8 +472,8 @@ int main(int argc, char **argv) {
     for (unsigned long i = 0; i < runs; i++) {
         stress_run();
     }
-    printf("stress: %lu random runs, %lu answers, each as the plain machine gives it; three live siblings in %lu runs, totals of %lu\n",
-           runs, count_answers(), siblings, totals);
+    printf("stress: %lu random runs, %lu answers, each as the plain machine gives it; three live siblings in %lu runs, totals of %lu, full "
+           "tables of more than 64 places in %lu\n", runs, count_answers(), siblings, totals, full);
     check_outcomes();
     return 0;
 }

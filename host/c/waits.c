@@ -1,19 +1,16 @@
 /* Returns with a live child (document 02, R-3): how they wait, when they end, and where the ends stop. Every answer is also the plain
- * machine's. A chain of 63 waiting frames, the longest that there is, ends by one return. */
+ * machine's. A chain of 255 waiting frames, the longest that there is, ends by one return. */
 #include <stdio.h>
 #include <string.h>
 
 #include "checked.h"
 
-enum { NODES = 1024, WORKERS = SPLITTER_MAX_WORKERS, SPLITTERS = 64, LAST = SPLITTER_MAX_FRAMES - 1 };
+enum { NODES = 4096, PLACES = SPLITTER_MAX_PLACES, WORKERS = SPLITTER_MAX_WORKERS, SPLITTERS = 256, LAST = PLACES - 1 };
 
 static struct splitter_state state;
+static struct splitter_frame table[PLACES];
 static uint32_t pool[NODES * SPLITTER_NODE_WORDS], work[NODES], values[SPLITTERS];
-static struct checked run = {.lent = {&state, pool, NODES * SPLITTER_NODE_WORDS, work, NODES}};
-
-static uint32_t *frame(unsigned place) {
-    return state.frames + place * SPLITTER_FRAME_RECORD_WORDS;
-}
+static struct checked run = {.lent = {&state, table, PLACES, pool, NODES * SPLITTER_NODE_WORDS, work, NODES}};
 
 static void begin(void) {
     for (uint32_t i = 0; i < SPLITTERS; i++) {
@@ -59,13 +56,11 @@ static void check_free_nodes(void) {
 /* The chain of free places has these first, then the others rising; all but the link is zero. The last freed is the first. */
 static void check_free_places(const uint32_t *places, unsigned len) {
     uint32_t place = state.numbers[SPLITTER_NUMBER_FREE_FRAME];
-    for (unsigned i = 0; i < SPLITTER_MAX_FRAMES; i++) {
+    for (unsigned i = 0; i < PLACES; i++) {
         same("free place", place, i < len ? places[i] : i);
-        const uint32_t *words = frame(place);
-        for (unsigned word = 0; word < SPLITTER_FRAME_RECORD_WORDS; word++) {
-            same("free record", word == SPLITTER_FRAME_PARENT ? 0 : words[word], 0);
-        }
-        place = words[SPLITTER_FRAME_PARENT];
+        const struct splitter_frame free = {.parent = table[place].parent};
+        same("free record", (uint64_t)memcmp(&table[place], &free, sizeof free), 0);
+        place = free.parent;
     }
     same("end of the chain of places", place, UINT32_MAX);
 }
@@ -78,20 +73,21 @@ static void build_chain(void) {
         checked_write(&run, 0, i, i);
         fork_to(0, thief);
         returns(thief, SPLITTER_WAITS);
-        same("suspended", frame(i)[SPLITTER_FRAME_WAITING], 1);
-        same("returning", frame(i)[SPLITTER_FRAME_RETURNING], 1);
+        same("suspended", table[i].waiting, 1);
+        same("returning", table[i].returning, 1);
         refused("the worker of a waiting frame", checked_read(&run, thief, 0), SPLITTER_WORKER_HAS_NO_FRAME);
         refused("a deque of one", checked_steal(&run, thief, 0), SPLITTER_NOTHING_TO_STEAL);
     }
-    refused("64 frames live", checked_spawn(&run, 0), SPLITTER_FRAMES_FULL);
-    same("depth", frame(LAST)[SPLITTER_FRAME_DEPTH], LAST);
+    refused("256 frames live", checked_spawn(&run, 0), SPLITTER_FRAMES_FULL);
+    same("depth", table[LAST].depth, LAST);
 }
 
 /* The whole chain in an image: saved, read over garbage, saved again. */
 static void save_and_load(void) {
-    static uint8_t image[SPLITTER_IMAGE_BYTES(NODES)], again[SPLITTER_IMAGE_BYTES(NODES)];
+    static uint8_t image[SPLITTER_IMAGE_BYTES(PLACES, NODES)], again[SPLITTER_IMAGE_BYTES(PLACES, NODES)];
     same("save", splitter_lent_save(&run.lent, image, sizeof image), SPLITTER_OK);
     memset(&state, 0xa5, sizeof state);
+    memset(table, 0xa5, sizeof table);
     memset(pool, 0xa5, sizeof pool);
     same("load", splitter_lent_load(&run.lent, image, sizeof image), SPLITTER_OK);
     same("save", splitter_lent_save(&run.lent, again, sizeof again), SPLITTER_OK);
@@ -101,7 +97,7 @@ static void save_and_load(void) {
 /* Another word in the seventh place, or a 1 where the frame is not suspended or not live, is unsound. A 1 or 0 on a suspended frame is
  * either kind of waiting: both are sound. */
 static void unsound(unsigned place, uint32_t word) {
-    uint32_t *returning = frame(place) + SPLITTER_FRAME_RETURNING, old = *returning;
+    uint32_t *returning = &table[place].returning, old = *returning;
     *returning = word;
     refused("a seventh word", splitter_read(&run.lent, 0, 0), SPLITTER_UNSOUND);
     *returning = old;
@@ -112,9 +108,9 @@ static void unsound_words(void) {
     unsound(LAST - 1, UINT32_MAX);
     unsound(LAST, 1);
     unsound(LAST, 256);
-    frame(5)[SPLITTER_FRAME_WAITING] = 0;
+    table[5].waiting = 0;
     refused("returning and not suspended", splitter_read(&run.lent, 0, 0), SPLITTER_UNSOUND);
-    frame(5)[SPLITTER_FRAME_WAITING] = 1;
+    table[5].waiting = 1;
 }
 
 static void chain(void) {
@@ -163,7 +159,7 @@ static void stops_below_others(void) {
     fork_to(3, 4); /* and on worker 4: two children elsewhere */
     returns(4, SPLITTER_WAITS);
     returns(1, SPLITTER_BECAME_IDLE);
-    same("Main waits", frame(0)[SPLITTER_FRAME_RETURNING], 1);
+    same("Main waits", table[0].returning, 1);
     returns(3, SPLITTER_FINISHED);
     check_free_nodes();
     check_free_places(freed, 3);

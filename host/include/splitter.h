@@ -2,26 +2,31 @@
  * docs/FORMATS.md has the bytes of tapes and images, the state's words, and every refusal with its condition, in order.
  *
  * The library keeps nothing between calls, allocates nothing and calls no system function: all it reads and writes is the memory
- * that a call lends. A slice is a pointer and its length in elements (words of 32 bits, or bytes). The slices of one call must not
- * overlap. One call at a time may use a state and its pool: locking is the host's.
+ * that a call lends. A slice is a pointer and its length in elements (words of 32 bits, frame records, or bytes). The slices of one call
+ * must not overlap. One call at a time may use a state, its table and its pool: locking is the host's.
  *
  * NULL: the exported functions take none, also not with length 0, and a pointer is aligned for its elements. The calls over struct
  * splitter_state and struct splitter_lent take NULL for an empty slice: a call that needs more is refused, whatever length was given
- * (values 1, pool 3 or 6, answers and tape 4, work 5, image 17, target 19). State and struct must be there.
+ * (values 1, table 21 or 6, pool 3 or 6, answers and tape 4, work 5, image 17, target 19). State and struct must be there.
  *
  * Memory to lend, and its owner is always the host:
- *   state     three slices, the members of struct splitter_state: numbers, deques, frames. A call changes them in place; what they hold
+ *   state     two slices, the members of struct splitter_state: numbers, deques; 8,264 bytes. A call changes them in place; what they hold
  *             between calls is the engine's. Each must have just its length, or the call is refused (SPLITTER_BAD_STATE).
+ *   table     an array of struct splitter_frame, 1 to SPLITTER_MAX_PLACES places: as many frames can live at a time. 48 bytes a place,
+ *             3 KiB for 64, 12 KiB for 256. A call changes the records where they are and makes no copy of the table. A start takes it
+ *             whatever it holds and records its length; every later call of the run gets the same table with the same length.
  *   pool      SPLITTER_NODE_WORDS words for each node, T(n) to SPLITTER_MAX_NODES nodes: splitter_tree_nodes(n) gives T(n). A frame's
  *             view is a tree of T(n) nodes, and frames share what neither has written since the spawn. A spawn takes no node. On the path
  *             to its splitter, a write alters in place the nodes that only its frame has; from the first shared one on, the rest is new.
- *   work      a word for each node of the pool, for the check of state and pool; the words are zero afterwards.
+ *   work      a word for each node of the pool, for the check of state, table and pool; the words are zero afterwards.
  *   answers   two words for each record of a tape.
- *   target    the bytes of an image, to save a run in: splitter_image_bytes(nodes), SPLITTER_IMAGE_BYTES(nodes) for an array.
+ *   target    the bytes of an image, to save a run in: splitter_image_bytes(places, nodes), SPLITTER_IMAGE_BYTES(places, nodes) for an
+ *             array.
  *
- * Order of calls: splitter_start or splitter_load, then any of splitter_step, splitter_tape and splitter_save, each with the state and the
- * pool as the call before left them. Every call checks what it is handed: state and pool that are not sound are refused
- * (SPLITTER_UNSOUND), not used. A foreign change that leaves them sound, such as another value in a leaf, cannot be seen.
+ * Order of calls: splitter_start or splitter_load, then any of splitter_step, splitter_tape and splitter_save, each with the state, the
+ * table and the pool as the call before left them. Every call checks what it is handed: what is not sound is refused (SPLITTER_UNSOUND),
+ * not used, and so is a table of another length than recorded. A foreign change that leaves all sound, such as another value in a leaf,
+ * cannot be seen.
  *
  * A return with a live child is no mistake: the frame waits for its children and ends when the last of them ends (SPLITTER_WAITS). So a
  * frame that has nothing to do after its children needs no sync.
@@ -30,12 +35,13 @@
  * fold takes a value into one of them. Nobody reads a reducer while Main lives. Once Main has returned, splitter_get_totals gives the
  * totals: the values folded by all frames, in the order in which one worker would have folded them, whatever was stolen.
  *
- * An image is a whole run between two calls: its state and its pool's nodes, the same bytes on every machine. splitter_load goes on from
- * it, in another process or on another day, as at the save; what came after the save is forgotten. The host's own part of the search is
+ * An image is a whole run between two calls: its state, its table and its pool's nodes, the same bytes on every machine. splitter_load goes
+ * on from it, in another process or on another day, as at the save, in a table of as many places; what came after the save is forgotten.
+ * The table's length is the image's word SPLITTER_NUMBER_PLACES, bytes 36 to 39, little-endian. The host's own part of the search is
  * not in it. Each block has a check, a sum: it finds a changed byte, but not blocks that changed places, nor words that did within a
  * block. Such an image is read if it is sound. A host that needs more keeps a sequence number and a CRC of its own around the image
- * (docs/INTEGRATION.md, host/c/kept.c). A save writes version 2: the workers plus 512 in the first word, twelve words to a frame record.
- * A reading takes no other: images from before, of versions 0 and 1, are refused by SPLITTER_BAD_BLOCKS.
+ * (docs/INTEGRATION.md, host/c/kept.c). A save writes version 3: the workers plus 768 in the first word, and as many records and deque
+ * places as the table has. A reading takes no other: images from before, of versions 0 to 2, are refused by SPLITTER_BAD_BLOCKS.
  *
  * The eight functions are the library. Below them are inline helpers: the same calls over struct splitter_state and over struct
  * splitter_lent, a call for each kind of step, queries, records, texts. A host needs no others than those over struct splitter_lent.
@@ -71,33 +77,49 @@ typedef uint64_t splitter_len;
 #endif
 
 #define SPLITTER_NONE 4294967295u       /* none, where a place or a number could be */
-#define SPLITTER_NUMBERS_WORDS 9u       /* SPLITTER_NUMBER_WORKERS to SPLITTER_NUMBER_TOTAL_ADDEND */
-#define SPLITTER_DEQUES_WORDS 520u      /* for each of 8 workers its deque's length, then 64 places for its frames from the top */
-#define SPLITTER_FRAMES_WORDS 768u      /* 64 records of SPLITTER_FRAME_RECORD_WORDS words */
-#define SPLITTER_FRAME_RECORD_WORDS 12u /* SPLITTER_FRAME_LIVE to SPLITTER_FRAME_YOUNGER */
+#define SPLITTER_NUMBERS_WORDS 10u      /* SPLITTER_NUMBER_WORKERS to SPLITTER_NUMBER_PLACES */
+#define SPLITTER_DEQUE_PLACES 256u      /* of each worker's deque, whatever the table's length */
+#define SPLITTER_DEQUES_WORDS 2056u     /* for each of 8 workers its deque's length, then SPLITTER_DEQUE_PLACES places from the top */
+#define SPLITTER_FRAME_RECORD_WORDS 12u /* of struct splitter_frame */
 #define SPLITTER_NODE_WORDS 4u
 #define SPLITTER_MAX_NODES 16384u
 #define SPLITTER_MAX_SPLITTERS 256u
 #define SPLITTER_MAX_WORKERS 8u
-#define SPLITTER_MAX_FRAMES 64u
+#define SPLITTER_MAX_PLACES 256u        /* of a frame table */
 #define SPLITTER_REDUCERS 3u            /* SPLITTER_REDUCER_SUM to SPLITTER_REDUCER_AFFINE */
 #define SPLITTER_RECORD_BYTES 8u
 #define SPLITTER_BLOCK_BYTES 512u       /* of an image: data, then a check of 4 bytes */
 #define SPLITTER_BLOCK_WORDS 127u       /* of a block's data */
-#define SPLITTER_IMAGE_VERSION 512u     /* added to the workers in an image's first word */
+#define SPLITTER_IMAGE_VERSION 768u     /* added to the workers in an image's first word */
 #define SPLITTER_STACK_BYTES 2048u      /* a call takes at most this much stack; measured (host/c/stack.c, make cross-test) */
 
-/* splitter_image_bytes as a constant, to size an array: for 0 to SPLITTER_MAX_NODES nodes. */
-#define SPLITTER_STATE_WORDS (SPLITTER_NUMBERS_WORDS + SPLITTER_DEQUES_WORDS + SPLITTER_FRAMES_WORDS)
-#define SPLITTER_IMAGE_WORDS(nodes) (SPLITTER_STATE_WORDS + SPLITTER_NODE_WORDS * (size_t)(nodes))
-#define SPLITTER_IMAGE_BYTES(nodes) \
-    ((SPLITTER_IMAGE_WORDS(nodes) + SPLITTER_BLOCK_WORDS - 1u) / SPLITTER_BLOCK_WORDS * SPLITTER_BLOCK_BYTES)
+/* splitter_image_bytes as a constant, to size an array: for 0 to SPLITTER_MAX_PLACES places and 0 to SPLITTER_MAX_NODES nodes. */
+#define SPLITTER_IMAGE_WORDS(places, nodes) \
+    (SPLITTER_NUMBERS_WORDS + SPLITTER_MAX_WORKERS + (SPLITTER_MAX_WORKERS + SPLITTER_FRAME_RECORD_WORDS) * (size_t)(places) \
+     + SPLITTER_NODE_WORDS * (size_t)(nodes))
+#define SPLITTER_IMAGE_BYTES(places, nodes) \
+    ((SPLITTER_IMAGE_WORDS(places, nodes) + SPLITTER_BLOCK_WORDS - 1u) / SPLITTER_BLOCK_WORDS * SPLITTER_BLOCK_BYTES)
 
-/* The state of a run. The calls write it; a host may read and copy it. */
+/* The state of a run. The calls write it; a host may read and copy it, together with its table and its pool. */
 struct splitter_state {
     uint32_t numbers[SPLITTER_NUMBERS_WORDS];
     uint32_t deques[SPLITTER_DEQUES_WORDS];
-    uint32_t frames[SPLITTER_FRAMES_WORDS];
+};
+
+/* A record of the frame table, in the order of an image's words. In a free place all but the parent is zero. None is SPLITTER_NONE. */
+struct splitter_frame {
+    uint32_t live;            /* 1, or 0 in a free place */
+    uint32_t parent;          /* the parent's place, none for Main; in a free place the next free one, or none */
+    uint32_t depth;
+    uint32_t outstanding;     /* its live children */
+    uint32_t waiting;         /* 1 on a suspended frame: it waits, at a sync or as returning; else 0 */
+    uint32_t root;            /* the root of its tree in the pool */
+    uint32_t returning;       /* 1 on a suspended frame that waits as returning, else 0 */
+    uint32_t view_sum;        /* this and the next three: what was folded and has come to this frame */
+    uint32_t view_min;
+    uint32_t view_multiplier;
+    uint32_t view_addend;
+    uint32_t younger;         /* the place of the next younger live child of the same parent, or none */
 };
 
 /* The places of the numbers. None is SPLITTER_NONE. */
@@ -110,23 +132,8 @@ enum {
     SPLITTER_NUMBER_TOTAL_SUM = 5,  /* this and the next three: the totals once Main has returned, zero while it lives */
     SPLITTER_NUMBER_TOTAL_MIN = 6,
     SPLITTER_NUMBER_TOTAL_MULTIPLIER = 7,
-    SPLITTER_NUMBER_TOTAL_ADDEND = 8
-};
-
-/* The words of a frame record. All but the second are zero in a free place. */
-enum {
-    SPLITTER_FRAME_LIVE = 0,        /* 1, or 0 in a free place */
-    SPLITTER_FRAME_PARENT = 1,      /* the parent's place, none for Main; in a free place the next free one, or none */
-    SPLITTER_FRAME_DEPTH = 2,
-    SPLITTER_FRAME_OUTSTANDING = 3, /* its live children */
-    SPLITTER_FRAME_WAITING = 4,     /* 1 on a suspended frame: it waits, at a sync or as returning; else 0 */
-    SPLITTER_FRAME_ROOT = 5,        /* the root of its tree in the pool */
-    SPLITTER_FRAME_RETURNING = 6,   /* 1 on a suspended frame that waits as returning, else 0 */
-    SPLITTER_FRAME_VIEW_SUM = 7,    /* this and the next three: what was folded and has come to this frame */
-    SPLITTER_FRAME_VIEW_MIN = 8,
-    SPLITTER_FRAME_VIEW_MULTIPLIER = 9,
-    SPLITTER_FRAME_VIEW_ADDEND = 10,
-    SPLITTER_FRAME_YOUNGER = 11     /* the place of the next younger live child of the same parent, or none */
+    SPLITTER_NUMBER_TOTAL_ADDEND = 8,
+    SPLITTER_NUMBER_PLACES = 9      /* the recorded length of the frame table */
 };
 
 /* Kinds of steps: a record's first byte, and splitter_step's kind. */
@@ -176,41 +183,44 @@ enum {
     SPLITTER_SUSPENDED = 1 /* the frame waits for its children; its worker is idle */
 };
 
-/* Refusals, all below 100. Of a whole call: nothing has changed but the work slice's words (zero), the state after a start refused by 1, 2
- * or 3 and after a reading refused by 17, 18, 5 or 6 (zeros), and the pool's whole nodes after a reading refused by 6 (zeros). */
+/* Refusals, all below 100. Of a whole call: nothing has changed but the work slice's words (zero), the state after a start refused by 1, 2,
+ * 21 or 3 and after a reading refused by 17, 18, 5 or 6 (zeros), and every record of the lent table and the pool's whole nodes after a
+ * reading refused by 6 (zeros). */
 enum {
     SPLITTER_BAD_VALUE_COUNT = 1,      /* start: 0 or more than 256 initial values */
     SPLITTER_BAD_WORKER_COUNT = 2,     /* start: 0 or more than 8 workers */
+    SPLITTER_BAD_PLACE_COUNT = 21,     /* start: the table has 0 or more than 256 places; after 2 */
     SPLITTER_BAD_NODE_COUNT = 3,       /* start: the pool has fewer than T(n) or more than 16,384 nodes */
     SPLITTER_BAD_TAPE = 4,             /* tape: not a multiple of 8 bytes, or fewer than two answer words for each record */
     SPLITTER_SHORT_WORK = 5,           /* the work slice has fewer words than the state's nodes, or than the image's */
-    SPLITTER_UNSOUND = 6,              /* state and pool are not sound, or the image's are not; a reading: the pool has fewer nodes than
-                                        * the image */
-    /* Of one step or record: state and pool are as they were. */
+    SPLITTER_UNSOUND = 6,              /* state, table and pool are not sound, or the image's are not; the table has another length than
+                                        * recorded; a reading: the pool has fewer nodes than the image */
+    /* Of one step or record: state, table and pool are as they were. */
     SPLITTER_BAD_RECORD = 7,           /* the kind is not 1 to 7, or an unused field is not zero */
     SPLITTER_UNKNOWN_WORKER = 8,       /* the worker does not exist */
     SPLITTER_RUN_IS_OVER = 9,          /* Main has returned: it has ended, and no frame lives */
     SPLITTER_WORKER_HAS_NO_FRAME = 10, /* not a steal, and the worker is idle */
     SPLITTER_THIEF_BUSY = 11,          /* a steal, and the thief is not idle */
     SPLITTER_NOTHING_TO_STEAL = 12,    /* a steal, and the victim does not exist or has fewer than two frames */
-    SPLITTER_FRAMES_FULL = 13,         /* a spawn, and 64 frames live */
+    SPLITTER_FRAMES_FULL = 13,         /* a spawn, and as many frames live as the table has places */
     /* 14 no longer comes: such a return is accepted, SPLITTER_WAITS. */
     SPLITTER_UNKNOWN_SPLITTER = 15,    /* a read or write, and the splitter is not below n */
     SPLITTER_UNKNOWN_REDUCER = 20,     /* a fold, and the reducer is not below SPLITTER_REDUCERS; in the place of 15 */
     SPLITTER_POOL_FULL = 16,           /* a write, and fewer nodes are free than the shared rest of its path has */
     /* Of a reading, before 5 and 6, and of a save, after 6. */
     SPLITTER_BAD_BLOCKS = 17,          /* the image is not just as many whole blocks as its first block calls for, has no whole block, or
-                                        * its first word is not 512 to 767: a version that this library does not read */
+                                        * its first word is not 768 to 1,023: a version that this library does not read */
     SPLITTER_BAD_CHECK = 18,           /* a check is wrong or the rest of the last block is not zero */
     SPLITTER_SHORT_TARGET = 19,        /* the target is too short */
     /* Of the interface, before all others: a part of the state has another length than it must have; nothing at all has changed. */
     SPLITTER_BAD_STATE = 99
 };
 
-/* Begins a run with n = values_len splitters. SPLITTER_OK, or a refusal: 99, 1, 2, 3. */
+/* Begins a run with n = values_len splitters in a table of so many places, whatever state, table and pool hold. SPLITTER_OK, or a refusal:
+ * 99, 1, 2, 21, 3. Refused by 99 nothing has changed; refused by another, the state is zero, table and pool are as they were. */
 uint32_t splitter_start(uint32_t *SPLITTER_RESTRICT numbers, splitter_len numbers_len,
                         uint32_t *SPLITTER_RESTRICT deques, splitter_len deques_len,
-                        uint32_t *SPLITTER_RESTRICT frames, splitter_len frames_len,
+                        struct splitter_frame *SPLITTER_RESTRICT frames, splitter_len places,
                         uint32_t workers,
                         const uint32_t *SPLITTER_RESTRICT values, splitter_len values_len,
                         uint32_t *SPLITTER_RESTRICT pool, splitter_len pool_len);
@@ -220,7 +230,7 @@ uint32_t splitter_start(uint32_t *SPLITTER_RESTRICT numbers, splitter_len number
  * high half the second. */
 uint64_t splitter_step(uint32_t *SPLITTER_RESTRICT numbers, splitter_len numbers_len,
                        uint32_t *SPLITTER_RESTRICT deques, splitter_len deques_len,
-                       uint32_t *SPLITTER_RESTRICT frames, splitter_len frames_len,
+                       struct splitter_frame *SPLITTER_RESTRICT frames, splitter_len places,
                        uint32_t *SPLITTER_RESTRICT pool, splitter_len pool_len,
                        uint32_t *SPLITTER_RESTRICT work, splitter_len work_len,
                        uint32_t kind, uint32_t worker, uint32_t field, uint32_t value);
@@ -229,34 +239,34 @@ uint64_t splitter_step(uint32_t *SPLITTER_RESTRICT numbers, splitter_len numbers
  * each record, or a refusal: 99, 4, 5, 6. A refused record gives its refusal and 0, and the tape goes on. */
 uint32_t splitter_tape(uint32_t *SPLITTER_RESTRICT numbers, splitter_len numbers_len,
                        uint32_t *SPLITTER_RESTRICT deques, splitter_len deques_len,
-                       uint32_t *SPLITTER_RESTRICT frames, splitter_len frames_len,
+                       struct splitter_frame *SPLITTER_RESTRICT frames, splitter_len places,
                        uint32_t *SPLITTER_RESTRICT pool, splitter_len pool_len,
                        uint32_t *SPLITTER_RESTRICT work, splitter_len work_len,
                        const uint8_t *SPLITTER_RESTRICT tape, splitter_len tape_len,
                        uint32_t *SPLITTER_RESTRICT answers, splitter_len answers_len);
 
-/* Saves the run: its image, of version 2, in the front of the target. State and pool are only read. SPLITTER_OK, or a refusal: 99, 5, 6,
- * 19; then nothing has changed but the work slice. Target bytes past the image never change. */
+/* Saves the run: its image, of version 3, in the front of the target. State, table and pool are only read. SPLITTER_OK, or a refusal: 99,
+ * 5, 6, 19; then nothing has changed but the work slice. Target bytes past the image never change. */
 uint32_t splitter_save(const uint32_t *SPLITTER_RESTRICT numbers, splitter_len numbers_len,
                        const uint32_t *SPLITTER_RESTRICT deques, splitter_len deques_len,
-                       const uint32_t *SPLITTER_RESTRICT frames, splitter_len frames_len,
+                       const struct splitter_frame *SPLITTER_RESTRICT frames, splitter_len places,
                        const uint32_t *SPLITTER_RESTRICT pool, splitter_len pool_len,
                        uint32_t *SPLITTER_RESTRICT work, splitter_len work_len,
                        uint8_t *SPLITTER_RESTRICT target, splitter_len target_len);
 
-/* Reads an image of just image_len bytes, of version 2, whatever state and pool hold. SPLITTER_OK, and the run goes on
- * as at its save, or a refusal: 99, 17, 18, 5, 6. Refused by 99 nothing has changed. Refused by another, the three parts of the state are
- * zero, and by 6 every whole node of the pool too. The pool may be longer than the image's nodes: pool words past these never change but
- * by 6. */
+/* Reads an image of just image_len bytes, of version 3, whatever state, table and pool hold. SPLITTER_OK, and the run goes on as at its
+ * save, or a refusal: 99, 17, 18, 5, 6. The table must have the image's length. Refused by 99 nothing has changed. Refused by another, the
+ * state is zero, and by 6 every record of the lent table and every whole node of the pool too. The pool may be longer than the image's
+ * nodes: pool words past these never change but by 6. */
 uint32_t splitter_load(uint32_t *SPLITTER_RESTRICT numbers, splitter_len numbers_len,
                        uint32_t *SPLITTER_RESTRICT deques, splitter_len deques_len,
-                       uint32_t *SPLITTER_RESTRICT frames, splitter_len frames_len,
+                       struct splitter_frame *SPLITTER_RESTRICT frames, splitter_len places,
                        uint32_t *SPLITTER_RESTRICT pool, splitter_len pool_len,
                        uint32_t *SPLITTER_RESTRICT work, splitter_len work_len,
                        const uint8_t *SPLITTER_RESTRICT image, splitter_len image_len);
 
-/* The bytes of an image that a save writes, of so many nodes, for any number of them: whole blocks. */
-uint64_t splitter_image_bytes(uint32_t nodes);
+/* The bytes of an image that a save writes, of so many places and nodes, for any numbers: whole blocks. */
+uint64_t splitter_image_bytes(uint32_t places, uint32_t nodes);
 
 /* T(n): the nodes that one full view of n splitters takes, the least that a pool can have. The sum over the tree's levels for any n, 0
  * for 0; a start takes 1 to SPLITTER_MAX_SPLITTERS splitters. */
@@ -298,58 +308,68 @@ static inline splitter_len splitter_slice_len(const void *slice, splitter_len le
 }
 
 /* The calls over a whole state: SPLITTER_BAD_STATE never comes. The library is handed an address also of an empty slice. */
-static inline uint32_t splitter_state_start(struct splitter_state *state, uint32_t workers,
-                                            const uint32_t *values, splitter_len values_len, uint32_t *pool, splitter_len pool_len) {
+static inline uint32_t splitter_state_start(struct splitter_state *state, struct splitter_frame *frames, splitter_len places,
+                                            uint32_t workers, const uint32_t *values, splitter_len values_len,
+                                            uint32_t *pool, splitter_len pool_len) {
+    struct splitter_frame record = {0, 0, 0, 0, 0, 0, 0, 0, 0, 0, 0, 0};
     uint32_t word = 0;
     return splitter_start(state->numbers, SPLITTER_NUMBERS_WORDS, state->deques, SPLITTER_DEQUES_WORDS,
-                          state->frames, SPLITTER_FRAMES_WORDS, workers,
+                          frames != NULL ? frames : &record, splitter_slice_len(frames, places), workers,
                           values != NULL ? values : &word, splitter_slice_len(values, values_len),
                           pool != NULL ? pool : &word, splitter_slice_len(pool, pool_len));
 }
 
-static inline uint64_t splitter_state_step(struct splitter_state *state, uint32_t *pool, splitter_len pool_len,
+static inline uint64_t splitter_state_step(struct splitter_state *state, struct splitter_frame *frames, splitter_len places,
+                                           uint32_t *pool, splitter_len pool_len,
                                            uint32_t *work, splitter_len work_len,
                                            uint32_t kind, uint32_t worker, uint32_t field, uint32_t value) {
+    struct splitter_frame record = {0, 0, 0, 0, 0, 0, 0, 0, 0, 0, 0, 0};
     uint32_t word = 0;
     return splitter_step(state->numbers, SPLITTER_NUMBERS_WORDS, state->deques, SPLITTER_DEQUES_WORDS,
-                         state->frames, SPLITTER_FRAMES_WORDS,
+                         frames != NULL ? frames : &record, splitter_slice_len(frames, places),
                          pool != NULL ? pool : &word, splitter_slice_len(pool, pool_len),
                          work != NULL ? work : &word, splitter_slice_len(work, work_len), kind, worker, field, value);
 }
 
-static inline uint32_t splitter_state_tape(struct splitter_state *state, uint32_t *pool, splitter_len pool_len,
+static inline uint32_t splitter_state_tape(struct splitter_state *state, struct splitter_frame *frames, splitter_len places,
+                                           uint32_t *pool, splitter_len pool_len,
                                            uint32_t *work, splitter_len work_len,
                                            const uint8_t *tape, splitter_len tape_len, uint32_t *answers, splitter_len answers_len) {
+    struct splitter_frame record = {0, 0, 0, 0, 0, 0, 0, 0, 0, 0, 0, 0};
     uint32_t word = 0;
     uint8_t byte = 0;
     if (tape == NULL && tape_len != 0) {
         return SPLITTER_BAD_TAPE;
     }
     return splitter_tape(state->numbers, SPLITTER_NUMBERS_WORDS, state->deques, SPLITTER_DEQUES_WORDS,
-                         state->frames, SPLITTER_FRAMES_WORDS,
+                         frames != NULL ? frames : &record, splitter_slice_len(frames, places),
                          pool != NULL ? pool : &word, splitter_slice_len(pool, pool_len),
                          work != NULL ? work : &word, splitter_slice_len(work, work_len),
                          tape != NULL ? tape : &byte, splitter_slice_len(tape, tape_len),
                          answers != NULL ? answers : &word, splitter_slice_len(answers, answers_len));
 }
 
-static inline uint32_t splitter_state_save(const struct splitter_state *state, const uint32_t *pool, splitter_len pool_len,
+static inline uint32_t splitter_state_save(const struct splitter_state *state, const struct splitter_frame *frames, splitter_len places,
+                                           const uint32_t *pool, splitter_len pool_len,
                                            uint32_t *work, splitter_len work_len, uint8_t *target, splitter_len target_len) {
+    struct splitter_frame record = {0, 0, 0, 0, 0, 0, 0, 0, 0, 0, 0, 0};
     uint32_t word = 0;
     uint8_t byte = 0;
     return splitter_save(state->numbers, SPLITTER_NUMBERS_WORDS, state->deques, SPLITTER_DEQUES_WORDS,
-                         state->frames, SPLITTER_FRAMES_WORDS,
+                         frames != NULL ? frames : &record, splitter_slice_len(frames, places),
                          pool != NULL ? pool : &word, splitter_slice_len(pool, pool_len),
                          work != NULL ? work : &word, splitter_slice_len(work, work_len),
                          target != NULL ? target : &byte, splitter_slice_len(target, target_len));
 }
 
-static inline uint32_t splitter_state_load(struct splitter_state *state, uint32_t *pool, splitter_len pool_len,
+static inline uint32_t splitter_state_load(struct splitter_state *state, struct splitter_frame *frames, splitter_len places,
+                                           uint32_t *pool, splitter_len pool_len,
                                            uint32_t *work, splitter_len work_len, const uint8_t *image, splitter_len image_len) {
+    struct splitter_frame record = {0, 0, 0, 0, 0, 0, 0, 0, 0, 0, 0, 0};
     uint32_t word = 0;
     uint8_t byte = 0;
     return splitter_load(state->numbers, SPLITTER_NUMBERS_WORDS, state->deques, SPLITTER_DEQUES_WORDS,
-                         state->frames, SPLITTER_FRAMES_WORDS,
+                         frames != NULL ? frames : &record, splitter_slice_len(frames, places),
                          pool != NULL ? pool : &word, splitter_slice_len(pool, pool_len),
                          work != NULL ? work : &word, splitter_slice_len(work, work_len),
                          image != NULL ? image : &byte, splitter_slice_len(image, image_len));
@@ -360,9 +380,11 @@ static inline uint64_t splitter_state_free_nodes(const struct splitter_state *st
     return splitter_free_nodes(state->numbers, SPLITTER_NUMBERS_WORDS, pool != NULL ? pool : &word, splitter_slice_len(pool, pool_len));
 }
 
-/* What a host lends to every call of a run: lengths are in words. */
+/* What a host lends to every call of a run. places is the length of its array of frame records; the other lengths are in words. */
 struct splitter_lent {
     struct splitter_state *state;
+    struct splitter_frame *frames;
+    splitter_len places;
     uint32_t *pool;
     splitter_len pool_len;
     uint32_t *work;
@@ -372,26 +394,29 @@ struct splitter_lent {
 /* The calls over lent memory, then one for each kind of step. */
 static inline uint32_t splitter_lent_start(const struct splitter_lent *lent, uint32_t workers,
                                            const uint32_t *values, splitter_len values_len) {
-    return splitter_state_start(lent->state, workers, values, values_len, lent->pool, lent->pool_len);
+    return splitter_state_start(lent->state, lent->frames, lent->places, workers, values, values_len, lent->pool, lent->pool_len);
 }
 
 static inline uint64_t splitter_lent_step(const struct splitter_lent *lent, uint32_t kind, uint32_t worker, uint32_t field,
                                           uint32_t value) {
-    return splitter_state_step(lent->state, lent->pool, lent->pool_len, lent->work, lent->work_len, kind, worker, field, value);
+    return splitter_state_step(lent->state, lent->frames, lent->places, lent->pool, lent->pool_len, lent->work, lent->work_len,
+                               kind, worker, field, value);
 }
 
 static inline uint32_t splitter_lent_tape(const struct splitter_lent *lent, const uint8_t *tape, splitter_len tape_len,
                                           uint32_t *answers, splitter_len answers_len) {
-    return splitter_state_tape(lent->state, lent->pool, lent->pool_len, lent->work, lent->work_len,
+    return splitter_state_tape(lent->state, lent->frames, lent->places, lent->pool, lent->pool_len, lent->work, lent->work_len,
                                tape, tape_len, answers, answers_len);
 }
 
 static inline uint32_t splitter_lent_save(const struct splitter_lent *lent, uint8_t *target, splitter_len target_len) {
-    return splitter_state_save(lent->state, lent->pool, lent->pool_len, lent->work, lent->work_len, target, target_len);
+    return splitter_state_save(lent->state, lent->frames, lent->places, lent->pool, lent->pool_len, lent->work, lent->work_len,
+                               target, target_len);
 }
 
 static inline uint32_t splitter_lent_load(const struct splitter_lent *lent, const uint8_t *image, splitter_len image_len) {
-    return splitter_state_load(lent->state, lent->pool, lent->pool_len, lent->work, lent->work_len, image, image_len);
+    return splitter_state_load(lent->state, lent->frames, lent->places, lent->pool, lent->pool_len, lent->work, lent->work_len,
+                               image, image_len);
 }
 
 static inline uint64_t splitter_lent_free_nodes(const struct splitter_lent *lent) {
@@ -431,8 +456,8 @@ static inline uint32_t splitter_affine(uint16_t multiplier, uint16_t addend) {
     return (uint32_t)multiplier << 16 | addend;
 }
 
-/* Queries over a state. They read its words and call nothing; lock as for a call. Of a state that is not sound each gives some number, and
- * none reads outside of it. Before a start, in a state of zeros, all give 0, SPLITTER_NONE or false. */
+/* Queries over a state, or its table. They read words and call nothing; lock as for a call. Of what is not sound each gives some number,
+ * and none reads outside of it. Before a start, with state and table zero, all give 0, SPLITTER_NONE or false. */
 static inline uint32_t splitter_workers(const struct splitter_state *state) {
     return state->numbers[SPLITTER_NUMBER_WORKERS];
 }
@@ -446,36 +471,39 @@ static inline uint32_t splitter_nodes(const struct splitter_state *state) {
     return state->numbers[SPLITTER_NUMBER_NODES];
 }
 
-/* The live frames, those that wait among them: 0 to SPLITTER_MAX_FRAMES. */
-static inline uint32_t splitter_live_frames(const struct splitter_state *state) {
+/* The recorded length of the frame table: the most frames that can live. */
+static inline uint32_t splitter_places(const struct splitter_state *state) {
+    return state->numbers[SPLITTER_NUMBER_PLACES];
+}
+
+/* The live frames of a table, those that wait among them: 0 to its places. */
+static inline uint32_t splitter_live_frames(const struct splitter_frame *frames, splitter_len places) {
     uint32_t live = 0;
-    for (uint32_t place = 0; place < SPLITTER_MAX_FRAMES; place++) {
-        live += state->frames[place * SPLITTER_FRAME_RECORD_WORDS + SPLITTER_FRAME_LIVE] != 0 ? 1u : 0u;
+    for (splitter_len place = 0; place < splitter_slice_len(frames, places); place++) {
+        live += frames[place].live != 0 ? 1u : 0u;
     }
     return live;
 }
 
-/* The frames in the worker's deque, 0 to SPLITTER_MAX_FRAMES: 0 if it is idle or does not exist; from 2 on it can be stolen from. */
+/* The frames in the worker's deque, 0 to SPLITTER_DEQUE_PLACES: 0 if it is idle or does not exist; from 2 on it can be stolen from. */
 static inline uint32_t splitter_deque_length(const struct splitter_state *state, uint32_t worker) {
     uint32_t length;
     if (worker >= SPLITTER_MAX_WORKERS) {
         return 0;
     }
-    length = state->deques[worker * (1u + SPLITTER_MAX_FRAMES)];
-    return length < SPLITTER_MAX_FRAMES ? length : SPLITTER_MAX_FRAMES;
+    length = state->deques[worker * (1u + SPLITTER_DEQUE_PLACES)];
+    return length < SPLITTER_DEQUE_PLACES ? length : SPLITTER_DEQUE_PLACES;
 }
 
 /* The depth of the frame that the worker executes, or SPLITTER_NONE if it is idle or does not exist. */
-static inline uint32_t splitter_bottom_depth(const struct splitter_state *state, uint32_t worker) {
+static inline uint32_t splitter_bottom_depth(const struct splitter_state *state, const struct splitter_frame *frames, splitter_len places,
+                                             uint32_t worker) {
     uint32_t length = splitter_deque_length(state, worker), place;
     if (length == 0) {
         return SPLITTER_NONE;
     }
-    place = state->deques[worker * (1u + SPLITTER_MAX_FRAMES) + length];
-    if (place >= SPLITTER_MAX_FRAMES) {
-        return SPLITTER_NONE;
-    }
-    return state->frames[place * SPLITTER_FRAME_RECORD_WORDS + SPLITTER_FRAME_DEPTH];
+    place = state->deques[worker * (1u + SPLITTER_DEQUE_PLACES) + length];
+    return place < splitter_slice_len(frames, places) ? frames[place].depth : SPLITTER_NONE;
 }
 
 /* Has Main returned? Then a run was started and no worker has a frame: steps are refused by SPLITTER_RUN_IS_OVER. */
@@ -517,8 +545,12 @@ static inline uint32_t splitter_lent_nodes(const struct splitter_lent *lent) {
     return splitter_nodes(lent->state);
 }
 
+static inline uint32_t splitter_lent_places(const struct splitter_lent *lent) {
+    return splitter_places(lent->state);
+}
+
 static inline uint32_t splitter_lent_live_frames(const struct splitter_lent *lent) {
-    return splitter_live_frames(lent->state);
+    return splitter_live_frames(lent->frames, lent->places);
 }
 
 static inline uint32_t splitter_lent_deque_length(const struct splitter_lent *lent, uint32_t worker) {
@@ -526,7 +558,7 @@ static inline uint32_t splitter_lent_deque_length(const struct splitter_lent *le
 }
 
 static inline uint32_t splitter_lent_bottom_depth(const struct splitter_lent *lent, uint32_t worker) {
-    return splitter_bottom_depth(lent->state, worker);
+    return splitter_bottom_depth(lent->state, lent->frames, lent->places, worker);
 }
 
 static inline bool splitter_lent_main_returned(const struct splitter_lent *lent) {
@@ -563,17 +595,18 @@ static inline const char *splitter_name(uint32_t number) {
     case SPLITTER_FOLDED: return "folded";
     case SPLITTER_BAD_VALUE_COUNT: return "0 or more than 256 initial values";
     case SPLITTER_BAD_WORKER_COUNT: return "0 or more than 8 workers";
+    case SPLITTER_BAD_PLACE_COUNT: return "0 or more than 256 places in the frame table";
     case SPLITTER_BAD_NODE_COUNT: return "too few or too many nodes in the pool";
     case SPLITTER_BAD_TAPE: return "not whole records, or too few answer words";
     case SPLITTER_SHORT_WORK: return "the work slice is too short";
-    case SPLITTER_UNSOUND: return "state and pool are not sound";
+    case SPLITTER_UNSOUND: return "state, table and pool are not sound";
     case SPLITTER_BAD_RECORD: return "no such kind, or an unused field is not zero";
     case SPLITTER_UNKNOWN_WORKER: return "no such worker";
     case SPLITTER_RUN_IS_OVER: return "Main has returned";
     case SPLITTER_WORKER_HAS_NO_FRAME: return "the worker is idle";
     case SPLITTER_THIEF_BUSY: return "the thief is not idle";
     case SPLITTER_NOTHING_TO_STEAL: return "the victim has no frame to steal";
-    case SPLITTER_FRAMES_FULL: return "64 frames live";
+    case SPLITTER_FRAMES_FULL: return "every place of the frame table is taken";
     case SPLITTER_UNKNOWN_SPLITTER: return "no such splitter";
     case SPLITTER_UNKNOWN_REDUCER: return "no such reducer";
     case SPLITTER_POOL_FULL: return "too few free nodes";

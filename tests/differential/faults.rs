@@ -205,8 +205,15 @@ pub const FAULTS: &[Fault] = &[
         name: "depth_limit",
         says: "13 is tested by depth instead of live frames",
         file: "machine.rs",
-        rule: "self.frames.len() == MAX_LIVE_FRAMES",
+        rule: "self.frames.len() == self.places",
         fault: "self.frames.values().any(|f| f.depth == 63)",
+    },
+    Fault {
+        name: "a_place_more",
+        says: "13 comes a frame later than the table has places",
+        file: "machine.rs",
+        rule: "self.frames.len() == self.places",
+        fault: "self.frames.len() == self.places + 1",
     },
     Fault {
         name: "suspended_not_counted",
@@ -339,8 +346,8 @@ pub const FAULTS: &[Fault] = &[
         name: "waiting_not_in_13",
         says: "waiting frames are not counted for 13",
         file: "machine.rs",
-        rule: "self.frames.len() == MAX_LIVE_FRAMES",
-        fault: "self.frames.values().filter(|f| !f.returning).count() == MAX_LIVE_FRAMES",
+        rule: "self.frames.len() == self.places",
+        fault: "self.frames.values().filter(|f| !f.returning).count() == self.places",
     },
     Fault {
         name: "waiting_child_ended",

@@ -44,22 +44,24 @@ static void call(FILE *file, uint32_t entry, unsigned long number)
         slice[i] = block(file, length[i] * 4);
         after[i] = block(file, length[i] * 4);
     }
+    struct splitter_frame *frames = (struct splitter_frame *)slice[FRAMES];
+    size_t places = length[FRAMES] / SPLITTER_FRAME_RECORD_WORDS;
     uint64_t got = 0;
     if (entry == 1)
-        got = splitter_start(slice[NUMBERS], length[NUMBERS], slice[DEQUES], length[DEQUES], slice[FRAMES], length[FRAMES],
+        got = splitter_start(slice[NUMBERS], length[NUMBERS], slice[DEQUES], length[DEQUES], frames, places,
                              argument[0], value, values, slice[POOL], length[POOL]);
     else if (entry == 2)
-        got = splitter_step(slice[NUMBERS], length[NUMBERS], slice[DEQUES], length[DEQUES], slice[FRAMES], length[FRAMES],
+        got = splitter_step(slice[NUMBERS], length[NUMBERS], slice[DEQUES], length[DEQUES], frames, places,
                             slice[POOL], length[POOL], slice[WORK], length[WORK],
                             argument[0], argument[1], argument[2], argument[3]);
     else if (entry == 3)
-        got = splitter_tape(slice[NUMBERS], length[NUMBERS], slice[DEQUES], length[DEQUES], slice[FRAMES], length[FRAMES],
+        got = splitter_tape(slice[NUMBERS], length[NUMBERS], slice[DEQUES], length[DEQUES], frames, places,
                             slice[POOL], length[POOL], slice[WORK], length[WORK], byte, bytes, slice[ANSWERS], length[ANSWERS]);
     else if (entry == 4)
-        got = splitter_save(slice[NUMBERS], length[NUMBERS], slice[DEQUES], length[DEQUES], slice[FRAMES], length[FRAMES],
+        got = splitter_save(slice[NUMBERS], length[NUMBERS], slice[DEQUES], length[DEQUES], frames, places,
                             slice[POOL], length[POOL], slice[WORK], length[WORK], byte, bytes);
     else if (entry == 5)
-        got = splitter_load(slice[NUMBERS], length[NUMBERS], slice[DEQUES], length[DEQUES], slice[FRAMES], length[FRAMES],
+        got = splitter_load(slice[NUMBERS], length[NUMBERS], slice[DEQUES], length[DEQUES], frames, places,
                             slice[POOL], length[POOL], slice[WORK], length[WORK], byte, bytes);
     else
         stop("no such entry", number);

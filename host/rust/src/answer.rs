@@ -48,14 +48,17 @@ pub enum Refusal {
     BadValueCount,
     /// At a start, 0 or more than 8 workers.
     BadWorkerCount,
+    /// At a start, a frame table of 0 or more than 256 places.
+    BadPlaceCount,
     /// At a start, a pool of fewer than T(n) or more than 16,384 nodes.
     BadNodeCount,
     /// A tape that is not a multiple of 8 bytes, or fewer than two answer words for each record.
     BadTape,
     /// Fewer words in the work slice than nodes in the state or the image.
     ShortWork,
-    /// State and pool are not sound: somebody else wrote to them, or there was no start. Of a reading: the
-    /// image's are not, or the pool has fewer nodes than the image.
+    /// State, table and pool are not sound: somebody else wrote to them, or there was no start. Or the table has
+    /// another length than recorded. Of a reading: the image's are not sound, or the pool has fewer nodes than
+    /// the image.
     Unsound,
     /// A record whose kind is not 1 to 7, or with an unused field that is not zero. No
     /// [`Step`](crate::Step) makes one.
@@ -70,7 +73,7 @@ pub enum Refusal {
     ThiefBusy,
     /// The victim does not exist or has fewer than two frames.
     NothingToSteal,
-    /// A spawn while 64 frames live.
+    /// A spawn while as many frames live as the table has places.
     FramesFull,
     /// The splitter is not below n.
     UnknownSplitter,
@@ -79,7 +82,7 @@ pub enum Refusal {
     /// A write while fewer nodes are free than the shared rest of its path has.
     PoolFull,
     /// An image that is not just as many whole blocks as its first block calls for, has no whole block, or
-    /// whose first word is not 512 to 767: a form that this library does not read.
+    /// whose first word is not 768 to 1,023: a form that this library does not read.
     BadBlocks,
     /// An image with a wrong check, or with a rest of its last block that is not zero.
     BadCheck,
@@ -96,26 +99,27 @@ pub enum Refusal {
 pub type Answer = Result<Done, Refusal>;
 
 /// The known refusals, with their numbers and texts.
-const REFUSALS: [(Refusal, u32, &str); 20] = [
+const REFUSALS: [(Refusal, u32, &str); 21] = [
     (Refusal::BadValueCount, 1, "0 or more than 256 initial values"),
     (Refusal::BadWorkerCount, 2, "0 or more than 8 workers"),
     (Refusal::BadNodeCount, 3, "too few or too many nodes in the pool"),
     (Refusal::BadTape, 4, "not whole records, or too few answer words"),
     (Refusal::ShortWork, 5, "the work slice is too short"),
-    (Refusal::Unsound, 6, "state and pool are not sound"),
+    (Refusal::Unsound, 6, "state, table and pool are not sound"),
     (Refusal::BadRecord, 7, "no such kind, or an unused field is not zero"),
     (Refusal::UnknownWorker, 8, "no such worker"),
     (Refusal::RunIsOver, 9, "Main has returned"),
     (Refusal::WorkerHasNoFrame, 10, "the worker is idle"),
     (Refusal::ThiefBusy, 11, "the thief is not idle"),
     (Refusal::NothingToSteal, 12, "the victim has no frame to steal"),
-    (Refusal::FramesFull, 13, "64 frames live"),
+    (Refusal::FramesFull, 13, "every place of the frame table is taken"),
     (Refusal::UnknownSplitter, 15, "no such splitter"),
     (Refusal::PoolFull, 16, "too few free nodes"),
     (Refusal::BadBlocks, 17, "the image is not just as many whole blocks as it calls for, or of no readable form"),
     (Refusal::BadCheck, 18, "a check is wrong or the rest of the last block is not zero"),
     (Refusal::ShortTarget, 19, "the target is too short"),
     (Refusal::UnknownReducer, 20, "no such reducer"),
+    (Refusal::BadPlaceCount, 21, "0 or more than 256 places in the frame table"),
     (Refusal::BadState, 99, "a part of the state has another length than it must have"),
 ];
 

@@ -1,15 +1,17 @@
 //! Safe binding of libsplitter.a: splitters over stolen work. `host/include/splitter.h` describes
 //! the library.
 //!
-//! The host lends all memory: a [`State`], a pool of [`NODE_WORDS`] words for each node, and a work
-//! slice of a word for each node. The library checks every call, so whatever
+//! The host lends all memory: a [`State`], a table of 1 to 256 [`Frame`]s, a pool of [`NODE_WORDS`] words
+//! for each node, and a work slice of a word for each node. As many frames can live as the table has places,
+//! 48 bytes each; a call changes the records where they are. The library checks every call, so whatever
 //! the lent words hold, a call is safe; one that it cannot use is refused.
 //!
 //! ```
-//! use splitter::{Engine, Returned, State, Synced, NODE_WORDS};
+//! use splitter::{Engine, Frame, Returned, State, Synced, NODE_WORDS};
 //!
-//! let (mut state, mut pool, mut work) = (State::ZERO, [0; 20 * NODE_WORDS], [0; 20]);
-//! let mut engine = Engine { state: &mut state, pool: &mut pool, work: &mut work };
+//! let (mut state, mut table) = (State::ZERO, [Frame::ZERO; 64]);
+//! let (mut pool, mut work) = ([0; 20 * NODE_WORDS], [0; 20]);
+//! let mut engine = Engine { state: &mut state, frames: &mut table, pool: &mut pool, work: &mut work };
 //! engine.start(2, &[10, 20, 30, 40, 50])?;
 //! engine.spawn(0)?;
 //! engine.steal(1, 0)?; // worker 1 takes the parent
@@ -24,10 +26,11 @@
 //! A return needs no sync before it: a frame with a live child waits, and ends with its last child.
 //!
 //! ```
-//! use splitter::{Engine, Returned, State, NODE_WORDS};
+//! use splitter::{Engine, Frame, Returned, State, NODE_WORDS};
 //!
-//! let (mut state, mut pool, mut work) = (State::ZERO, [0; 20 * NODE_WORDS], [0; 20]);
-//! let mut engine = Engine { state: &mut state, pool: &mut pool, work: &mut work };
+//! let (mut state, mut table) = (State::ZERO, [Frame::ZERO; 64]);
+//! let (mut pool, mut work) = ([0; 20 * NODE_WORDS], [0; 20]);
+//! let mut engine = Engine { state: &mut state, frames: &mut table, pool: &mut pool, work: &mut work };
 //! engine.start(2, &[10, 20, 30, 40, 50])?;
 //! engine.spawn(0)?;
 //! engine.steal(1, 0)?;
@@ -36,17 +39,18 @@
 //! # Ok::<(), splitter::Refusal>(())
 //! ```
 //!
-//! The state tells what the run is at, without a call:
+//! State and table tell what the run is at, without a call:
 //!
 //! ```
-//! use splitter::{Engine, State, NODE_WORDS};
+//! use splitter::{Engine, Frame, State, NODE_WORDS};
 //!
-//! let (mut state, mut pool, mut work) = (State::ZERO, [0; 20 * NODE_WORDS], [0; 20]);
-//! let mut engine = Engine { state: &mut state, pool: &mut pool, work: &mut work };
+//! let (mut state, mut table) = (State::ZERO, [Frame::ZERO; 64]);
+//! let (mut pool, mut work) = ([0; 20 * NODE_WORDS], [0; 20]);
+//! let mut engine = Engine { state: &mut state, frames: &mut table, pool: &mut pool, work: &mut work };
 //! engine.start(2, &[10, 20, 30, 40, 50])?;
 //! engine.spawn(0)?;
-//! assert_eq!((engine.state.live_frames(), engine.state.deque_length(0)), (2, 2));
-//! assert_eq!((engine.state.bottom_depth(0), engine.state.bottom_depth(1)), (Some(1), None));
+//! assert_eq!((engine.live_frames(), engine.state.places(), engine.state.deque_length(0)), (2, 64, 2));
+//! assert_eq!((engine.bottom_depth(0), engine.bottom_depth(1)), (Some(1), None));
 //! assert!(!engine.state.main_returned());
 //! # Ok::<(), splitter::Refusal>(())
 //! ```
@@ -55,10 +59,11 @@
 //! stolen:
 //!
 //! ```
-//! use splitter::{affine, Engine, Reducer, Returned, State, Totals, NODE_WORDS};
+//! use splitter::{affine, Engine, Frame, Reducer, Returned, State, Totals, NODE_WORDS};
 //!
-//! let (mut state, mut pool, mut work) = (State::ZERO, [0; 20 * NODE_WORDS], [0; 20]);
-//! let mut engine = Engine { state: &mut state, pool: &mut pool, work: &mut work };
+//! let (mut state, mut table) = (State::ZERO, [Frame::ZERO; 64]);
+//! let (mut pool, mut work) = ([0; 20 * NODE_WORDS], [0; 20]);
+//! let mut engine = Engine { state: &mut state, frames: &mut table, pool: &mut pool, work: &mut work };
 //! engine.start(2, &[10, 20, 30, 40, 50])?;
 //! engine.spawn(0)?;
 //! engine.steal(1, 0)?;
@@ -78,17 +83,19 @@
 //! A run can be saved as an image and read back, in another process too:
 //!
 //! ```
-//! use splitter::{image_array_bytes, Engine, State, NODE_WORDS};
+//! use splitter::{image_array_bytes, Engine, Frame, State, NODE_WORDS};
 //!
-//! let mut image = [0; image_array_bytes(20)];
-//! let (mut state, mut pool, mut work) = (State::ZERO, [0; 20 * NODE_WORDS], [0; 20]);
-//! let mut engine = Engine { state: &mut state, pool: &mut pool, work: &mut work };
+//! let mut image = [0; image_array_bytes(64, 20)];
+//! let (mut state, mut table) = (State::ZERO, [Frame::ZERO; 64]);
+//! let (mut pool, mut work) = ([0; 20 * NODE_WORDS], [0; 20]);
+//! let mut engine = Engine { state: &mut state, frames: &mut table, pool: &mut pool, work: &mut work };
 //! engine.start(2, &[10, 20, 30, 40, 50])?;
 //! engine.write(0, 4, 99)?;
 //! engine.save(&mut image)?;
 //!
-//! let (mut state, mut pool, mut work) = (State::ZERO, [7; 30 * NODE_WORDS], [7; 30]);
-//! let mut engine = Engine { state: &mut state, pool: &mut pool, work: &mut work };
+//! let (mut state, mut table) = (State::ZERO, [Frame::ZERO; 64]); // as many places as the saved run's
+//! let (mut pool, mut work) = ([7; 30 * NODE_WORDS], [7; 30]);
+//! let mut engine = Engine { state: &mut state, frames: &mut table, pool: &mut pool, work: &mut work };
 //! engine.load(&image)?; // whatever the memory held
 //! assert_eq!(engine.read(0, 4)?, 99);
 //! # Ok::<(), splitter::Refusal>(())
@@ -97,11 +104,13 @@
 #![deny(unsafe_code)]
 
 mod answer;
+mod frame;
 pub mod raw;
 mod state;
 mod step;
 
 pub use answer::{answer, answers, Answer, Done, Refusal, Returned, Synced};
+pub use frame::Frame;
 pub use state::{State, Totals};
 pub use step::{affine, Reducer, Step};
 
@@ -115,13 +124,11 @@ pub const VERSION: u32 = VERSION_MAJOR * 1000 + VERSION_MINOR;
 /// None, where a place or a number could be.
 pub const NONE: u32 = u32::MAX;
 /// The words of the state's numbers.
-pub const NUMBERS_WORDS: usize = 9;
+pub const NUMBERS_WORDS: usize = 10;
+/// The places of each worker's deque, whatever the table's length.
+pub const DEQUE_PLACES: usize = 256;
 /// The words of the state's deques.
-pub const DEQUES_WORDS: usize = 520;
-/// The words of the state's frame records.
-pub const FRAMES_WORDS: usize = MAX_FRAMES * FRAME_RECORD_WORDS;
-/// The words of a frame record.
-pub const FRAME_RECORD_WORDS: usize = 12;
+pub const DEQUES_WORDS: usize = MAX_WORKERS * (1 + DEQUE_PLACES);
 /// The words of a node.
 pub const NODE_WORDS: usize = 4;
 /// The most nodes of a pool.
@@ -130,8 +137,8 @@ pub const MAX_NODES: usize = 16_384;
 pub const MAX_SPLITTERS: usize = 256;
 /// The most workers.
 pub const MAX_WORKERS: usize = 8;
-/// The most live frames.
-pub const MAX_FRAMES: usize = 64;
+/// The most places of a frame table.
+pub const MAX_PLACES: usize = 256;
 /// The number of reducers.
 pub const REDUCERS: usize = 3;
 
@@ -140,16 +147,16 @@ pub const BLOCK_BYTES: usize = 512;
 /// The words of a block's data; its check follows them.
 pub const BLOCK_WORDS: usize = 127;
 /// Added to the workers in an image's first word.
-pub const IMAGE_VERSION: u32 = 512;
+pub const IMAGE_VERSION: u32 = 768;
 
-/// The bytes of an image that a save writes, of so many nodes: whole blocks.
-pub fn image_bytes(nodes: u32) -> u64 {
-    raw::image_bytes(nodes)
+/// The bytes of an image that a save writes, of so many places and nodes: whole blocks.
+pub fn image_bytes(places: u32, nodes: u32) -> u64 {
+    raw::image_bytes(places, nodes)
 }
 
-/// The same as a constant, to size an array: for 0 to [`MAX_NODES`] nodes.
-pub const fn image_array_bytes(nodes: usize) -> usize {
-    let words = NUMBERS_WORDS + DEQUES_WORDS + FRAMES_WORDS + NODE_WORDS * nodes;
+/// The same as a constant, to size an array: for 0 to [`MAX_PLACES`] places and 0 to [`MAX_NODES`] nodes.
+pub const fn image_array_bytes(places: usize, nodes: usize) -> usize {
+    let words = NUMBERS_WORDS + MAX_WORKERS * (1 + places) + Frame::WORDS * places + NODE_WORDS * nodes;
     words.div_ceil(BLOCK_WORDS) * BLOCK_BYTES
 }
 
@@ -158,11 +165,14 @@ pub fn tree_nodes(n: u32) -> u64 {
     raw::tree_nodes(n)
 }
 
-/// A run, over lent memory. Between calls the words of state and pool are the engine's: what
+/// A run, over lent memory. Between calls the words of state, table and pool are the engine's: what
 /// another writes there is refused with [`Refusal::Unsound`], unless it is sound as well. The
 /// memory outlives the engine: another one over the same words goes on with the run.
 pub struct Engine<'a> {
     pub state: &'a mut State,
+    /// The frame table, 1 to [`MAX_PLACES`] places: as many frames can live. A start takes it whatever it holds;
+    /// every later call needs the same table with the same length.
+    pub frames: &'a mut [Frame],
     /// [`NODE_WORDS`] words for each node.
     pub pool: &'a mut [u32],
     /// A word for each node; zero after each call.
@@ -172,14 +182,14 @@ pub struct Engine<'a> {
 impl Engine<'_> {
     /// Begins a run with a splitter for each value.
     pub fn start(&mut self, workers: u32, values: &[u32]) -> Result<(), Refusal> {
-        call(raw::start(self.state.parts(), workers, values, self.pool))
+        call(raw::start(self.state.parts(), self.frames, workers, values, self.pool))
     }
 
     /// One step.
     pub fn step(&mut self, step: Step) -> Answer {
         let (kind, worker, field, value) = step.fields();
         let fields = [kind.into(), worker.into(), field.into(), value];
-        answer(raw::step(self.state.parts(), self.pool, self.work, fields))
+        answer(raw::step(self.state.parts(), self.frames, self.pool, self.work, fields))
     }
 
     /// The worker's bottom frame spawns a child; gives its depth.
@@ -238,6 +248,16 @@ impl Engine<'_> {
         }
     }
 
+    /// The live frames, those that wait among them: 0 to the table's places.
+    pub fn live_frames(&self) -> usize {
+        self.frames.iter().filter(|frame| frame.live != 0).count()
+    }
+
+    /// The depth of the frame that the worker executes, or `None` if it is idle or does not exist.
+    pub fn bottom_depth(&self, worker: u8) -> Option<u32> {
+        self.state.bottom_depth(self.frames, worker)
+    }
+
     /// The free nodes of a sound state and its pool, as a write tells them, asked without one. 0 if the pool
     /// holds fewer nodes than recorded; of a state that is not sound some number.
     pub fn free_nodes(&self) -> u64 {
@@ -247,21 +267,21 @@ impl Engine<'_> {
     /// Runs a tape of records ([`Step::to_bytes`]), with two answer words for each ([`answers`]). A
     /// refused record does not stop the tape.
     pub fn tape(&mut self, tape: &[u8], answers: &mut [u32]) -> Result<(), Refusal> {
-        call(raw::tape(self.state.parts(), self.pool, self.work, tape, answers))
+        call(raw::tape(self.state.parts(), self.frames, self.pool, self.work, tape, answers))
     }
 
-    /// Saves the run: its image, [`image_bytes`] of its nodes, in the front of the target. The bytes past
+    /// Saves the run: its image, [`image_bytes`] of its places and nodes, in the front of the target. The bytes past
     /// it never change, and none if the save is refused.
     pub fn save(&mut self, target: &mut [u8]) -> Result<(), Refusal> {
-        call(raw::save(self.state.parts(), self.pool, self.work, target))
+        call(raw::save(self.state.parts(), self.frames, self.pool, self.work, target))
     }
 
     /// Goes on with a saved run as it was at its save, whatever the lent memory holds. The image is just its
-    /// bytes, of the form that [`Engine::save`] writes and of no other; the pool may be longer than its nodes.
-    /// A refused reading leaves [`State::ZERO`], by [`Refusal::Unsound`] every whole node of the pool zero as
-    /// well.
+    /// bytes, of the form that [`Engine::save`] writes and of no other; the table has as many places as the saved
+    /// run's, the pool may be longer than its nodes. A refused reading leaves [`State::ZERO`], by
+    /// [`Refusal::Unsound`] every record of the table and every whole node of the pool zero as well.
     pub fn load(&mut self, image: &[u8]) -> Result<(), Refusal> {
-        call(raw::load(self.state.parts(), self.pool, self.work, image))
+        call(raw::load(self.state.parts(), self.frames, self.pool, self.work, image))
     }
 }
 

@@ -6,11 +6,13 @@
 //! live for the call, and overlaps no other where one of them is written.
 #![allow(unsafe_code)]
 
+use crate::Frame;
+
 /// The length of a slice: splitter.h's `splitter_len`, 64 bits on every machine.
 pub type Len = u64;
 
 mod c {
-    use super::Len;
+    use super::{Frame, Len};
 
     extern "C" {
         pub fn splitter_start(
@@ -18,8 +20,8 @@ mod c {
             numbers_len: Len,
             deques: *mut u32,
             deques_len: Len,
-            frames: *mut u32,
-            frames_len: Len,
+            frames: *mut Frame,
+            places: Len,
             workers: u32,
             values: *const u32,
             values_len: Len,
@@ -32,8 +34,8 @@ mod c {
             numbers_len: Len,
             deques: *mut u32,
             deques_len: Len,
-            frames: *mut u32,
-            frames_len: Len,
+            frames: *mut Frame,
+            places: Len,
             pool: *mut u32,
             pool_len: Len,
             work: *mut u32,
@@ -49,8 +51,8 @@ mod c {
             numbers_len: Len,
             deques: *mut u32,
             deques_len: Len,
-            frames: *mut u32,
-            frames_len: Len,
+            frames: *mut Frame,
+            places: Len,
             pool: *mut u32,
             pool_len: Len,
             work: *mut u32,
@@ -66,8 +68,8 @@ mod c {
             numbers_len: Len,
             deques: *const u32,
             deques_len: Len,
-            frames: *const u32,
-            frames_len: Len,
+            frames: *const Frame,
+            places: Len,
             pool: *const u32,
             pool_len: Len,
             work: *mut u32,
@@ -81,8 +83,8 @@ mod c {
             numbers_len: Len,
             deques: *mut u32,
             deques_len: Len,
-            frames: *mut u32,
-            frames_len: Len,
+            frames: *mut Frame,
+            places: Len,
             pool: *mut u32,
             pool_len: Len,
             work: *mut u32,
@@ -91,7 +93,7 @@ mod c {
             image_len: Len,
         ) -> u32;
 
-        pub fn splitter_image_bytes(nodes: u32) -> u64;
+        pub fn splitter_image_bytes(places: u32, nodes: u32) -> u64;
 
         pub fn splitter_tree_nodes(n: u32) -> u64;
 
@@ -103,16 +105,15 @@ fn len<T>(slice: &[T]) -> Len {
     slice.len() as Len
 }
 
-/// The state's three parts, as they are lent. One of another length than
+/// The state's two parts, as they are lent. One of another length than
 /// [`State`](crate::State) has is refused by 99.
 pub struct Parts<'a> {
     pub numbers: &'a mut [u32],
     pub deques: &'a mut [u32],
-    pub frames: &'a mut [u32],
 }
 
 /// 0, or a refusal.
-pub fn start(state: Parts, workers: u32, values: &[u32], pool: &mut [u32]) -> u32 {
+pub fn start(state: Parts, frames: &mut [Frame], workers: u32, values: &[u32], pool: &mut [u32]) -> u32 {
     // SAFETY: each pointer and length is a borrowed slice's.
     unsafe {
         c::splitter_start(
@@ -120,8 +121,8 @@ pub fn start(state: Parts, workers: u32, values: &[u32], pool: &mut [u32]) -> u3
             len(state.numbers),
             state.deques.as_mut_ptr(),
             len(state.deques),
-            state.frames.as_mut_ptr(),
-            len(state.frames),
+            frames.as_mut_ptr(),
+            len(frames),
             workers,
             values.as_ptr(),
             len(values),
@@ -132,7 +133,7 @@ pub fn start(state: Parts, workers: u32, values: &[u32], pool: &mut [u32]) -> u3
 }
 
 /// The fields are kind, worker, field and value. Gives the two answer words, or a refusal and 0.
-pub fn step(state: Parts, pool: &mut [u32], work: &mut [u32], fields: [u32; 4]) -> [u32; 2] {
+pub fn step(state: Parts, frames: &mut [Frame], pool: &mut [u32], work: &mut [u32], fields: [u32; 4]) -> [u32; 2] {
     let [kind, worker, field, value] = fields;
     // SAFETY: each pointer and length is a borrowed slice's.
     let both = unsafe {
@@ -141,8 +142,8 @@ pub fn step(state: Parts, pool: &mut [u32], work: &mut [u32], fields: [u32; 4]) 
             len(state.numbers),
             state.deques.as_mut_ptr(),
             len(state.deques),
-            state.frames.as_mut_ptr(),
-            len(state.frames),
+            frames.as_mut_ptr(),
+            len(frames),
             pool.as_mut_ptr(),
             len(pool),
             work.as_mut_ptr(),
@@ -157,7 +158,14 @@ pub fn step(state: Parts, pool: &mut [u32], work: &mut [u32], fields: [u32; 4]) 
 }
 
 /// 0, with two answer words for each record, or a refusal.
-pub fn tape(state: Parts, pool: &mut [u32], work: &mut [u32], tape: &[u8], answers: &mut [u32]) -> u32 {
+pub fn tape(
+    state: Parts,
+    frames: &mut [Frame],
+    pool: &mut [u32],
+    work: &mut [u32],
+    tape: &[u8],
+    answers: &mut [u32],
+) -> u32 {
     // SAFETY: each pointer and length is a borrowed slice's.
     unsafe {
         c::splitter_tape(
@@ -165,8 +173,8 @@ pub fn tape(state: Parts, pool: &mut [u32], work: &mut [u32], tape: &[u8], answe
             len(state.numbers),
             state.deques.as_mut_ptr(),
             len(state.deques),
-            state.frames.as_mut_ptr(),
-            len(state.frames),
+            frames.as_mut_ptr(),
+            len(frames),
             pool.as_mut_ptr(),
             len(pool),
             work.as_mut_ptr(),
@@ -180,7 +188,7 @@ pub fn tape(state: Parts, pool: &mut [u32], work: &mut [u32], tape: &[u8], answe
 }
 
 /// 0, with the image in the front of the target, or a refusal.
-pub fn save(state: Parts, pool: &[u32], work: &mut [u32], target: &mut [u8]) -> u32 {
+pub fn save(state: Parts, frames: &[Frame], pool: &[u32], work: &mut [u32], target: &mut [u8]) -> u32 {
     // SAFETY: each pointer and length is a borrowed slice's.
     unsafe {
         c::splitter_save(
@@ -188,8 +196,8 @@ pub fn save(state: Parts, pool: &[u32], work: &mut [u32], target: &mut [u8]) -> 
             len(state.numbers),
             state.deques.as_ptr(),
             len(state.deques),
-            state.frames.as_ptr(),
-            len(state.frames),
+            frames.as_ptr(),
+            len(frames),
             pool.as_ptr(),
             len(pool),
             work.as_mut_ptr(),
@@ -200,8 +208,8 @@ pub fn save(state: Parts, pool: &[u32], work: &mut [u32], target: &mut [u8]) -> 
     }
 }
 
-/// 0, with the image's state and pool, or a refusal.
-pub fn load(state: Parts, pool: &mut [u32], work: &mut [u32], image: &[u8]) -> u32 {
+/// 0, with the image's state, table and pool, or a refusal.
+pub fn load(state: Parts, frames: &mut [Frame], pool: &mut [u32], work: &mut [u32], image: &[u8]) -> u32 {
     // SAFETY: each pointer and length is a borrowed slice's.
     unsafe {
         c::splitter_load(
@@ -209,8 +217,8 @@ pub fn load(state: Parts, pool: &mut [u32], work: &mut [u32], image: &[u8]) -> u
             len(state.numbers),
             state.deques.as_mut_ptr(),
             len(state.deques),
-            state.frames.as_mut_ptr(),
-            len(state.frames),
+            frames.as_mut_ptr(),
+            len(frames),
             pool.as_mut_ptr(),
             len(pool),
             work.as_mut_ptr(),
@@ -221,10 +229,10 @@ pub fn load(state: Parts, pool: &mut [u32], work: &mut [u32], image: &[u8]) -> u
     }
 }
 
-/// The bytes of an image of so many nodes, any number.
-pub fn image_bytes(nodes: u32) -> u64 {
+/// The bytes of an image of so many places and nodes, any numbers.
+pub fn image_bytes(places: u32, nodes: u32) -> u64 {
     // SAFETY: the function takes and gives numbers only.
-    unsafe { c::splitter_image_bytes(nodes) }
+    unsafe { c::splitter_image_bytes(places, nodes) }
 }
 
 /// T(n), for any n.

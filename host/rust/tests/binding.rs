@@ -1,16 +1,17 @@
 //! The binding's numbers, and document 01's example through it.
 
 use splitter::{
-    affine, answer, answers, raw, tree_nodes, Done, Engine, Reducer, Refusal, Returned, State, Step, Synced, Totals,
+    affine, answer, answers, raw, tree_nodes, Done, Engine, Frame, Reducer, Refusal, Returned, State, Step, Synced,
+    Totals,
 };
 use splitter::{image_array_bytes, image_bytes, BLOCK_BYTES, BLOCK_WORDS, IMAGE_VERSION, NONE};
-use splitter::{DEQUES_WORDS, FRAMES_WORDS, FRAME_RECORD_WORDS, NODE_WORDS, NUMBERS_WORDS};
-use splitter::{MAX_FRAMES, MAX_NODES, MAX_SPLITTERS, MAX_WORKERS, REDUCERS};
+use splitter::{DEQUES_WORDS, DEQUE_PLACES, NODE_WORDS, NUMBERS_WORDS};
+use splitter::{MAX_NODES, MAX_PLACES, MAX_SPLITTERS, MAX_WORKERS, REDUCERS};
 use splitter::{VERSION, VERSION_MAJOR, VERSION_MINOR};
 use std::mem::{offset_of, size_of};
 
 /// The numbers of the refusals; 14 was one before R-3.
-const REFUSALS: [u32; 20] = [1, 2, 3, 4, 5, 6, 7, 8, 9, 10, 11, 12, 13, 15, 16, 17, 18, 19, 20, 99];
+const REFUSALS: [u32; 21] = [1, 2, 3, 4, 5, 6, 7, 8, 9, 10, 11, 12, 13, 15, 16, 17, 18, 19, 20, 21, 99];
 
 #[test]
 fn refusals_keep_their_numbers() {
@@ -86,13 +87,13 @@ fn the_header_has_the_same_sizes() {
     for (name, size) in [
         ("NUMBERS_WORDS", NUMBERS_WORDS),
         ("DEQUES_WORDS", DEQUES_WORDS),
-        ("FRAMES_WORDS", FRAMES_WORDS),
-        ("FRAME_RECORD_WORDS", FRAME_RECORD_WORDS),
+        ("DEQUE_PLACES", DEQUE_PLACES),
+        ("FRAME_RECORD_WORDS", Frame::WORDS),
         ("NODE_WORDS", NODE_WORDS),
         ("MAX_NODES", MAX_NODES),
         ("MAX_SPLITTERS", MAX_SPLITTERS),
         ("MAX_WORKERS", MAX_WORKERS),
-        ("MAX_FRAMES", MAX_FRAMES),
+        ("MAX_PLACES", MAX_PLACES),
         ("REDUCERS", REDUCERS),
         ("RECORD_BYTES", Step::RECORD_BYTES),
         ("BLOCK_BYTES", BLOCK_BYTES),
@@ -119,8 +120,28 @@ fn the_package_has_the_same_version() {
 fn the_state_is_laid_out_as_in_c() {
     assert_eq!(offset_of!(State, numbers), 0);
     assert_eq!(offset_of!(State, deques), 4 * NUMBERS_WORDS);
-    assert_eq!(offset_of!(State, frames), 4 * (NUMBERS_WORDS + DEQUES_WORDS));
-    assert_eq!(size_of::<State>(), 4 * (NUMBERS_WORDS + DEQUES_WORDS + FRAMES_WORDS));
+    assert_eq!(size_of::<State>(), 4 * (NUMBERS_WORDS + DEQUES_WORDS));
+}
+
+/// The fields of `struct splitter_frame`, in the header's order.
+fn header_fields() -> Vec<&'static str> {
+    let body = HEADER.split_once("struct splitter_frame {").and_then(|(_, after)| after.split_once("};"));
+    let lines = body.expect("a struct of the header").0.lines();
+    lines.filter_map(|line| line.trim().strip_prefix("uint32_t ")?.split_once(';').map(|(name, _)| name)).collect()
+}
+
+#[test]
+fn a_frame_is_laid_out_as_in_c() {
+    let words: [u32; Frame::WORDS] = std::array::from_fn(|word| word as u32);
+    let frame = Frame::from_words(words);
+    assert_eq!((frame.to_words(), size_of::<Frame>()), (words, 4 * Frame::WORDS));
+    let told = format!("{frame:?}");
+    let fields = header_fields();
+    assert_eq!(fields.len(), Frame::WORDS);
+    for (word, field) in fields.into_iter().enumerate() {
+        assert!(told.contains(&format!(" {field}: {word}")), "{field}");
+    }
+    assert_eq!((offset_of!(Frame, root), offset_of!(Frame, younger)), (4 * 5, 4 * 11));
 }
 
 #[test]
@@ -138,9 +159,10 @@ fn sizes_of_trees() {
 
 #[test]
 fn sizes_of_images() {
-    assert_eq!(image_bytes(u32::MAX), 69_260_580_352);
+    assert_eq!(image_bytes(u32::MAX, u32::MAX), (18 + 24 * u64::from(u32::MAX)).div_ceil(127) * 512);
     for nodes in 0..=MAX_NODES {
-        assert_eq!(image_bytes(nodes as u32), image_array_bytes(nodes) as u64);
+        let places = nodes % (MAX_PLACES + 1);
+        assert_eq!(image_bytes(places as u32, nodes as u32), image_array_bytes(places, nodes) as u64);
     }
 }
 
@@ -157,10 +179,16 @@ const EXAMPLE: [(Step, Result<Done, Refusal>); 9] = [
     (Step::Return { worker: 0 }, Ok(Done::Returned(Returned::Finished))),
 ];
 
+/// What a table may hold before a start or a reading.
+const GARBAGE: Frame = Frame::from_words([0xA5A5_A5A5; Frame::WORDS]);
+
+/// The places of the example's table.
+const PLACES: usize = 64;
+
 /// Runs a test on a run with document 01's workers, values and nodes.
 fn with_example(test: impl FnOnce(&mut Engine)) {
     let (mut state, mut pool, mut work) = (State::ZERO, [0; 20 * NODE_WORDS], [0; 20]);
-    let mut engine = Engine { state: &mut state, pool: &mut pool, work: &mut work };
+    let mut engine = Engine { state: &mut state, frames: &mut [GARBAGE; PLACES], pool: &mut pool, work: &mut work };
     engine.start(2, &[10, 20, 30, 40, 50]).expect("document 01's start");
     test(&mut engine);
 }
@@ -205,12 +233,12 @@ fn the_example_as_queries_see_it() {
         for ((step, answer), (live, lengths, depths)) in EXAMPLE.into_iter().zip(after) {
             assert_eq!(engine.step(step), answer);
             let state = &engine.state;
-            assert_eq!((state.workers(), state.splitters(), state.nodes()), (2, 5, 20));
-            assert_eq!((state.live_frames(), state.main_returned()), (live, live == 0));
+            assert_eq!((state.workers(), state.splitters(), state.nodes(), state.places()), (2, 5, 20, 64));
+            assert_eq!((engine.live_frames(), state.main_returned()), (live, live == 0));
             assert_eq!(state.totals(), (live == 0).then_some(NOTHING));
             assert_eq!([0, 1].map(|worker| state.deque_length(worker)), lengths);
-            assert_eq!([0, 1].map(|worker| state.bottom_depth(worker)), depths);
-            assert_eq!((state.deque_length(2), state.bottom_depth(255)), (0, None));
+            assert_eq!([0, 1].map(|worker| engine.bottom_depth(worker)), depths);
+            assert_eq!((state.deque_length(2), engine.bottom_depth(255)), (0, None));
         }
     });
 }
@@ -234,17 +262,18 @@ fn free_nodes_without_a_write() {
 
 #[test]
 fn queries_take_any_words() {
-    assert_eq!((State::ZERO.live_frames(), State::ZERO.bottom_depth(0), State::ZERO.main_returned()), (0, None, false));
+    assert_eq!((State::ZERO.bottom_depth(&[Frame::ZERO], 0), State::ZERO.main_returned()), (None, false));
     assert_eq!(State::ZERO.totals(), None);
-    for word in [1, 7, 63, 64, 65, 519, 1 << 31, u32::MAX] {
-        let state =
-            State { numbers: [word; NUMBERS_WORDS], deques: [word; DEQUES_WORDS], frames: [word; FRAMES_WORDS] };
-        assert_eq!((state.workers(), state.live_frames(), state.main_returned()), (word, MAX_FRAMES, false));
+    for word in [1, 7, 63, 64, 65, 255, 256, 257, 519, 1 << 31, u32::MAX] {
+        let state = State { numbers: [word; NUMBERS_WORDS], deques: [word; DEQUES_WORDS] };
+        let frames = [Frame::from_words([word; Frame::WORDS]); PLACES];
+        assert_eq!((state.workers(), state.places(), state.main_returned()), (word, word, false));
         assert_eq!(state.totals(), None);
         for worker in 0..=u8::MAX {
             let exists = usize::from(worker) < MAX_WORKERS;
-            assert_eq!(state.deque_length(worker), if exists { MAX_FRAMES.min(word as usize) } else { 0 });
-            assert_eq!(state.bottom_depth(worker), if exists && word < 64 { Some(word) } else { None });
+            assert_eq!(state.deque_length(worker), if exists { DEQUE_PLACES.min(word as usize) } else { 0 });
+            let depth = (exists && word < 64).then_some(word);
+            assert_eq!((state.bottom_depth(&frames, worker), state.bottom_depth(&[], worker)), (depth, None));
         }
     }
 }
@@ -253,14 +282,15 @@ fn queries_take_any_words() {
 #[test]
 fn a_write_takes_nodes_only_for_what_is_shared() {
     let (mut state, mut pool, mut work) = (State::ZERO, [0; 15 * NODE_WORDS], [0; 15]);
+    let frames = &mut [GARBAGE; 2];
     for nodes in [11, 14, 15] {
-        let mut engine = Engine { state: &mut state, pool: &mut pool[..nodes * NODE_WORDS], work: &mut work };
+        let mut engine = Engine { state: &mut state, frames, pool: &mut pool[..nodes * NODE_WORDS], work: &mut work };
         engine.start(2, &[10, 20, 30, 40, 50]).expect("at least T(5) nodes");
         for splitter in [0, 4, 0] {
             assert_eq!(engine.write(0, splitter, 7), Ok(nodes as u32 - 11));
         }
     }
-    let mut engine = Engine { state: &mut state, pool: &mut pool, work: &mut work };
+    let mut engine = Engine { state: &mut state, frames, pool: &mut pool, work: &mut work };
     assert_eq!((engine.spawn(0), engine.steal(1, 0)), (Ok(1), Ok(0)));
     assert_eq!([engine.write(1, 0, 8), engine.write(1, 0, 9), engine.write(0, 0, 6)], [Ok(0); 3]);
     assert_eq!([engine.write(0, 1, 8), engine.write(1, 4, 8)], [Err(Refusal::PoolFull); 2]);
@@ -268,12 +298,17 @@ fn a_write_takes_nodes_only_for_what_is_shared() {
     assert_eq!((engine.ret(0), engine.write(1, 4, 8)), (Ok(Returned::BecameIdle), Ok(4)));
 }
 
-/// A run of 4 workers with 5 splitters.
-fn with_workers(test: impl FnOnce(&mut Engine)) {
+/// A run of 4 workers with 5 splitters, in a table of so many places.
+fn with_places(places: usize, test: impl FnOnce(&mut Engine)) {
     let (mut state, mut pool, mut work) = (State::ZERO, [0; 40 * NODE_WORDS], [0; 40]);
-    let mut engine = Engine { state: &mut state, pool: &mut pool, work: &mut work };
+    let frames = &mut [GARBAGE; MAX_PLACES][..places];
+    let mut engine = Engine { state: &mut state, frames, pool: &mut pool, work: &mut work };
     engine.start(4, &[10, 20, 30, 40, 50]).expect("at least T(5) nodes");
     test(&mut engine);
+}
+
+fn with_workers(test: impl FnOnce(&mut Engine)) {
+    with_places(PLACES, test);
 }
 
 /// The worker's bottom frame spawns; the thief takes it and returns it. Then it waits, in this place.
@@ -281,24 +316,79 @@ fn spawn_and_wait(engine: &mut Engine, worker: u8, thief: u8, place: usize) {
     engine.spawn(worker).expect("a place is free");
     engine.steal(thief, worker.into()).expect("a deque of two");
     assert_eq!(engine.ret(thief), Ok(Returned::Waits));
-    assert_eq!(
-        engine.state.frames[FRAME_RECORD_WORDS * place..][4..7],
-        [1, engine.state.frames[FRAME_RECORD_WORDS * place + 5], 1]
-    );
+    assert_eq!((engine.frames[place].waiting, engine.frames[place].returning), (1, 1));
     assert_eq!(engine.read(thief, 0), Err(Refusal::WorkerHasNoFrame));
 }
 
-/// Document 02's R-3: 63 frames wait, and one return ends them all.
+/// Document 02's: all frames but the last wait, and one return ends them all.
 #[test]
 fn a_chain_of_waiting_frames_ends_by_one_return() {
+    for places in [1, 2, 63, 64, 65, 255, 256] {
+        with_places(places, |engine| {
+            for place in 0..places - 1 {
+                spawn_and_wait(engine, 0, 1 + place as u8 % 3, place);
+            }
+            assert_eq!((engine.live_frames(), engine.spawn(0)), (places, Err(Refusal::FramesFull)));
+            assert_eq!(engine.ret(0), Ok(Returned::Finished));
+            assert_eq!(engine.spawn(0), Err(Refusal::RunIsOver));
+            assert_eq!((engine.state.numbers[4], &engine.state.deques[..2]), (0, &[0, 0][..]));
+        });
+    }
+}
+
+/// Document 02's R-6: the length of the table is the limit in 13; after one return a spawn is accepted again.
+#[test]
+fn the_table_is_the_limit() {
+    for places in [1, 2, 63, 64, 65, 255, 256] {
+        with_places(places, |engine| {
+            for depth in 1..places as u32 {
+                assert_eq!(engine.spawn(0), Ok(depth));
+            }
+            assert_eq!(engine.spawn(0), Err(Refusal::FramesFull));
+            if places > 1 {
+                assert_eq!(engine.ret(0), Ok(Returned::Continued));
+                assert_eq!((engine.spawn(0), engine.bottom_depth(0)), (Ok(places as u32 - 1), Some(places as u32 - 1)));
+            }
+        });
+    }
+}
+
+/// 21, after 2 and before 3: a state of zeros, and the table as it was.
+#[test]
+fn a_start_with_a_wrong_table_is_refused() {
+    for places in [0, 257, 300] {
+        let (mut state, mut table) = (State::ZERO, vec![GARBAGE; places]);
+        state.numbers.fill(7);
+        let mut engine = Engine { state: &mut state, frames: &mut table, pool: &mut [], work: &mut [] };
+        assert_eq!(engine.start(2, &[]), Err(Refusal::BadValueCount));
+        assert_eq!(engine.start(9, &[10]), Err(Refusal::BadWorkerCount));
+        assert_eq!(engine.start(2, &[10]), Err(Refusal::BadPlaceCount));
+        assert_eq!((state, table), (State::ZERO, vec![GARBAGE; places]));
+    }
+}
+
+/// A table of another length than at the start is unsound in every call; a refused call leaves it.
+#[test]
+fn a_table_of_another_length_is_refused() {
     with_workers(|engine| {
-        for place in 0..MAX_FRAMES - 1 {
-            spawn_and_wait(engine, 0, 1 + place as u8 % 3, place);
+        let mut image = [0; image_array_bytes(PLACES, 40)];
+        engine.save(&mut image).expect("room for the image");
+        let table = engine.frames.to_vec();
+        for places in [0, 1, PLACES - 1, PLACES + 1, MAX_PLACES, MAX_PLACES + 1] {
+            let mut other = table.clone();
+            other.resize(places, GARBAGE);
+            let old = other.clone();
+            let mut run = Engine { state: engine.state, frames: &mut other, pool: engine.pool, work: engine.work };
+            assert_eq!(run.spawn(0), Err(Refusal::Unsound));
+            assert_eq!(run.tape(&[], &mut []), Err(Refusal::Unsound));
+            assert_eq!(run.save(&mut image.clone()), Err(Refusal::Unsound));
+            assert_eq!(other, old);
+            let (mut state, mut pool) = (State::ZERO, engine.pool.to_vec());
+            let mut run = Engine { state: &mut state, frames: &mut other, pool: &mut pool, work: engine.work };
+            assert_eq!(run.load(&image), Err(Refusal::Unsound));
+            assert!(state == State::ZERO && other == vec![Frame::ZERO; places] && pool.iter().all(|word| *word == 0));
         }
-        assert_eq!(engine.spawn(0), Err(Refusal::FramesFull));
-        assert_eq!(engine.ret(0), Ok(Returned::Finished));
-        assert_eq!(engine.spawn(0), Err(Refusal::RunIsOver));
-        assert_eq!((engine.state.numbers[4], &engine.state.deques[..2]), (0, &[0, 0][..]));
+        assert_eq!(engine.spawn(0), Ok(1));
     });
 }
 
@@ -322,7 +412,8 @@ fn where_a_chain_stops() {
 #[test]
 fn memory_without_a_start_is_refused() {
     let (mut state, mut pool, mut work) = (State::ZERO, [0; 20 * NODE_WORDS], [0; 20]);
-    let mut engine = Engine { state: &mut state, pool: &mut pool, work: &mut work };
+    let frames = &mut [Frame::ZERO; PLACES];
+    let mut engine = Engine { state: &mut state, frames, pool: &mut pool, work: &mut work };
     assert_eq!(engine.spawn(0), Err(Refusal::Unsound));
     assert_eq!(engine.tape(&[], &mut []), Err(Refusal::Unsound));
 }
@@ -330,27 +421,29 @@ fn memory_without_a_start_is_refused() {
 #[test]
 fn a_refused_start_leaves_zeros() {
     with_example(|engine| {
-        let pool = engine.pool.to_vec();
+        let (frames, pool) = (engine.frames.to_vec(), engine.pool.to_vec());
         assert_eq!(engine.start(0, &[10]), Err(Refusal::BadWorkerCount));
         assert_eq!(*engine.state, State::ZERO);
-        assert_eq!(engine.pool, pool);
+        assert!(engine.frames == frames && engine.pool == pool);
     });
 }
 
 /// The example, saved before each step and read into other garbage: it goes on.
 #[test]
 fn the_example_saved_and_read_at_each_step() {
-    let mut image = [0; image_array_bytes(20) + 1];
+    const BYTES: usize = image_array_bytes(PLACES, 20);
+    let mut image = [0; BYTES + 1];
     with_example(|engine| engine.save(&mut image).expect("room for the image"));
     for (step, answer) in EXAMPLE {
         let (mut state, mut pool, mut work) = (State::ZERO, [7; 23 * NODE_WORDS + 1], [9; 21]);
-        let mut engine = Engine { state: &mut state, pool: &mut pool, work: &mut work };
-        engine.load(&image[..image_array_bytes(20)]).expect("an image as it was saved");
+        let frames = &mut [GARBAGE; PLACES];
+        let mut engine = Engine { state: &mut state, frames, pool: &mut pool, work: &mut work };
+        engine.load(&image[..BYTES]).expect("an image as it was saved");
         assert_eq!(engine.step(step), answer);
         engine.save(&mut image).expect("room for the image");
         assert!(pool[20 * NODE_WORDS..].iter().all(|word| *word == 7) && work[20] == 9);
     }
-    assert_eq!(image[image_array_bytes(20)], 0);
+    assert_eq!(image[BYTES], 0);
 }
 
 /// Blocks of 127 words, each with the sum of its words.
@@ -366,35 +459,43 @@ fn blocks(words: &[u32]) -> Vec<u8> {
 
 /// The run as an image with this first word, so many numbers, and so many words to a frame record.
 fn image_of(engine: &Engine, first: u32, numbers: usize, frame_words: usize) -> Vec<u8> {
-    let mut words = [&engine.state.numbers[..numbers], &engine.state.deques].concat();
+    let mut words = engine.state.numbers[..numbers].to_vec();
     words[0] = first;
-    words.extend(engine.state.frames.chunks(FRAME_RECORD_WORDS).flat_map(|record| &record[..frame_words]));
+    for deque in engine.state.deques.chunks(1 + DEQUE_PLACES) {
+        words.extend(&deque[..1 + engine.frames.len()]);
+    }
+    for frame in &*engine.frames {
+        words.extend(&frame.to_words()[..frame_words]);
+    }
     words.extend(&*engine.pool);
     blocks(&words)
 }
 
-/// Document 02's R-5: a save adds 512 to the first word, and a reading takes no other form: not those from
-/// before, with five numbers and six or seven words to a frame record.
+/// Document 02's R-6: a save adds 768 to the first word, and a reading takes no other form: not those from
+/// before, with five numbers and six or seven words to a frame record, or nine numbers.
 #[test]
 fn the_form_of_an_image() {
     with_example(|engine| {
-        let mut image = [0; image_array_bytes(20)];
+        let mut image = [0; image_array_bytes(PLACES, 20)];
         for (step, answer) in EXAMPLE {
             assert_eq!(engine.step(step), answer);
             engine.save(&mut image).expect("room for the image");
-            assert_eq!(image[..], image_of(engine, IMAGE_VERSION + 2, NUMBERS_WORDS, FRAME_RECORD_WORDS));
-            let (state, pool) = (engine.state.clone(), engine.pool.to_vec());
+            assert_eq!(image[..], image_of(engine, IMAGE_VERSION + 2, NUMBERS_WORDS, Frame::WORDS));
+            let (state, frames, pool) = (engine.state.clone(), engine.frames.to_vec(), engine.pool.to_vec());
+            engine.frames.fill(GARBAGE);
             engine.pool.fill(7);
             engine.load(&image).expect("an image as it was saved");
-            assert!(*engine.state == state && engine.pool == pool);
+            assert!(*engine.state == state && engine.frames == frames && engine.pool == pool);
         }
-        let whole = (NUMBERS_WORDS, FRAME_RECORD_WORDS);
+        let whole = (NUMBERS_WORDS, Frame::WORDS);
         let wrong = [
             (2, (5, 6)),
             (256 + 2, (5, 7)),
+            (512 + 2, (9, Frame::WORDS)),
             (2, whole),
             (256 + 2, whole),
-            (768 + 2, whole),
+            (512 + 2, whole),
+            (1_024 + 2, whole),
             (u32::MAX, whole),
             (IMAGE_VERSION + 2, (5, 7)),
         ];
@@ -423,14 +524,14 @@ fn three_siblings(engine: &mut Engine) {
     }
     digit(engine, 3, 7);
     assert_eq!(engine.ret(3), Ok(Returned::Waits));
-    assert_eq!([0, 1, 2, 3].map(|place| engine.state.frames[FRAME_RECORD_WORDS * place + 11]), [NONE, 2, 3, NONE]);
+    assert_eq!([0, 1, 2, 3].map(|place: usize| engine.frames[place].younger), [NONE, 2, 3, NONE]);
 }
 
 /// In whatever order the children end, also if the run is saved and read back in between.
 #[test]
 fn totals_do_not_depend_on_who_ends_first() {
     with_workers(|engine| {
-        let mut image = [0; image_array_bytes(40)];
+        let mut image = [0; image_array_bytes(PLACES, 40)];
         for order in [[0, 1, 2], [0, 2, 1], [1, 0, 2], [1, 2, 0], [2, 0, 1], [2, 1, 0]] {
             engine.start(4, &[10, 20, 30, 40, 50]).expect("at least T(5) nodes");
             three_siblings(engine);
@@ -465,44 +566,44 @@ fn a_fold_into_no_reducer_is_refused() {
 #[test]
 fn what_refused_saves_and_readings_leave() {
     with_example(|engine| {
-        let mut image = [5; image_array_bytes(20)];
+        let mut image = [5; image_array_bytes(PLACES, 20)];
         let (old, short) = (engine.state.clone(), image.len() - 1);
         assert_eq!(engine.save(&mut image[..short]), Err(Refusal::ShortTarget));
-        assert!(*engine.state == old && image == [5; image_array_bytes(20)]);
+        assert!(*engine.state == old && image.iter().all(|byte| *byte == 5));
         engine.save(&mut image).expect("room for the image");
-        let pool = engine.pool.to_vec();
+        let (frames, pool) = (engine.frames.to_vec(), engine.pool.to_vec());
         assert_eq!(engine.load(&image[..short]), Err(Refusal::BadBlocks));
         image[600] ^= 64;
         assert_eq!(engine.load(&image), Err(Refusal::BadCheck));
-        assert!(*engine.state == State::ZERO && engine.pool == pool);
-        let mut words = [0; NUMBERS_WORDS + DEQUES_WORDS + FRAMES_WORDS];
+        assert!(*engine.state == State::ZERO && engine.frames == frames && engine.pool == pool);
+        let mut words = [0; NUMBERS_WORDS + MAX_WORKERS]; // no place, no node
         words[0] = IMAGE_VERSION;
         assert_eq!(engine.load(&blocks(&words)), Err(Refusal::Unsound));
         assert!(*engine.state == State::ZERO && engine.pool.iter().all(|word| *word == 0));
+        assert!(engine.frames.iter().all(|frame| *frame == Frame::ZERO));
     });
 }
 
 /// A part is cut short by a word; nothing changes.
 #[test]
 fn a_part_of_another_length_is_refused() {
-    let cut: [fn(&mut raw::Parts); 3] = [
+    let cut: [fn(&mut raw::Parts); 2] = [
         |parts| parts.numbers = &mut std::mem::take(&mut parts.numbers)[1..],
         |parts| parts.deques = &mut std::mem::take(&mut parts.deques)[1..],
-        |parts| parts.frames = &mut std::mem::take(&mut parts.frames)[1..],
     ];
     with_example(|engine| {
         for cut in cut {
             let old = engine.state.clone();
             let mut parts = engine.state.parts();
             cut(&mut parts);
-            let words = raw::step(parts, engine.pool, engine.work, [1, 0, 0, 0]);
+            let words = raw::step(parts, engine.frames, engine.pool, engine.work, [1, 0, 0, 0]);
             assert_eq!(answer(words), Err(Refusal::BadState));
             let mut parts = engine.state.parts();
             cut(&mut parts);
-            assert_eq!(raw::save(parts, engine.pool, engine.work, &mut []), 99);
+            assert_eq!(raw::save(parts, engine.frames, engine.pool, engine.work, &mut []), 99);
             let mut parts = engine.state.parts();
             cut(&mut parts);
-            assert_eq!(raw::load(parts, engine.pool, engine.work, &[]), 99);
+            assert_eq!(raw::load(parts, engine.frames, engine.pool, engine.work, &[]), 99);
             assert_eq!(*engine.state, old);
         }
         assert_eq!(engine.spawn(0), Ok(1));

@@ -5,7 +5,7 @@ use crate::machine::{Counting, FrameId, Machine, MAIN};
 use crate::name::{self, Name};
 use crate::orders::{self, Event, Rule, Words};
 use crate::record::{self, Step};
-use crate::splitrun::{Input, MAX_TAPE_BYTES};
+use crate::splitrun::{Input, MAX_TAPE_BYTES, PLACES};
 use std::collections::BTreeMap;
 
 /// "What a frame has read", by the frame's name.
@@ -50,6 +50,7 @@ impl Run {
         let workers = usize::from(input.workers);
         let mut machine = Machine::start(
             workers,
+            PLACES,
             input.nodes as usize,
             &input.values,
             Counting::Cached,

@@ -7,7 +7,7 @@ use crate::record::{self, Record, Step, RECORD_BYTES};
 use crate::refusal::Refusal;
 use crate::shape;
 use crate::sharing;
-use crate::splitrun::{Input, MAX_NODES, MAX_SPLITTERS, MAX_TAPE_BYTES};
+use crate::splitrun::{Input, MAX_NODES, MAX_SPLITTERS, MAX_TAPE_BYTES, PLACES};
 use crate::waiting::{self, Stop};
 use std::ops::RangeInclusive;
 
@@ -312,7 +312,7 @@ fn run_by(
     write: impl FnOnce(&mut TapeWriter),
 ) -> Input {
     let values = initial_values(random, splitters);
-    let machine = Machine::start(workers, nodes as usize, &values, Counting::Cached)
+    let machine = Machine::start(workers, PLACES, nodes as usize, &values, Counting::Cached)
         .expect("a start that is not refused");
     let mut writer = TapeWriter::new(random, machine);
     write(&mut writer);

@@ -1,4 +1,4 @@
-//! Document 01's plain machine, with of document 02: each live
+//! Document 01's plain machine, with of document 02: each live
 //! frame has its own full list of values and its whole history, and nodes in
 //! use are counted from those. Each has its name and its view of the reducers;
 //! whose view comes next is told by the names.
@@ -20,8 +20,7 @@ pub const MAIN: FrameId = 0;
 const MAX_SPLITTERS: usize = 256;
 const MAX_WORKERS: usize = 8;
 const MAX_NODES: usize = 16_384;
-/// "At most 64 live frames."
-const MAX_LIVE_FRAMES: usize = 64;
+const MAX_PLACES: usize = 256;
 
 struct Frame {
     parent: Option<FrameId>,
@@ -49,6 +48,8 @@ pub enum Counting {
 pub struct Machine {
     splitters: usize,
     nodes: usize,
+    /// the length of the frame table, "the limit in 13".
+    places: usize,
     /// The live frames.
     frames: BTreeMap<FrameId, Frame>,
     /// One deque per worker: the top frame first, the bottom one last.
@@ -61,9 +62,11 @@ pub struct Machine {
 }
 
 impl Machine {
-    /// A start, refused by 1 to 3.
+    /// A start, refused by 1 to 3 and 21. "At a start the plain machine is fed"
+    /// the table's "length as well".
     pub fn start(
         workers: usize,
+        places: usize,
         nodes: usize,
         values: &[u32],
         counting: Counting,
@@ -74,6 +77,9 @@ impl Machine {
         }
         if workers == 0 || workers > MAX_WORKERS {
             return Err(Refusal::Workers);
+        }
+        if places == 0 || places > MAX_PLACES {
+            return Err(Refusal::Places);
         }
         if nodes < shape::tree_nodes(splitters) || nodes > MAX_NODES {
             return Err(Refusal::PoolNodes);
@@ -96,6 +102,7 @@ impl Machine {
         Ok(Machine {
             splitters,
             nodes,
+            places,
             frames: BTreeMap::from([(MAIN, main)]),
             deques,
             frames_made: 1,
@@ -148,7 +155,7 @@ impl Machine {
     }
 
     fn check_spawn(&self) -> Result<(), Refusal> {
-        if self.frames.len() == MAX_LIVE_FRAMES {
+        if self.frames.len() == self.places {
             return Err(Refusal::TooManyFrames);
         }
         Ok(())
@@ -493,21 +500,68 @@ mod tests {
     use super::*;
     use crate::{generate, record, splitrun};
 
-    fn refusal_of(workers: usize, nodes: usize, splitters: usize) -> Option<Refusal> {
-        Machine::start(workers, nodes, &vec![0; splitters], Counting::Recounted).err()
+    fn start(
+        workers: usize,
+        places: usize,
+        nodes: usize,
+        splitters: usize,
+    ) -> Result<Machine, Refusal> {
+        let values = vec![0; splitters];
+        Machine::start(workers, places, nodes, &values, Counting::Recounted)
     }
 
-    /// Among them the starts that splitrun calls unfit.
+    fn refusal_of(
+        workers: usize,
+        places: usize,
+        nodes: usize,
+        splitters: usize,
+    ) -> Option<Refusal> {
+        start(workers, places, nodes, splitters).err()
+    }
+
+    /// Among them the starts that splitrun calls unfit, and those with tables
+    /// that it does not lend.
     #[test]
     fn starts() {
-        assert_eq!(refusal_of(1, 600, 0), Some(Refusal::InitialValues));
-        assert_eq!(refusal_of(1, 600, 257), Some(Refusal::InitialValues));
-        assert_eq!(refusal_of(0, 600, 256), Some(Refusal::Workers));
-        assert_eq!(refusal_of(9, 600, 256), Some(Refusal::Workers));
-        assert_eq!(refusal_of(8, 510, 256), Some(Refusal::PoolNodes));
-        assert_eq!(refusal_of(8, 16_385, 256), Some(Refusal::PoolNodes));
-        assert_eq!(refusal_of(8, 511, 256), None);
-        assert_eq!(refusal_of(8, 16_384, 256), None);
+        for places in [0, 1, 64, 256, 257] {
+            assert_eq!(refusal_of(1, places, 600, 0), Some(Refusal::InitialValues));
+            assert_eq!(
+                refusal_of(1, places, 600, 257),
+                Some(Refusal::InitialValues)
+            );
+            assert_eq!(refusal_of(0, places, 600, 256), Some(Refusal::Workers));
+            assert_eq!(refusal_of(9, places, 600, 256), Some(Refusal::Workers));
+        }
+        for places in [0, 257, 300] {
+            assert_eq!(refusal_of(8, places, 511, 256), Some(Refusal::Places));
+            assert_eq!(refusal_of(8, places, 510, 256), Some(Refusal::Places));
+        }
+        for places in [1, 2, 64, 256] {
+            assert_eq!(refusal_of(8, places, 510, 256), Some(Refusal::PoolNodes));
+            assert_eq!(refusal_of(8, places, 16_385, 256), Some(Refusal::PoolNodes));
+            assert_eq!(refusal_of(8, places, 511, 256), None);
+            assert_eq!(refusal_of(8, places, 16_384, 256), None);
+        }
+    }
+
+    /// as many frames live as the table has places; the next spawn is 13,
+    /// and after one return it is accepted.
+    #[test]
+    fn full_tables() {
+        let (spawn, end) = (Step::Spawn { worker: 0 }, Step::Return { worker: 0 });
+        for places in [1, 2, 63, 64, 65, 255, 256] {
+            let mut machine = start(1, places, 1, 1).expect("a start");
+            let depths = 1..places as u32;
+            depths.for_each(|depth| assert_eq!(machine.step(spawn), Ok(depth)));
+            assert_eq!(machine.step(spawn), Err(Refusal::TooManyFrames));
+            let outcome = if places == 1 { 3 } else { 0 };
+            assert_eq!(machine.step(end), Ok(outcome));
+            let again = match places {
+                1 => Err(Refusal::MainReturned),
+                _ => Ok(places as u32 - 1),
+            };
+            assert_eq!(machine.step(spawn), again);
+        }
     }
 
     /// By how much a write brings the count up.

@@ -1,6 +1,7 @@
-//! The refusals, "Refused, in checking order". Numbers 5 and 6 cannot occur
-//! in splitrun: its work slice is long enough and its state is sound. 14 no
-//! longer occurs (R-3 of document 02); 20 is R-5's.
+//! The refusals, "Refused, in checking order". Numbers 5, 6 and 21 cannot
+//! occur in splitrun: its work slice is long enough, its state is sound and its
+//! frame table has 64 places. 14 no longer occurs (R-3 of document 02); 20 is
+//! R-5's, 21 R-6's.
 
 #[derive(Clone, Copy, Debug, PartialEq, Eq)]
 pub enum Refusal {
@@ -25,7 +26,8 @@ pub enum Refusal {
     ThiefNotIdle = 11,
     /// "The victim does not exist or has fewer than two frames."
     Victim = 12,
-    /// "The step is a spawn and 64 frames live."
+    /// "The step is a spawn and" as many frames live as the table has places
+    ///
     TooManyFrames = 13,
     /// "The step is a read or a write and the splitter is not below n."
     Splitter = 15,
@@ -34,6 +36,8 @@ pub enum Refusal {
     TooFewNodes = 16,
     /// "kind 7 names no reducer, in the place of 15".
     Reducer = 20,
+    /// "at a start, the table has 0 or more than 256 places, after 2".
+    Places = 21,
 }
 
 impl Refusal {

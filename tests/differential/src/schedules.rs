@@ -6,7 +6,7 @@ use crate::demand3::Run;
 use crate::machine::{Counting, FrameId, Machine, MAIN};
 use crate::random::Random;
 use crate::record::Step;
-use crate::splitrun::{Input, MAX_NODES, MAX_TAPE_BYTES};
+use crate::splitrun::{Input, MAX_NODES, MAX_TAPE_BYTES, PLACES};
 
 /// The input of the same frames' steps under a random schedule, with a pool as
 /// large as can be. None if it came to a point where no frame could go on (by
@@ -14,7 +14,7 @@ use crate::splitrun::{Input, MAX_NODES, MAX_TAPE_BYTES};
 pub fn reschedule(run: &Run, input: &Input, random: &mut Random) -> Option<Input> {
     let workers = random.between(1, 8);
     let nodes = MAX_NODES as usize;
-    let machine = Machine::start(workers, nodes, &input.values, Counting::Cached).ok()?;
+    let machine = Machine::start(workers, PLACES, nodes, &input.values, Counting::Cached).ok()?;
     let mut schedule = Schedule {
         run,
         machine,

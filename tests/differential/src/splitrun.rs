@@ -10,6 +10,8 @@ pub const HEADER_BYTES: usize = 8;
 pub const MAX_SPLITTERS: usize = 256;
 pub const MAX_NODES: u32 = 1_024;
 pub const MAX_TAPE_BYTES: usize = 16_384;
+/// "splitrun lends 64 places".
+pub const PLACES: usize = 64;
 
 /// An input that is not unfit.
 #[derive(Clone)]
@@ -55,7 +57,8 @@ impl Input {
 
     fn start(&self, counting: Counting) -> Result<Machine, Refusal> {
         let workers = usize::from(self.workers);
-        Machine::start(workers, self.nodes as usize, &self.values, counting)
+        let nodes = self.nodes as usize;
+        Machine::start(workers, PLACES, nodes, &self.values, counting)
     }
 }
 

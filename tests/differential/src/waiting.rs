@@ -181,15 +181,15 @@ mod tests {
     use super::*;
     use crate::generate;
     use crate::machine::Counting;
-    use crate::splitrun::Input;
+    use crate::splitrun::{Input, PLACES};
 
     /// Compares what is foreseen of each return with the machine's outcome
     /// and with the frames that are live after it.
     fn follow(input: &Input) -> usize {
         let workers = usize::from(input.workers);
         let nodes = input.nodes as usize;
-        let Ok(mut machine) = Machine::start(workers, nodes, &input.values, Counting::Cached)
-        else {
+        let started = Machine::start(workers, PLACES, nodes, &input.values, Counting::Cached);
+        let Ok(mut machine) = started else {
             return 0;
         };
         let mut returns = 0;

@@ -1,7 +1,7 @@
-//! Sound pairs of a state and a pool, as runs of plain.rs leave them.
+//! Sound pairs of a state, with its table, and a pool, as runs of plain.rs leave them.
 
 use crate::corrupt::Pair;
-use crate::plain::{self, State, SPAWN};
+use crate::plain::{self, Frame, State, SPAWN};
 use crate::random::Random;
 use crate::sketch::Sketch;
 use crate::steps::{self, Driver, StepWords};
@@ -17,11 +17,28 @@ pub fn any(random: &Random) -> Pair {
     played(splitters, tree + random.word_below(5 * tree), random)
 }
 
+/// The length of a table: mostly short, and every length is met.
+pub fn any_places(random: &Random) -> usize {
+    match random.below(16) {
+        0 => random.pick(&[1, 2, 3]),
+        1 => random.pick(&[63, 64, 65]),
+        2 => random.pick(&[255, 256]),
+        3 | 4 => 1 + random.below(256),
+        _ => 2 + random.below(40),
+    }
+}
+
 /// With so many splitters and nodes.
 pub fn played(splitters: usize, nodes: u32, random: &Random) -> Pair {
+    played_in(any_places(random), splitters, nodes, random)
+}
+
+/// The same in a table of so many places.
+pub fn played_in(places: usize, splitters: usize, nodes: u32, random: &Random) -> Pair {
     let workers = 1 + random.word_below(8);
     let mut pool = vec![0; 4 * nodes as usize];
-    let (state, _) = plain::start(workers, &random.words(splitters), &mut pool);
+    let table = vec![Frame::default(); places];
+    let (state, _) = plain::start(workers, &random.words(splitters), table, &mut pool);
     let mut pair = Pair {
         state,
         pool,
@@ -30,10 +47,10 @@ pub fn played(splitters: usize, nodes: u32, random: &Random) -> Pair {
     play(&mut pair, random.below(150), random);
     let homeward = |state: &State| steps::homeward(state);
     match random.below(24) {
-        0 | 1 => take(&mut pair, 64, homeward),
-        2 => take(&mut pair, 64, |_| [SPAWN, 0, 0, 0]),
+        0 | 1 => take(&mut pair, places, homeward),
+        2 => take(&mut pair, places, |_| [SPAWN, 0, 0, 0]),
         3 => sketch(&mut pair, random, |sketch| {
-            sketch.line(random.pick(&[3, 10, 63]));
+            sketch.line(random.pick(&[3, 10, places]));
         }),
         4..8 => sketch(&mut pair, random, |sketch| sketch.family()),
         _ => {}

@@ -3,11 +3,11 @@
 use crate::image;
 use crate::lent::Lent;
 use crate::parts::Parts;
-use crate::plain;
-use splitter::raw;
+use crate::plain::{self, FRAME_WORDS};
+use splitter::{raw, Frame};
 use std::fmt;
 
-/// The interface's own refusal: a part of the state has another length than it must have.
+/// The interface's own refusal: numbers or deques have another length than they must have.
 pub const BAD_STATE: u32 = 99;
 
 #[derive(Clone)]
@@ -85,7 +85,7 @@ impl Call {
         let (pool, work) = (&mut after.pool, &mut after.work);
         match &self.entry {
             Entry::Start { workers, values } => {
-                (state, after.result[0]) = plain::start(*workers, values, pool);
+                (state, after.result[0]) = plain::start(*workers, values, state.frames, pool);
             }
             &Entry::Step([kind, worker, field, value]) => {
                 after.result =
@@ -109,7 +109,9 @@ impl Call {
     /// The same through the library, each slice between `guard` guard words. None if a guard word has changed.
     pub fn by_library(&self, guard: usize) -> Option<Outcome> {
         let lend = |words: &[u32]| Lent::new(words, guard, 0x5AFE_C0DE);
-        let [mut numbers, mut deques, mut frames] = self.state.each().map(|part| lend(part));
+        let (mut numbers, mut deques) = (lend(&self.state.numbers), lend(&self.state.deques));
+        let guard_frame = Frame::from_words([0x5AFE_C0DE; FRAME_WORDS]);
+        let mut frames = Lent::new(&records(&self.state.frames), guard, guard_frame);
         let mut pool = lend(&self.pool);
         let mut work = lend(&self.work);
         let mut answers = lend(self.answers());
@@ -119,11 +121,9 @@ impl Call {
             raw::Parts {
                 numbers: numbers.slice(),
                 deques: deques.slice(),
-                frames: frames.slice(),
             },
-            pool.slice(),
-            work.slice(),
-            answers.slice(),
+            frames.slice(),
+            [pool.slice(), work.slice(), answers.slice()],
             values.slice(),
             bytes.slice(),
         );
@@ -132,7 +132,11 @@ impl Call {
             state: Parts {
                 numbers: numbers.back()?,
                 deques: deques.back()?,
-                frames: frames.back()?,
+                frames: frames
+                    .back()?
+                    .into_iter()
+                    .flat_map(Frame::to_words)
+                    .collect(),
             },
             pool: pool.back()?,
             work: work.back()?,
@@ -146,20 +150,25 @@ impl Call {
     fn enter(
         &self,
         state: raw::Parts,
-        pool: &mut [u32],
-        work: &mut [u32],
-        answers: &mut [u32],
+        frames: &mut [Frame],
+        [pool, work, answers]: [&mut [u32]; 3],
         values: &[u32],
         bytes: &mut [u8],
     ) -> [u32; 2] {
         match &self.entry {
-            Entry::Start { workers, .. } => [raw::start(state, *workers, values, pool), 0],
-            Entry::Step(step) => raw::step(state, pool, work, *step),
-            Entry::Tape { .. } => [raw::tape(state, pool, work, bytes, answers), 0],
-            Entry::Save { .. } => [raw::save(state, pool, work, bytes), 0],
-            Entry::Load { .. } => [raw::load(state, pool, work, bytes), 0],
+            Entry::Start { workers, .. } => [raw::start(state, frames, *workers, values, pool), 0],
+            Entry::Step(step) => raw::step(state, frames, pool, work, *step),
+            Entry::Tape { .. } => [raw::tape(state, frames, pool, work, bytes, answers), 0],
+            Entry::Save { .. } => [raw::save(state, frames, pool, work, bytes), 0],
+            Entry::Load { .. } => [raw::load(state, frames, pool, work, bytes), 0],
         }
     }
+}
+
+/// The records of a table's words.
+fn records(words: &[u32]) -> Vec<Frame> {
+    let (records, _) = words.as_chunks();
+    records.iter().copied().map(Frame::from_words).collect()
 }
 
 impl Outcome {
@@ -213,10 +222,12 @@ impl fmt::Display for Call {
             Entry::Save { target } => write!(f, "save, {} target bytes", target.len())?,
             Entry::Load { image } => write!(f, "load, {} image bytes", image.len())?,
         }
-        let [numbers, deques, frames] = self.state.each().map(Vec::len);
         write!(
             f,
-            "; {numbers} number, {deques} deque, {frames} frame, {} pool, {} work words",
+            "; {} number, {} deque words, {} places, {} pool, {} work words",
+            self.state.numbers.len(),
+            self.state.deques.len(),
+            self.state.places(),
             self.pool.len(),
             self.work.len()
         )

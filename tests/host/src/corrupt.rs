@@ -1,12 +1,13 @@
-//! Changes of a sound state and its pool: most break soundness, some keep it, and for some it depends.
+//! Changes of a sound state, its table and its pool: most break soundness, some keep it, and for some it depends.
 
 mod frames;
 mod numbers;
 mod siblings;
+mod tables;
 mod trees;
-mod words;
+pub mod words;
 
-use crate::plain::{self, Node, State, HOLDERS, LEFT, MAX_FRAMES, NONE, RIGHT};
+use crate::plain::{self, Node, State, HOLDERS, LEFT, NONE, RIGHT};
 use crate::random::Random;
 use Expected::{Either, Sound, Unsound};
 
@@ -46,8 +47,9 @@ const fn kind(name: &'static str, expected: Expected, share: usize, change: Chan
     }
 }
 
-pub const KINDS: [Kind; 73] = [
-    kind("state word", Either, 120, words::state_word),
+pub const KINDS: [Kind; 83] = [
+    kind("state word", Either, 200, words::state_word),
+    kind("record word", Either, 80, words::record_word),
     kind("pool word", Either, 40, words::pool_word),
     kind("two words", Either, 10, words::two_words),
     kind("garbage", Either, 10, words::garbage),
@@ -123,6 +125,15 @@ pub const KINDS: [Kind; 73] = [
     kind("Main linked", Unsound, 5, siblings::main_linked),
     kind("links exchanged", Unsound, 8, siblings::links_exchanged),
     kind("free place's view", Unsound, 6, siblings::free_place_view),
+    kind("table grown", Sound, 8, tables::grown),
+    kind("table shrunk", Sound, 8, tables::shrunk),
+    kind("table too long", Unsound, 6, tables::too_long),
+    kind("no table left", Unsound, 30, tables::none_left),
+    kind("table lengthened", Unsound, 6, tables::lengthened),
+    kind("table cut off", Unsound, 6, tables::cut_off),
+    kind("length recorded", Unsound, 8, tables::length_recorded),
+    kind("cut and recorded", Unsound, 8, tables::cut_and_recorded),
+    kind("number past it", Unsound, 10, tables::number_past_it),
     kind("numbers moved", Either, 10, numbers::moved),
     kind("16,384 nodes", Either, 1, numbers::brink),
 ];
@@ -174,7 +185,7 @@ impl Pair {
     }
 
     pub fn live(&self) -> Vec<usize> {
-        (0..MAX_FRAMES)
+        (0..self.state.frames.len())
             .filter(|&place| self.state.frames[place].live != 0)
             .collect()
     }

@@ -2,9 +2,9 @@
 #![allow(clippy::ptr_arg)] // every damage has the type Change
 
 use crate::corrupt::Pair;
-use crate::image::{self, BLOCK_BYTES, DATA_BYTES, PER_VERSION, VERSION, WORKERS};
+use crate::image::{self, Size, BLOCK_BYTES, DATA_BYTES, PER_VERSION, VERSION, WORKERS};
 use crate::parts::Parts;
-use crate::plain::{FRAMES_WORDS, FRAME_WORDS, MAX_FRAMES, MAX_NODES, NUMBERS_WORDS, STATE_WORDS};
+use crate::plain::{DEQUE_WORDS, FRAME_WORDS, MAX_NODES, MAX_PLACES};
 use crate::random::Random;
 
 /// What a damaged image is made from.
@@ -38,8 +38,10 @@ const fn damage(name: &'static str, answers: &'static [u32], change: Change) -> 
 
 /// No images have more nodes than this, but where they record more than they have.
 pub const MOST_NODES: usize = MAX_NODES + 100;
+/// Nor more places.
+pub const MOST_PLACES: usize = MAX_PLACES + 60;
 
-pub const DAMAGES: [Damage; 48] = [
+pub const DAMAGES: [Damage; 53] = [
     damage("none", &[0], |_, _, _| Some(())),
     damage("a bit", &[17, 18], bit),
     damage("a byte", &[17, 18], byte),
@@ -72,6 +74,11 @@ pub const DAMAGES: [Damage; 48] = [
     damage("nodes wrapped", &[17], nodes_wrapped),
     damage("nodes fewer", &[6], nodes_fewer),
     damage("nodes more", &[6], nodes_more),
+    damage("places lied", &[6, 17, 18], places_lied),
+    damage("places lied wildly", &[17], places_lied_wildly),
+    damage("places wrapped", &[17], places_wrapped),
+    damage("places fewer", &[6], places_fewer),
+    damage("places more", &[6], places_more),
     damage("a word, right check", &[], word_checked),
     damage("words swapped", &[], words_swapped),
     damage("sum kept", &[0, 6], sum_kept),
@@ -90,37 +97,50 @@ pub const DAMAGES: [Damage; 48] = [
     damage("a total", &[0, 6], total),
 ];
 
-/// The image of a pair, sound or not: of as many nodes as it records, zero where the pool has none. Of the pool's nodes, if it records far
-/// too many.
+/// The image of a pair, sound or not: of as many places and nodes as it records, zero where table and pool have none. Of the table's places
+/// and the pool's nodes, if it records far too many.
 pub fn image_of(pair: &Pair) -> Vec<u8> {
-    let (nodes, there) = nodes_of(pair);
-    let state = Parts::of(&pair.state);
-    let mut image = vec![0; image::bytes(nodes as u32) as usize];
-    image::put(image::image_words(&state, &pair.pool[..there]), &mut image);
+    let (state, size) = (Parts::of(&pair.state), size_of(pair));
+    let mut image = vec![0; image::bytes(size) as usize];
+    image::put(image::image_words(&state, size, &pair.pool), &mut image);
     image
 }
 
-/// The nodes of a pair's image, and the words of them that the pool has.
-fn nodes_of(pair: &Pair) -> (usize, usize) {
-    let recorded = pair.state.nodes as usize;
-    let nodes = if recorded <= MOST_NODES {
-        recorded
-    } else {
-        pair.pool.len() / 4
+/// The places and nodes of a pair's image.
+fn size_of(pair: &Pair) -> Size {
+    let within = |recorded: u32, most: usize, there: usize| {
+        if recorded as usize <= most {
+            recorded
+        } else {
+            there as u32
+        }
     };
-    (nodes, pair.pool.len().min(4 * nodes))
+    Size {
+        places: within(pair.state.places, MOST_PLACES, pair.state.frames.len()),
+        nodes: within(pair.state.nodes, MOST_NODES, pair.pool.len() / 4),
+    }
 }
 
-/// The image of a sound pair in the form before R-3, version 0, or that before R-5, version 1: no totals, six or seven words to a record.
+/// Places of an image from before.
+const PLACES_BEFORE: usize = 64;
+
+/// Numbers, and words to a frame record, of the forms before: versions 0 to 2.
+const BEFORE: [(usize, usize); 3] = [(5, 6), (5, 7), (9, 12)];
+
+/// The image of a sound pair in a form from before, with 64 places, zero where the table has none.
 pub fn image_before(pair: &Pair, version: u32) -> Vec<u8> {
-    let (_, there) = nodes_of(pair);
-    let state = Parts::of(&pair.state);
-    let records = state.frames.chunks(FRAME_WORDS);
-    let kept = records.flat_map(|record| &record[..6 + version as usize]);
-    let words = state.numbers[..5].iter().chain(&state.deques);
-    let words = words.chain(kept).chain(&pair.pool[..there]);
-    let mut words: Vec<u32> = words.copied().collect();
+    let (numbers, frame_words) = BEFORE[version as usize];
+    let mut state = Parts::of(&pair.state);
+    state.frames.resize(PLACES_BEFORE * FRAME_WORDS, 0);
+    let mut words = state.numbers[..numbers].to_vec();
     words[WORKERS] += version * PER_VERSION;
+    for deque in state.deques.chunks(DEQUE_WORDS) {
+        words.extend(&deque[..1 + PLACES_BEFORE]);
+    }
+    for record in state.frames.chunks(FRAME_WORDS) {
+        words.extend(&record[..frame_words]);
+    }
+    words.extend(&pair.pool[..4 * pair.state.nodes as usize]);
     let mut image = vec![0; words.len().div_ceil(127) * BLOCK_BYTES];
     image::put(words, &mut image);
     image
@@ -328,11 +348,14 @@ fn garbage(image: &mut Vec<u8>, _: &Source, random: &Random) -> Option<()> {
 
 /// Random bytes, but just as many blocks as they call for.
 fn garbage_called_for(image: &mut Vec<u8>, _: &Source, random: &Random) -> Option<()> {
-    let nodes = random.word_below(200);
-    *image = random_bytes(image::bytes(nodes) as usize, random);
+    let size = Size {
+        places: random.pick(&[0, 1, 2, 64, 256, 257, random.word_below(300)]),
+        nodes: random.word_below(200),
+    };
+    *image = random_bytes(image::bytes(size) as usize, random);
     let workers = random.word_below(random.pick(&[9, PER_VERSION]));
     image::set_word(image, WORKERS, workers + VERSION * PER_VERSION);
-    image::set_word(image, image::NODES, nodes);
+    set_size(image, size);
     Some(())
 }
 
@@ -343,6 +366,11 @@ fn garbage_checked(image: &mut Vec<u8>, source: &Source, random: &Random) -> Opt
     }
     image::repair(image);
     Some(())
+}
+
+fn set_size(image: &mut [u8], size: Size) {
+    image::set_word(image, image::PLACES, size.places);
+    image::set_word(image, image::NODES, size.nodes);
 }
 
 /// Zeros in the words after the recorded nodes.
@@ -360,34 +388,53 @@ fn zeros(image: &mut Vec<u8>, _: &Source, random: &Random) -> Option<()> {
 
 /// Zeros but for the first word and its check.
 fn zeros_of_the_form(image: &mut Vec<u8>, _: &Source, random: &Random) -> Option<()> {
-    *image = vec![0; random.pick(&[1, 8, 10, 11, 11, 11, 12]) * BLOCK_BYTES];
+    *image = vec![0; random.pick(&[1, 1, 2, 10, 11]) * BLOCK_BYTES];
     let workers = random.word_below(3);
     image::set_word(image, WORKERS, workers + VERSION * PER_VERSION);
     image::repair(image);
     Some(())
 }
 
-/// Records another number of nodes, with the checks right, and the length as it was.
-fn record(image: &mut [u8], nodes: u32) -> Option<()> {
+/// Records other numbers, with the checks right, and the length as it was.
+fn record(image: &mut [u8], size: Size) -> Option<()> {
     let old = image::recorded(image)?;
-    image::set_word(image, image::NODES, nodes);
+    set_size(image, size);
     image::repair(image);
-    (nodes != old).then_some(())
+    (size != old).then_some(())
 }
 
-fn nodes_lied(image: &mut Vec<u8>, _: &Source, random: &Random) -> Option<()> {
+fn record_nodes(image: &mut [u8], nodes: u32) -> Option<()> {
     let old = image::recorded(image)?;
+    record(image, Size { nodes, ..old })
+}
+
+fn record_places(image: &mut [u8], places: u32) -> Option<()> {
+    let old = image::recorded(image)?;
+    record(image, Size { places, ..old })
+}
+
+/// A number near the old one, or a small one.
+fn lie(old: u32, random: &Random) -> u32 {
     let near = random.word_below(40);
     let (less, more) = (old.wrapping_sub(1), old.wrapping_add(1));
-    let lies = [
+    random.pick(&[
         0,
         1,
         less,
         more,
         old.wrapping_sub(near),
         old.wrapping_add(near),
-    ];
-    record(image, random.pick(&lies))
+    ])
+}
+
+fn nodes_lied(image: &mut Vec<u8>, _: &Source, random: &Random) -> Option<()> {
+    let old = image::recorded(image)?.nodes;
+    record_nodes(image, lie(old, random))
+}
+
+fn places_lied(image: &mut Vec<u8>, _: &Source, random: &Random) -> Option<()> {
+    let old = image::recorded(image)?.places;
+    record_places(image, lie(old, random))
 }
 
 /// So many nodes take just 2^32 bytes of an image.
@@ -395,7 +442,7 @@ const WRAP_BYTES: u32 = 127 << 21;
 
 /// Numbers that are not far from the truth in arithmetic of 32 bits.
 fn nodes_lied_wildly(image: &mut Vec<u8>, _: &Source, random: &Random) -> Option<()> {
-    let old = image::recorded(image)?;
+    let old = image::recorded(image)?.nodes;
     let wrapped = old.wrapping_add((1 + random.word_below(3)) << 30);
     let wrapped_bytes = old.wrapping_add((1 + random.word_below(15)) * WRAP_BYTES);
     let far = 1 << 20 | random.word();
@@ -408,45 +455,145 @@ fn nodes_lied_wildly(image: &mut Vec<u8>, _: &Source, random: &Random) -> Option
         wrapped_bytes,
         far,
     ];
-    record(image, random.pick(&lies))
+    record_nodes(image, random.pick(&lies))
+}
+
+/// The same of the places, of 20 words each.
+fn places_lied_wildly(image: &mut Vec<u8>, _: &Source, random: &Random) -> Option<()> {
+    let old = image::recorded(image)?.places;
+    let wrapped = old.wrapping_add((1 + random.word_below(3)) << 30);
+    let far = 1 << 20 | random.word();
+    let lies = [u32::MAX, u32::MAX - 1, 1 << 31, wrapped, wrapped, far];
+    record_places(image, random.pick(&lies))
 }
 
 /// A few blocks, and a number of nodes that calls for as many if its words are counted modulo 2^32.
 fn nodes_wrapped(image: &mut Vec<u8>, _: &Source, random: &Random) -> Option<()> {
-    let state = STATE_WORDS as u32; // 1,297: one more than a multiple of four
-    let words = 1 + 4 * random.word_below(state / 4);
+    let size = recorded_within(image)?;
+    let state = image::first_node(size.places) as u32; // two more than a multiple of four
+    let words = 2 + 4 * random.word_below(state / 4);
     let quarter = random.word_below(4) << 30;
     let nodes = (words.wrapping_sub(state) / 4).wrapping_add(quarter);
     image.resize(words.div_ceil(127) as usize * BLOCK_BYTES, 0);
-    record(image, nodes)
+    record_nodes(image, nodes)
+}
+
+/// Times five it is 1, modulo 2^32.
+const FIFTH: u32 = 0xCCCC_CCCD;
+
+/// The same by a number of places: 20 times it, 18 and four times the nodes are a few words modulo 2^32.
+fn places_wrapped(image: &mut Vec<u8>, _: &Source, random: &Random) -> Option<()> {
+    let size = recorded_within(image)?;
+    let others = 18 + 4 * size.nodes;
+    let words = 2 + 4 * random.word_below(1_000);
+    let fours = words.wrapping_sub(others) / 4;
+    let quarter = random.word_below(4) << 30;
+    let places = (fours.wrapping_mul(FIFTH) & 0x3FFF_FFFF).wrapping_add(quarter);
+    image.resize(words.div_ceil(127) as usize * BLOCK_BYTES, 0);
+    (places as usize > MOST_PLACES).then_some(())?;
+    record_places(image, places)
+}
+
+/// What is recorded, if an image has as much.
+fn recorded_within(image: &[u8]) -> Option<Size> {
+    let within =
+        |size: &Size| size.places as usize <= MOST_PLACES && size.nodes as usize <= MOST_NODES;
+    image::recorded(image).filter(within)
+}
+
+/// The image with another size, and all else as it calls for: words are cut at the end or zeros come there.
+fn fit(image: &mut Vec<u8>, size: Size) {
+    image.resize(image::bytes(size) as usize, 0);
+    set_size(image, size);
+    clear_rest(image);
+    image::repair(image);
 }
 
 /// Fewer nodes, and all else as they call for.
 fn nodes_fewer(image: &mut Vec<u8>, _: &Source, random: &Random) -> Option<()> {
-    let old = image::recorded(image).filter(|&nodes| nodes > 0)?;
+    let size = recorded_within(image).filter(|size| size.nodes > 0)?;
+    let old = size.nodes;
     let nodes = random.pick(&[0, old - 1, random.word_below(old)]);
-    image.truncate(image::bytes(nodes) as usize);
-    image::set_word(image, image::NODES, nodes);
-    clear_rest(image);
-    image::repair(image);
+    fit(image, Size { nodes, ..size });
     Some(())
 }
 
 /// More nodes, of zeros or of any words, and all else as they call for.
 fn nodes_more(image: &mut Vec<u8>, _: &Source, random: &Random) -> Option<()> {
-    let old = image::recorded(image).filter(|&nodes| (nodes as usize) < MOST_NODES)?;
+    let size = recorded_within(image).filter(|size| (size.nodes as usize) < MOST_NODES)?;
     let nodes = match random.below(500) {
         0 => MAX_NODES as u32 + random.word_below(2),
-        _ => (old + 1 + random.word_below(40)).min(MOST_NODES as u32),
+        _ => (size.nodes + 1 + random.word_below(40)).min(MOST_NODES as u32),
     };
-    let length = image::bytes(nodes) as usize;
+    let more = Size { nodes, ..size };
+    let length = image::bytes(more) as usize;
     image.resize(length.max(image.len()), 0);
     if random.one_in(2) {
-        let [from, to] = [old.min(nodes), nodes].map(image::words);
+        let [from, to] = [
+            image::words(size).min(image::words(more)),
+            image::words(more),
+        ];
         (from..to).for_each(|word| image::set_word(image, word as usize, random.word()));
     }
     image.truncate(length);
-    record(image, nodes)
+    record(image, more)
+}
+
+/// The words of an image of this size after the numbers, as those of another number of places: each deque and the table are cut at the
+/// end, or zeros come there.
+fn relaid(image: &[u8], old: Size, places: u32) -> Vec<u32> {
+    let words: Vec<u32> = image::get(image).collect();
+    let [from, to] = [old.places, places].map(|places| places as usize);
+    let records = image::records(old.places) as usize;
+    let (numbers, rest) = words[..image::words(old) as usize].split_at(image::PLACES + 1);
+    let (deques, frames) = rest.split_at(records - numbers.len());
+    let (frames, nodes) = frames.split_at(from * FRAME_WORDS);
+    let fitted = |part: &[u32], length: usize| {
+        let mut part = part.to_vec();
+        part.resize(length, 0);
+        part
+    };
+    let mut relaid = numbers.to_vec();
+    for deque in deques.chunks(1 + from) {
+        relaid.extend(fitted(deque, 1 + to));
+    }
+    relaid.extend(fitted(frames, to * FRAME_WORDS));
+    relaid.extend(nodes);
+    relaid[image::PLACES] = places;
+    relaid
+}
+
+/// Another number of places, and all words where they belong then.
+fn relay(image: &mut Vec<u8>, size: Size, places: u32) {
+    let words = relaid(image, size, places);
+    *image = vec![0; image::bytes(Size { places, ..size }) as usize];
+    image::put(words, image);
+}
+
+/// What is recorded, if the image has it all.
+fn recorded_there(image: &[u8]) -> Option<Size> {
+    recorded_within(image).filter(|&size| image::bytes(size) == image.len() as u64)
+}
+
+/// Fewer places, all words where they belong then. What was in the others is missed: a frame, or a link of the free chain.
+fn places_fewer(image: &mut Vec<u8>, _: &Source, random: &Random) -> Option<()> {
+    let size = recorded_there(image).filter(|size| size.places > 0)?;
+    let old = size.places;
+    relay(
+        image,
+        size,
+        random.pick(&[0, old - 1, random.word_below(old)]),
+    );
+    Some(())
+}
+
+/// More places, of zeros: they lie on no chain.
+fn places_more(image: &mut Vec<u8>, _: &Source, random: &Random) -> Option<()> {
+    let most = MOST_PLACES as u32;
+    let size = recorded_there(image).filter(|size| size.places < most)?;
+    let more = [1, 1, 1 + random.word_below(most - size.places)];
+    relay(image, size, size.places + random.pick(&more));
+    Some(())
 }
 
 fn word_checked(image: &mut Vec<u8>, _: &Source, random: &Random) -> Option<()> {
@@ -487,10 +634,11 @@ fn first_of_rest(image: &[u8]) -> Option<usize> {
     Some(image::words(image::recorded(image)?) as usize)
 }
 
-/// Neither word is the image's first or third, or in the rest of the last block.
+/// Neither word is the image's first, or records a number, or is in the rest of the last block.
 fn sum_kept(image: &mut Vec<u8>, _: &Source, random: &Random) -> Option<()> {
     let (first, rest) = (some_block(image, random)? * 127, first_of_rest(image)?);
-    let held = |&word: &usize| word < rest && ![WORKERS, image::NODES].contains(&word);
+    let settled = [WORKERS, image::NODES, image::PLACES];
+    let held = |&word: &usize| word < rest && !settled.contains(&word);
     let words: Vec<usize> = (first..first + 127).filter(held).collect();
     keep_sum(image, random.some(&words)?, random.some(&words)?, random)
 }
@@ -498,9 +646,10 @@ fn sum_kept(image: &mut Vec<u8>, _: &Source, random: &Random) -> Option<()> {
 /// One of the two is.
 fn sum_kept_at_edge(image: &mut Vec<u8>, _: &Source, random: &Random) -> Option<()> {
     let rest: Vec<usize> = (first_of_rest(image)?..blocks(image) * 127).collect();
-    let word = match random.below(3) {
+    let word = match random.below(4) {
         0 => WORKERS,
         1 => image::NODES,
+        2 => image::PLACES,
         _ => random.some(&rest)?,
     };
     keep_sum(image, word, word / 127 * 127 + random.below(127), random)
@@ -564,10 +713,14 @@ fn first_word(image: &mut Vec<u8>, _: &Source, random: &Random) -> Option<()> {
         512,
         513,
         520,
-        521,
         767,
         768,
+        769,
         776,
+        777,
+        1_023,
+        1_024,
+        1_032,
         1 << 31,
         near,
         near,
@@ -583,10 +736,11 @@ fn first_word_of_no_version(image: &mut Vec<u8>, _: &Source, random: &Random) ->
     let words = [
         workers,
         256 + workers,
-        511,
-        768,
-        768 + workers,
+        512 + workers,
+        767,
+        1_024,
         1_024 + workers,
+        1_280 + workers,
         65_536 + old,
         old.swap_bytes(),
         1 << 31,
@@ -609,15 +763,16 @@ fn version_lied(image: &mut Vec<u8>, source: &Source, _: &Random) -> Option<()> 
 /// The same, and the length as the present form calls for.
 fn version_lied_fitting(image: &mut Vec<u8>, source: &Source, random: &Random) -> Option<()> {
     version_lied(image, source, random)?;
-    let nodes = image::recorded(image).filter(|&nodes| nodes as usize <= MOST_NODES)?;
-    image.resize(image::bytes(nodes) as usize, 0);
-    clear_rest(image);
-    image::repair(image);
+    let size = recorded_within(image)?;
+    fit(image, size);
     Some(())
 }
 
-/// The first word of the frame records.
-const RECORDS: usize = STATE_WORDS - FRAMES_WORDS;
+/// A word of a place's record.
+fn word_of(image: &[u8], place: usize, word: usize) -> Option<usize> {
+    let records = image::records(recorded_there(image)?.places) as usize;
+    Some(records + place * FRAME_WORDS + word)
+}
 
 /// Another value of a word of the image, with the checks right.
 fn set_checked(image: &mut [u8], word: usize, news: &[u32], random: &Random) -> Option<()> {
@@ -630,14 +785,16 @@ fn set_checked(image: &mut [u8], word: usize, news: &[u32], random: &Random) -> 
 
 /// A place of a frame: two times in three one to whose record the test says yes.
 fn some_place(image: &[u8], random: &Random, test: impl Fn(&[u32]) -> bool) -> Option<usize> {
-    let words: Vec<u32> = image::get(image).skip(RECORDS).take(FRAMES_WORDS).collect();
+    let places = recorded_there(image)?.places as usize;
+    let words = image::get(image).skip(image::records(places as u32) as usize);
+    let words: Vec<u32> = words.take(places * FRAME_WORDS).collect();
     let records = words.chunks_exact(FRAME_WORDS).enumerate();
     let such: Vec<usize> = records
         .filter(|(_, record)| test(record))
         .map(|(place, _)| place)
         .collect();
     match random.below(3) {
-        0 => Some(random.below(MAX_FRAMES)),
+        0 => (places > 0).then(|| random.below(places)),
         _ => random.some(&such),
     }
 }
@@ -645,7 +802,7 @@ fn some_place(image: &[u8], random: &Random, test: impl Fn(&[u32]) -> bool) -> O
 /// R-3's word of a frame record.
 fn seventh_word(image: &mut Vec<u8>, _: &Source, random: &Random) -> Option<()> {
     let place = some_place(image, random, |record| record[4] == 1)?;
-    let word = RECORDS + place * FRAME_WORDS + 6;
+    let word = word_of(image, place, 6)?;
     let old = image::get(image).nth(word)?;
     set_checked(
         image,
@@ -658,21 +815,22 @@ fn seventh_word(image: &mut Vec<u8>, _: &Source, random: &Random) -> Option<()> 
 /// R-5's: any on a live frame, zero on a free place.
 fn view_word(image: &mut Vec<u8>, _: &Source, random: &Random) -> Option<()> {
     let place = some_place(image, random, |record| record[0] == 1)?;
-    let word = RECORDS + place * FRAME_WORDS + 7 + random.below(4);
+    let word = word_of(image, place, 7 + random.below(4))?;
     set_checked(image, word, &[0, 1, u32::MAX, random.word()], random)
 }
 
 /// The link to the next younger sibling, mostly of a frame that is not Main.
 fn sibling_link(image: &mut Vec<u8>, _: &Source, random: &Random) -> Option<()> {
     let place = some_place(image, random, |record| record[0] == 1 && record[2] > 0)?;
-    let word = RECORDS + place * FRAME_WORDS + 11;
-    let near = random.word_below(MAX_FRAMES as u32);
-    let news = [0, place as u32, near, near, 64, 1 << 31, u32::MAX];
+    let word = word_of(image, place, 11)?;
+    let places = recorded_there(image)?.places;
+    let near = random.word_below(places);
+    let news = [0, place as u32, near, near, places, 1 << 31, u32::MAX];
     set_checked(image, word, &news, random)
 }
 
 /// A total: any once Main has returned, zero before.
 fn total(image: &mut Vec<u8>, _: &Source, random: &Random) -> Option<()> {
-    let word = NUMBERS_WORDS - 4 + random.below(4);
+    let word = image::PLACES - 4 + random.below(4);
     set_checked(image, word, &[0, 1, u32::MAX, random.word()], random)
 }

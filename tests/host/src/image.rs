@@ -1,4 +1,4 @@
-//! R-1's image, as change it, in plain Rust: what a save writes and what a reading accepts, refuses and leaves. Written from
+//! R-1's image, as change it, in plain Rust: what a save writes and what a reading accepts, refuses and leaves. Written from
 //! documents 01 and 02 alone.
 
 #[cfg(test)]
@@ -9,19 +9,20 @@ mod tests;
 
 use crate::call::BAD_STATE;
 use crate::parts::Parts;
-use crate::plain::{self, Refusal, STATE_WORDS};
+use crate::plain::{self, Refusal, DEQUE_WORDS, FRAME_WORDS, MAX_WORKERS, NUMBERS_WORDS};
 
 pub const BLOCK_BYTES: usize = 512;
 /// A block's bytes of data; the check follows them.
 pub const DATA_BYTES: usize = 508;
 const DATA_WORDS: u64 = 127;
-/// The words of the workers, with the version, and of the recorded nodes.
+/// The words of the workers, with the version, of the recorded nodes and of the recorded length of the frame table.
 pub const WORKERS: usize = 0;
 pub const NODES: usize = 2;
+pub const PLACES: usize = 9;
 /// The first word has the version times this added.
 pub const PER_VERSION: u32 = 256;
 /// The version that a save writes, and the only one that a reading takes.
-pub const VERSION: u32 = 2;
+pub const VERSION: u32 = 3;
 
 /// The image is not just as many whole blocks as its first block calls for, has no whole block, or a first word of no readable form.
 pub const NOT_ITS_BLOCKS: u32 = 17;
@@ -30,14 +31,31 @@ pub const WRONG_CHECK: u32 = 18;
 /// The target is too short.
 pub const SHORT_TARGET: u32 = 19;
 
-/// The words of an image of so many nodes: the state's, then four for each node.
-pub fn words(nodes: u32) -> u64 {
-    STATE_WORDS as u64 + 4 * u64::from(nodes)
+/// What an image records of its size: the length of the frame table and the nodes.
+#[derive(Clone, Copy, Debug, PartialEq, Eq)]
+pub struct Size {
+    pub places: u32,
+    pub nodes: u32,
 }
 
-/// The bytes of an image of so many nodes, any number.
-pub fn bytes(nodes: u32) -> u64 {
-    words(nodes).div_ceil(DATA_WORDS) * BLOCK_BYTES as u64
+/// The first word of the frame records: after the numbers and, for each worker, its deque's length and so many places.
+pub fn records(places: u32) -> u64 {
+    NUMBERS_WORDS as u64 + MAX_WORKERS as u64 * (1 + u64::from(places))
+}
+
+/// The first word of the nodes.
+pub fn first_node(places: u32) -> u64 {
+    records(places) + FRAME_WORDS as u64 * u64::from(places)
+}
+
+/// The words of an image of this size, any numbers.
+pub fn words(size: Size) -> u64 {
+    first_node(size.places) + 4 * u64::from(size.nodes)
+}
+
+/// Its bytes.
+pub fn bytes(size: Size) -> u64 {
+    words(size).div_ceil(DATA_WORDS) * BLOCK_BYTES as u64
 }
 
 /// The sum of each byte times 256 raised to its offset modulo 4.
@@ -73,9 +91,10 @@ pub fn get(image: &[u8]) -> impl Iterator<Item = u32> + '_ {
         .map(|(_, word)| word)
 }
 
-/// The recorded nodes, if there is a whole block.
-pub fn recorded(image: &[u8]) -> Option<u32> {
-    get(image).nth(NODES)
+/// What is recorded, if there is a whole block.
+pub fn recorded(image: &[u8]) -> Option<Size> {
+    let (nodes, places) = (get(image).nth(NODES)?, get(image).nth(PLACES)?);
+    Some(Size { places, nodes })
 }
 
 /// Whether there is a whole block and its first word is of the readable form.
@@ -84,11 +103,20 @@ pub fn readable(image: &[u8]) -> bool {
     first.is_some_and(|first| first / PER_VERSION == VERSION)
 }
 
-/// The words of an image, from those of a state and its nodes.
-pub fn image_words<'a>(state: &'a Parts, nodes: &'a [u32]) -> impl Iterator<Item = u32> + 'a {
-    let first = state.numbers[WORKERS].wrapping_add(VERSION * PER_VERSION);
-    let others = [&state.numbers[1..], &state.deques, &state.frames, nodes];
-    std::iter::once(first).chain(others.into_iter().flatten().copied())
+/// The words of an image of this size, from those of a state, its table and its pool; zero where these have none.
+pub fn image_words(state: &Parts, size: Size, pool: &[u32]) -> Vec<u32> {
+    let (places, nodes) = (size.places as usize, size.nodes as usize);
+    let mut words = state.numbers.clone();
+    words[WORKERS] = words[WORKERS].wrapping_add(VERSION * PER_VERSION);
+    let mut add = |part: &[u32], length: usize| {
+        words.extend(part.iter().chain(std::iter::repeat(&0)).take(length));
+    };
+    for deque in state.deques.chunks(DEQUE_WORDS) {
+        add(deque, 1 + places);
+    }
+    add(&state.frames, FRAME_WORDS * places);
+    add(pool, 4 * nodes);
+    words
 }
 
 /// 0 with the image in the front of the target, or 99, 5, 6, 19.
@@ -103,62 +131,75 @@ pub fn save(state: &Parts, pool: &[u32], work: &mut [u32], target: &mut [u8]) ->
     if plain::sound(&typed, pool, work).is_none() {
         return Refusal::Unsound as u32;
     }
-    match target.get_mut(..bytes(typed.nodes) as usize) {
+    let size = Size {
+        places: typed.places,
+        nodes: typed.nodes,
+    };
+    match target.get_mut(..bytes(size) as usize) {
         Some(front) => {
-            put(image_words(state, &pool[..4 * nodes]), front);
+            put(image_words(state, size, pool), front);
             0
         }
         None => SHORT_TARGET,
     }
 }
 
-/// 0 with the state and the pool as saved, or 99, 17, 18, 5, 6. Refused by 99 nothing changes, else the state is zeros.
+/// 0 with the state, the table and the pool as saved, or 99, 17, 18, 5, 6. Refused by 99 nothing changes, else the state is zeros.
 pub fn load(state: &mut Parts, pool: &mut [u32], work: &mut [u32], image: &[u8]) -> u32 {
     if state.state().is_none() {
         return BAD_STATE;
     }
     let refusal = take(state, pool, work, image);
     if refusal != 0 {
-        for part in state.each_mut() {
-            part.fill(0);
-        }
+        state.clear();
     }
     refusal
 }
 
 fn take(state: &mut Parts, pool: &mut [u32], work: &mut [u32], image: &[u8]) -> u32 {
-    let Some(nodes) = recorded(image).filter(|_| readable(image)) else {
+    let Some(size) = recorded(image).filter(|_| readable(image)) else {
         return NOT_ITS_BLOCKS;
     };
-    if bytes(nodes) != image.len() as u64 {
+    if bytes(size) != image.len() as u64 {
         return NOT_ITS_BLOCKS;
     }
-    let mut rest = get(image).skip(words(nodes) as usize);
+    let mut rest = get(image).skip(words(size) as usize);
     if !checks_right(image) || rest.any(|word| word != 0) {
         return WRONG_CHECK;
     }
-    if work.len() < nodes as usize {
+    if work.len() < size.nodes as usize {
         return Refusal::ShortWork as u32;
     }
-    read(nodes as usize, state, pool, image);
+    read(size, state, pool, image);
     let sound = state
         .state()
         .and_then(|state| plain::sound(&state, pool, work));
     if sound.is_none() {
         let whole = pool.len() / 4 * 4;
         pool[..whole].fill(0);
+        state.frames.fill(0);
         return Refusal::Unsound as u32;
     }
     0
 }
 
-/// The words of the image in state and pool. A pool with fewer nodes stays as it is: the count alone makes it unsound.
-fn read(nodes: usize, state: &mut Parts, pool: &mut [u32], image: &[u8]) {
+/// The words of the image in state, table and pool. A table of another length and a pool with fewer nodes stay as they are: the numbers
+/// alone make them unsound.
+fn read(size: Size, state: &mut Parts, pool: &mut [u32], image: &[u8]) {
     let mut words = get(image);
     let mut fill = |part: &mut [u32]| part.fill_with(|| words.next().unwrap_or(0));
-    state.each_mut().into_iter().for_each(|part| fill(part));
+    let places = size.places as usize;
+    fill(&mut state.numbers);
     state.numbers[WORKERS] -= VERSION * PER_VERSION;
-    if let Some(front) = pool.get_mut(..4 * nodes) {
+    state.deques.fill(0);
+    if state.places() != places || places >= DEQUE_WORDS {
+        return;
+    }
+    for deque in state.deques.chunks_mut(DEQUE_WORDS) {
+        fill(&mut deque[..1 + places]);
+    }
+    fill(&mut state.frames);
+    if let Some(front) = pool.get_mut(..4 * size.nodes as usize) {
         fill(front);
     }
 }

@@ -2,9 +2,10 @@
 
 use crate::base;
 use crate::call::{Call, Entry, Outcome, BAD_STATE};
+use crate::corrupt::words::TURNS;
 use crate::corrupt::{self, Expected, Pair, KINDS};
-use crate::damage::{self, Source, DAMAGES, MOST_NODES};
-use crate::image::{self, SHORT_TARGET};
+use crate::damage::{self, Source, DAMAGES, MOST_NODES, MOST_PLACES};
+use crate::image::{self, Size, SHORT_TARGET};
 use crate::parts::Parts;
 use crate::plain::{self, Refusal, State, MAX_NODES, SPAWN};
 use crate::random::Random;
@@ -95,21 +96,39 @@ fn count(answers: &mut Answers, after: &Outcome) {
     *answers.entry(after.result[0]).or_default() += 1;
 }
 
-/// The bytes of images, for every number of nodes that a run can have and for some beyond.
+/// The bytes of images: every number of nodes and of places that a run can have, some beyond, and those where arithmetic of 32 bits would go
+/// round.
 pub fn compare_sizes() -> Result<(), Failure> {
-    let powers = (14..32).flat_map(|power| (0..5).map(move |near| (1u32 << power) - 2 + near));
+    let powers = (8..32).flat_map(|power| (0..5).map(move |near| (1u32 << power) - 2 + near));
     let wraps = (0..=128).map(|times: u32| times.wrapping_mul(127 << 18));
-    let mut sizes = (0..=MOST_NODES as u32)
-        .chain(powers)
-        .chain(wraps.flat_map(|nodes| [0, 227, 243, 324, 325].map(|less| nodes.wrapping_sub(less))))
-        .chain([u32::MAX - 1, u32::MAX]);
-    let wrong = sizes.find(|&nodes| {
-        let bytes = image::bytes(nodes);
-        splitter::image_bytes(nodes) != bytes || image::literal::image_bytes(nodes) != bytes
+    let wraps = wraps.flat_map(|nodes| [0, 5, 227, 325].map(|less| nodes.wrapping_sub(less)));
+    let far: Vec<u32> = powers
+        .chain(wraps)
+        .chain([u32::MAX - 1, u32::MAX])
+        .collect();
+    let most_nodes = (0..=MOST_NODES as u32).chain(far.iter().copied());
+    let nodes = most_nodes.flat_map(|nodes| [1, 2, 64, 255, 256].map(|places| (places, nodes)));
+    let most_places = (0..=MOST_PLACES as u32).chain(far.iter().copied());
+    let places = most_places.flat_map(|places| [0, 1, 20, MOST_NODES as u32].map(|n| (places, n)));
+    let both = far.iter().flat_map(|&p| far.iter().map(move |&n| (p, n)));
+    let mut sizes = nodes.chain(places).chain(both);
+    let wrong = sizes.find(|&(places, nodes)| {
+        let bytes = image::bytes(Size { places, nodes });
+        splitter::image_bytes(places, nodes) != bytes
+            || image::literal::image_bytes(places, nodes) != bytes
     });
-    wrong.map_or(Ok(()), |nodes| {
-        Err(format!("the bytes for {nodes} nodes differ"))
+    wrong.map_or(Ok(()), |(places, nodes)| {
+        Err(format!(
+            "the bytes for {places} places and {nodes} nodes differ"
+        ))
     })
+}
+
+fn size_of(state: &State) -> Size {
+    Size {
+        places: state.places,
+        nodes: state.nodes,
+    }
 }
 
 /// One image: saved, read back, gone on with, and read again; and saves that are refused.
@@ -120,7 +139,7 @@ pub fn image(seed: u64, session: &mut Session, counts: &mut Counts) -> Result<()
     let saved = session.both(&save)?;
     count(&mut counts.saves, &saved);
     expect(saved.result[0] == 0, "a save was refused")?;
-    let length = image::bytes(pair.state.nodes) as usize;
+    let length = image::bytes(size_of(&pair.state)) as usize;
     let untouched = saved.bytes[length..] == save.bytes()[length..];
     expect(untouched, "bytes past the image have changed")?;
     for _ in 0..3 {
@@ -152,19 +171,25 @@ fn pair(random: &Random) -> Pair {
             base::played(splitters, (MAX_NODES - random.below(3)) as u32, random)
         }
         1..100 => {
-            // 25 nodes fill 11 blocks, and 127 nodes four more
-            let nodes = 24 + random.word_below(4) + 127 * random.word_below(4);
+            let places = base::any_places(random);
+            let nodes = full(places as u32) + random.word_below(4) + 127 * random.word_below(4);
             let splitters = 1 + random.below(if nodes < 105 { 11 } else { 50 });
-            base::played(splitters, nodes, random)
+            base::played_in(places, splitters, nodes, random)
         }
         _ => base::any(random),
     }
 }
 
+/// One node less than fill some blocks, with so many places: 25 or more.
+fn full(places: u32) -> u32 {
+    let fills = |nodes: &u32| (18 + 20 * places + 4 * nodes).is_multiple_of(127);
+    (26..26 + 127).find(fills).map_or(25, |nodes| nodes - 1)
+}
+
 fn saving(pair: &Pair, random: &Random) -> Call {
     let nodes = pair.state.nodes as usize;
     let more = random.pick(&[0, 0, 1, 7, 512, random.below(1_200)]);
-    let target = image::bytes(pair.state.nodes) as usize + more;
+    let target = image::bytes(size_of(&pair.state)) as usize + more;
     let mut pool = pair.pool.clone();
     pool.extend(random.words(random.below(9)));
     Call {
@@ -196,7 +221,7 @@ fn refused_save(
 fn spoil_save(call: &mut Call, pair: &Pair, random: &Random) -> Option<u32> {
     let mut meant = Some(0);
     if random.one_in(2) {
-        let whole = image::bytes(pair.state.nodes) as usize;
+        let whole = image::bytes(size_of(&pair.state)) as usize;
         let left = random.pick(&[whole - 1, 0, random.below(whole)]);
         if let Entry::Save { target } = &mut call.entry {
             target.truncate(left);
@@ -208,8 +233,9 @@ fn spoil_save(call: &mut Call, pair: &Pair, random: &Random) -> Option<u32> {
         let kind = corrupt::choose(random);
         if (KINDS[kind].change)(&mut pair, random).is_some() {
             (call.state, call.pool) = (Parts::of(&pair.state), pair.pool);
+            let short = (call.bytes().len() as u64) < image::bytes(size_of(&pair.state));
             meant = match KINDS[kind].expected {
-                Expected::Sound => meant,
+                Expected::Sound => Some(if short { SHORT_TARGET } else { 0 }), // a table may have grown
                 Expected::Unsound => Some(UNSOUND),
                 Expected::Either => None,
             };
@@ -230,20 +256,26 @@ fn spoil_save(call: &mut Call, pair: &Pair, random: &Random) -> Option<u32> {
     meant
 }
 
-/// A reading into other memory, long enough for what the image records.
+/// A reading into other memory, long enough for what the image records, in a table as it records.
 fn loading(image: Vec<u8>, random: &Random) -> Call {
-    let recorded = image::recorded(&image).map_or(0, |nodes| nodes as usize);
-    let nodes = if recorded <= MOST_NODES { recorded } else { 30 };
+    let recorded = image::recorded(&image);
+    let (places, nodes) = recorded.map_or((1, 0), |size| (size.places, size.nodes as usize));
+    let nodes = if nodes <= MOST_NODES { nodes } else { 30 };
+    let places = if places as usize <= MOST_PLACES {
+        places
+    } else {
+        30
+    };
     let pool = 4 * nodes + random.pick(&[0, 1, 2, 3, 4, random.below(60)]);
     Call {
-        state: Parts::garbage(random),
+        state: Parts::garbage(places as usize, random),
         pool: random.words(pool),
         work: random.words(nodes + random.below(6)),
         entry: Entry::Load { image },
     }
 }
 
-/// "Reading back gives the same state", and words past the nodes are as they were.
+/// "Reading back gives the same state", the same table too, and words past the nodes are as they were.
 fn expect_read(pair: &Pair, call: &Call, after: &Outcome) -> Result<(), Failure> {
     expect(after.result[0] == 0, "a good image was refused")?;
     expect(after.state == Parts::of(&pair.state), "another state")?;
@@ -342,7 +374,7 @@ pub fn group(
     base::play(&mut pair, random.below(30), &random);
     let source = Source {
         image: damage::image_of(&pair),
-        before: damage::image_before(&pair, random.word_below(2)),
+        before: damage::image_before(&pair, random.word_below(3)),
         older,
         other: damage::image_of(&base::any(&random)),
     };
@@ -369,20 +401,29 @@ struct Made {
     answers: &'static [u32],
 }
 
+/// Changes that an image may lose: it has all its nodes and places, and no deque places past the table's.
+const NOT_IN_THE_IMAGE: [&str; 4] = [
+    "pool cut off",
+    "past the end",
+    "table lengthened",
+    "table cut off",
+];
+
 /// The image of a corrupted pair.
 fn corrupted(pair: &Pair, random: &Random) -> Option<Made> {
     let mut pair = pair.clone();
-    pair.turn = random.below(plain::STATE_WORDS);
+    pair.turn = random.below(TURNS);
     let kind = corrupt::choose(random);
     (KINDS[kind].change)(&mut pair, random)?;
-    let cut = KINDS[kind].name == "pool cut off"; // an image has all its nodes
+    let outside = NOT_IN_THE_IMAGE.contains(&KINDS[kind].name);
     Some(Made {
         image: damage::image_of(&pair),
         damage: None,
         kind: Some(kind),
         answers: match KINDS[kind].expected {
+            _ if pair.state.places as usize > MOST_PLACES => &[17], // it has the table's places
             Expected::Sound => &[0],
-            Expected::Unsound if !cut => &[6],
+            Expected::Unsound if !outside => &[6],
             _ => &[],
         },
     })
@@ -437,7 +478,8 @@ fn read_damaged(
         .map_err(|failure| format!("{what}, {call}: {failure}"))
 }
 
-/// Something else wrong with a reading: a pool or a work slice that is too short, a part of another length; or several.
+/// Something else wrong with a reading: a table of another length, a pool or a work slice that is too short, a part of another length; or
+/// several.
 fn spoil(call: &mut Call, random: &Random) {
     let (pool, work) = (call.pool.len(), call.work.len());
     if random.one_in(2) {
@@ -448,6 +490,9 @@ fn spoil(call: &mut Call, random: &Random) {
         let left = random.pick(&[0, work.saturating_sub(6), random.below(work + 1)]);
         call.work.truncate(left);
     }
+    if random.one_in(3) {
+        call.state.spoil_table(random);
+    }
     if random.one_in(6) {
         call.state.spoil_length(random);
     }
@@ -455,14 +500,15 @@ fn spoil(call: &mut Call, random: &Random) {
 
 /// The answer is one that the damage may lead to, or one that a slice leads to, in the checking order.
 fn expect_answer(call: &Call, answers: &[u32], result: u32) -> Result<(), Failure> {
-    let recorded = image::recorded(call.bytes()).map_or(0, |nodes| nodes as usize);
+    let recorded = image::recorded(call.bytes());
+    let (places, nodes) = recorded.map_or((0, 0), |size| (size.places, size.nodes as usize));
     let may = |number| answers.is_empty() || answers.contains(&number);
     let by_bytes = matches!(result, 17 | 18) && may(result);
     let right = if call.state.state().is_none() {
         result == BAD_STATE
-    } else if call.work.len() < recorded {
+    } else if call.work.len() < nodes {
         by_bytes || result == SHORT_WORK
-    } else if call.pool.len() / 4 < recorded {
+    } else if call.pool.len() / 4 < nodes || call.state.places() != places as usize {
         by_bytes || result == UNSOUND
     } else {
         OF_LOADS.contains(&result) && may(result) && !matches!(result, SHORT_WORK | BAD_STATE)

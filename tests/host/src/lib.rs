@@ -21,6 +21,7 @@ pub mod sharing;
 pub mod sketch;
 pub mod soundness;
 pub mod steps;
+pub mod tables;
 pub mod tally;
 pub mod waits;
 

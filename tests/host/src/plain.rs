@@ -1,22 +1,21 @@
-//! Document 01's engine, with of document 02, in plain, fast, safe Rust: copying of what is shared of a path, reference
-//! counts, free lists, recursive release, returns that wait, views that join. Written from the documents alone. It is what the library is compared with,
+//! Document 01's engine, with of document 02, in plain, fast, safe Rust: copying of what is shared of a path, reference
+//! counts, free lists, recursive release, returns that wait, views that join, a lent frame table. Written from the documents alone. It is what the library is compared with,
 //! and the peer it is timed against: what a tape and a single step share is inlined in both, so that each is as fast as if the other
 //! were not there.
 
+use std::ops::{Deref, DerefMut};
 use std::{array, mem};
 
 pub const NONE: u32 = u32::MAX;
 pub const MAX_WORKERS: usize = 8;
-pub const MAX_FRAMES: usize = 64;
+pub const MAX_PLACES: usize = 256;
 pub const MAX_SPLITTERS: usize = 256;
 pub const MAX_NODES: usize = 16_384;
 
-const DEQUE_WORDS: usize = 1 + MAX_FRAMES;
+pub const DEQUE_WORDS: usize = 1 + MAX_PLACES;
 pub const FRAME_WORDS: usize = 12;
-pub const NUMBERS_WORDS: usize = 9;
+pub const NUMBERS_WORDS: usize = 10;
 pub const DEQUES_WORDS: usize = MAX_WORKERS * DEQUE_WORDS;
-pub const FRAMES_WORDS: usize = MAX_FRAMES * FRAME_WORDS;
-pub const STATE_WORDS: usize = NUMBERS_WORDS + DEQUES_WORDS + FRAMES_WORDS;
 
 /// Holders (the reference count), left, right, value. A free node is 0, the next free node, 0, 0.
 pub type Node = [u32; 4];
@@ -59,6 +58,7 @@ pub enum Refusal {
     UnknownSplitter = 15,
     PoolFull,
     UnknownReducer = 20,
+    BadPlaceCount,
 }
 
 /// What was folded, of each reducer: the sum, the minimum, and the affine map, multiply then add. A view of zeros stands in free places.
@@ -71,6 +71,13 @@ pub struct View {
 }
 
 impl View {
+    pub const ZERO: View = View {
+        sum: 0,
+        min: 0,
+        multiplier: 0,
+        addend: 0,
+    };
+
     pub const IDENTITY: View = View {
         sum: 0,
         min: u32::MAX,
@@ -141,13 +148,13 @@ impl Frame {
 #[derive(Clone, Copy, Debug, PartialEq, Eq)]
 pub struct Deque {
     pub length: u32,
-    pub places: [u32; MAX_FRAMES],
+    pub places: [u32; MAX_PLACES],
 }
 
 impl Deque {
     pub const EMPTY: Deque = Deque {
         length: 0,
-        places: [0; MAX_FRAMES],
+        places: [0; MAX_PLACES],
     };
 
     pub fn bottom(&self) -> Option<u32> {
@@ -173,31 +180,60 @@ impl Deque {
     }
 }
 
-/// The engine's state. `free` is the first free node, `vacant` the first free frame place; `totals` are zeros while Main lives.
+/// The engine's state and the lent frame table, of any length.
 #[derive(Clone, Debug, PartialEq, Eq)]
 pub struct State {
+    pub head: Head,
+    pub frames: Vec<Frame>,
+}
+
+/// The state without the table. `free` is the first free node, `vacant` the first free frame place; `totals` are zeros while Main lives;
+/// `places` is the table's length as recorded.
+#[derive(Clone, Debug, PartialEq, Eq)]
+pub struct Head {
     pub workers: u32,
     pub splitters: u32,
     pub nodes: u32,
     pub free: u32,
     pub vacant: u32,
     pub totals: View,
+    pub places: u32,
     pub deques: [Deque; MAX_WORKERS],
-    pub frames: [Frame; MAX_FRAMES],
+}
+
+impl Deref for State {
+    type Target = Head;
+
+    fn deref(&self) -> &Head {
+        &self.head
+    }
+}
+
+impl DerefMut for State {
+    fn deref_mut(&mut self) -> &mut Head {
+        &mut self.head
+    }
+}
+
+impl Head {
+    pub const ZERO: Head = Head {
+        workers: 0,
+        splitters: 0,
+        nodes: 0,
+        free: 0,
+        vacant: 0,
+        totals: View::ZERO,
+        places: 0,
+        deques: [Deque::EMPTY; MAX_WORKERS],
+    };
 }
 
 impl State {
-    /// The state of zeros that a refused start hands out.
-    pub fn zero() -> State {
+    /// The state of zeros that a refused start hands out, beside this table.
+    pub fn zero(frames: Vec<Frame>) -> State {
         State {
-            workers: 0,
-            splitters: 0,
-            nodes: 0,
-            free: 0,
-            vacant: 0,
-            totals: View::default(),
-            deques: [Deque::EMPTY; MAX_WORKERS],
-            frames: [Frame::default(); MAX_FRAMES],
+            head: Head::ZERO,
+            frames,
         }
     }
 
@@ -206,12 +242,12 @@ impl State {
     }
 }
 
-/// The state's words in the image's order: the nine numbers, the deques, the frame records.
+/// The words of the state, ten numbers and the deques, and of the table's records.
 #[derive(Clone, Debug, PartialEq, Eq)]
 pub struct Words {
     pub numbers: [u32; NUMBERS_WORDS],
     pub deques: [u32; DEQUES_WORDS],
-    pub frames: [u32; FRAMES_WORDS],
+    pub frames: Vec<u32>,
 }
 
 pub fn to_words(state: &State) -> Words {
@@ -227,18 +263,15 @@ pub fn to_words(state: &State) -> Words {
             min,
             multiplier,
             addend,
+            state.places,
         ],
         deques: [0; DEQUES_WORDS],
-        frames: [0; FRAMES_WORDS],
+        frames: state.frames.iter().flat_map(record).collect(),
     };
     let deques = words.deques.chunks_exact_mut(DEQUE_WORDS);
     for (words, deque) in deques.zip(&state.deques) {
         words[0] = deque.length;
         words[1..].copy_from_slice(&deque.places);
-    }
-    let frames = words.frames.chunks_exact_mut(FRAME_WORDS);
-    for (words, f) in frames.zip(&state.frames) {
-        words.copy_from_slice(&record(f));
     }
     words
 }
@@ -280,23 +313,26 @@ pub fn of_record(words: &[u32; FRAME_WORDS]) -> Frame {
 }
 
 pub fn from_words(words: &Words) -> State {
-    let [workers, splitters, nodes, free, vacant, totals @ ..] = words.numbers;
+    let [workers, splitters, nodes, free, vacant, totals @ .., places] = words.numbers;
     let (records, _) = words.frames.as_chunks();
     State {
-        workers,
-        splitters,
-        nodes,
-        free,
-        vacant,
-        totals: View::of_words(totals),
-        deques: array::from_fn(|worker| {
-            let words = &words.deques[worker * DEQUE_WORDS..][..DEQUE_WORDS];
-            Deque {
-                length: words[0],
-                places: array::from_fn(|place| words[1 + place]),
-            }
-        }),
-        frames: array::from_fn(|place| of_record(&records[place])),
+        head: Head {
+            workers,
+            splitters,
+            nodes,
+            free,
+            vacant,
+            totals: View::of_words(totals),
+            places,
+            deques: array::from_fn(|worker| {
+                let words = &words.deques[worker * DEQUE_WORDS..][..DEQUE_WORDS];
+                Deque {
+                    length: words[0],
+                    places: array::from_fn(|place| words[1 + place]),
+                }
+            }),
+        },
+        frames: records.iter().map(of_record).collect(),
     }
 }
 
@@ -312,11 +348,16 @@ pub fn tree_nodes(splitters: u32) -> u32 {
         .sum()
 }
 
-/// Begins a run: the state and 0, or a state of zeros and the refusal.
-pub fn start(workers: u32, values: &[u32], pool: &mut [u32]) -> (State, u32) {
+/// Begins a run in this table, whatever it holds: the state and 0, or a state of zeros, with the table as it was, and the refusal.
+pub fn start(
+    workers: u32,
+    values: &[u32],
+    mut frames: Vec<Frame>,
+    pool: &mut [u32],
+) -> (State, u32) {
     let (nodes, _) = pool.as_chunks_mut::<4>();
-    if let Some(refusal) = refuse_start(workers, values.len(), nodes.len()) {
-        return (State::zero(), refusal as u32);
+    if let Some(refusal) = refuse_start(workers, values.len(), frames.len(), nodes.len()) {
+        return (State::zero(frames), refusal as u32);
     }
     let tree = plant(values, nodes);
     let last = nodes.len() - 1;
@@ -324,32 +365,45 @@ pub fn start(workers: u32, values: &[u32], pool: &mut [u32]) -> (State, u32) {
         let next = if node < last { node as u32 + 1 } else { NONE };
         *cell = [0, next, 0, 0];
     }
-    let mut state = State {
+    let vacant = furnish(&mut frames);
+    let head = Head {
         workers,
         splitters: values.len() as u32,
         nodes: nodes.len() as u32,
         free: if tree <= last { tree as u32 } else { NONE },
-        vacant: 1,
-        frames: array::from_fn(|place| Frame::vacant(place as u32 + 1)),
-        ..State::zero()
+        vacant,
+        places: frames.len() as u32,
+        ..Head::ZERO
     };
-    state.frames[MAX_FRAMES - 1].parent = NONE;
-    state.frames[0] = Frame {
+    let mut state = State { head, frames };
+    state.deques[0].push(0);
+    (state, 0)
+}
+
+/// Main in place 0, the others free in rising order; the first free one, or none.
+fn furnish(frames: &mut [Frame]) -> u32 {
+    let last = frames.len() - 1;
+    let next = |place: usize| if place < last { place as u32 + 1 } else { NONE };
+    for (place, frame) in frames.iter_mut().enumerate() {
+        *frame = Frame::vacant(next(place));
+    }
+    frames[0] = Frame {
         live: 1,
         parent: NONE,
         view: View::IDENTITY,
         younger: NONE,
         ..Frame::default()
     };
-    state.deques[0].push(0);
-    (state, 0)
+    next(0)
 }
 
-fn refuse_start(workers: u32, values: usize, nodes: usize) -> Option<Refusal> {
+fn refuse_start(workers: u32, values: usize, places: usize, nodes: usize) -> Option<Refusal> {
     if values == 0 || values > MAX_SPLITTERS {
         Some(Refusal::BadValueCount)
     } else if workers == 0 || workers as usize > MAX_WORKERS {
         Some(Refusal::BadWorkerCount)
+    } else if places == 0 || places > MAX_PLACES {
+        Some(Refusal::BadPlaceCount)
     } else if nodes < tree_nodes(values as u32) as usize || nodes > MAX_NODES {
         Some(Refusal::BadNodeCount)
     } else {
@@ -471,9 +525,10 @@ impl Step {
     }
 }
 
-/// A sound state and its nodes, with what need not be found again at each step.
+/// A sound state, its table and its nodes, with what need not be found again at each step.
 struct Engine<'a> {
-    state: &'a mut State,
+    head: &'a mut Head,
+    frames: &'a mut [Frame],
     nodes: &'a mut [Node],
     free_nodes: u32,
     height: u32,
@@ -488,7 +543,8 @@ impl<'a> Engine<'a> {
             height: height(state.splitters),
             main_lives: state.main_lives(),
             free_nodes,
-            state,
+            frames: &mut state.frames,
+            head: &mut state.head,
         }
     }
 
@@ -515,10 +571,10 @@ impl<'a> Engine<'a> {
 
     /// The bottom frame of a worker. A worker that is not idle shows that Main lives.
     fn bottom(&self, worker: u32) -> Result<usize, Refusal> {
-        if worker >= self.state.workers {
+        if worker >= self.head.workers {
             return Err(Refusal::UnknownWorker);
         }
-        match self.state.deques[worker as usize].bottom() {
+        match self.head.deques[worker as usize].bottom() {
             Some(frame) => Ok(frame as usize),
             None if self.main_lives => Err(Refusal::WorkerHasNoFrame),
             None => Err(Refusal::RunIsOver),
@@ -529,14 +585,14 @@ impl<'a> Engine<'a> {
     #[inline(always)]
     fn spawn(&mut self, worker: u32) -> Result<u32, Refusal> {
         let bottom = self.bottom(worker)?;
-        let place = self.state.vacant;
+        let place = self.head.vacant;
         if place == NONE {
             return Err(Refusal::FramesFull);
         }
-        if self.state.frames[bottom].outstanding > 0 {
+        if self.frames[bottom].outstanding > 0 {
             self.relink(bottom as u32, NONE, place);
         }
-        let parent = &mut self.state.frames[bottom];
+        let parent = &mut self.frames[bottom];
         parent.outstanding += 1;
         let child = Frame {
             live: 1,
@@ -550,9 +606,9 @@ impl<'a> Engine<'a> {
             younger: NONE,
         };
         self.retain(child.root);
-        self.state.vacant = self.state.frames[place as usize].parent;
-        self.state.frames[place as usize] = child;
-        self.state.deques[worker as usize].push(place);
+        self.head.vacant = self.frames[place as usize].parent;
+        self.frames[place as usize] = child;
+        self.head.deques[worker as usize].push(place);
         Ok(child.depth)
     }
 
@@ -560,8 +616,8 @@ impl<'a> Engine<'a> {
     #[inline(always)]
     fn end(&mut self, worker: u32) -> Result<u32, Refusal> {
         let bottom = self.bottom(worker)?;
-        self.state.deques[worker as usize].pop();
-        let frame = &mut self.state.frames[bottom];
+        self.head.deques[worker as usize].pop();
+        let frame = &mut self.frames[bottom];
         if frame.outstanding > 0 {
             frame.suspended = 1;
             frame.returning = 1;
@@ -571,11 +627,11 @@ impl<'a> Engine<'a> {
         if parent == NONE {
             return Ok(3);
         }
-        let deque = &mut self.state.deques[worker as usize];
+        let deque = &mut self.head.deques[worker as usize];
         if deque.length > 0 {
             return Ok(0);
         }
-        let above = &mut self.state.frames[parent as usize];
+        let above = &mut self.frames[parent as usize];
         if above.suspended == 0 || above.outstanding > 0 {
             return Ok(1);
         }
@@ -592,15 +648,15 @@ impl<'a> Engine<'a> {
     fn vacate(&mut self, place: u32) -> u32 {
         let Frame {
             parent, root, view, ..
-        } = self.state.frames[place as usize];
+        } = self.frames[place as usize];
         if parent == NONE {
             self.main_lives = false;
-            self.state.totals = view;
+            self.head.totals = view;
         } else {
             self.leave(place, parent, view);
         }
-        self.state.frames[place as usize] = Frame::vacant(self.state.vacant);
-        self.state.vacant = place;
+        self.frames[place as usize] = Frame::vacant(self.head.vacant);
+        self.head.vacant = place;
         self.release(root);
         parent
     }
@@ -608,7 +664,7 @@ impl<'a> Engine<'a> {
     /// An only child's view joins its parent's.
     #[inline(always)]
     fn leave(&mut self, place: u32, parent: u32, view: View) {
-        let above = &mut self.state.frames[parent as usize];
+        let above = &mut self.frames[parent as usize];
         above.outstanding -= 1;
         if above.outstanding > 0 {
             self.leave_siblings(place);
@@ -626,20 +682,20 @@ impl<'a> Engine<'a> {
             younger,
             view,
             ..
-        } = self.state.frames[place as usize];
+        } = self.frames[place as usize];
         self.relink(parent, place, younger);
         let next = match younger {
             NONE => parent,
             _ => self.first_from(younger),
         };
-        let next = &mut self.state.frames[next as usize];
+        let next = &mut self.frames[next as usize];
         next.view = view.join(next.view);
     }
 
     /// The live child of this parent that names `old` as its next younger sibling, if there is one, names `new` instead.
     #[inline(never)]
     fn relink(&mut self, parent: u32, old: u32, new: u32) {
-        let mut frames = self.state.frames.iter_mut();
+        let mut frames = self.frames.iter_mut();
         let elder = frames.find(|f| f.live == 1 && f.parent == parent && f.younger == old);
         if let Some(elder) = elder {
             elder.younger = new;
@@ -648,7 +704,7 @@ impl<'a> Engine<'a> {
 
     /// Down the eldest children.
     fn first_from(&self, mut place: u32) -> u32 {
-        while self.state.frames[place as usize].outstanding > 0 {
+        while self.frames[place as usize].outstanding > 0 {
             place = self.eldest(place);
         }
         place
@@ -657,7 +713,7 @@ impl<'a> Engine<'a> {
     /// The eldest live child: of the children's places and the links between them, the last of which is none, all but this place and none
     /// come twice.
     fn eldest(&self, parent: u32) -> u32 {
-        let frames = (0..).zip(&self.state.frames);
+        let frames = (0..).zip(&*self.frames);
         let children = frames.filter(|(_, f)| f.live == 1 && f.parent == parent);
         children.fold(NONE, |rest, (place, f)| rest ^ place ^ f.younger)
     }
@@ -671,13 +727,13 @@ impl<'a> Engine<'a> {
             if parent == NONE {
                 return 3;
             }
-            let above = &mut self.state.frames[parent as usize];
+            let above = &mut self.frames[parent as usize];
             if above.suspended == 0 || above.outstanding > 0 {
                 return 1;
             }
             if above.returning == 0 {
                 above.suspended = 0;
-                self.state.deques[worker as usize].push(parent);
+                self.head.deques[worker as usize].push(parent);
                 return 2;
             }
             ending = parent;
@@ -692,34 +748,34 @@ impl<'a> Engine<'a> {
             Err(Refusal::WorkerHasNoFrame) => {}
             Err(refusal) => return Err(refusal),
         }
-        if victim >= self.state.workers || self.state.deques[victim as usize].length < 2 {
+        if victim >= self.head.workers || self.head.deques[victim as usize].length < 2 {
             return Err(Refusal::NothingToSteal);
         }
-        let stolen = self.state.deques[victim as usize].take_top();
-        self.state.deques[thief as usize].push(stolen);
-        Ok(self.state.frames[stolen as usize].depth)
+        let stolen = self.head.deques[victim as usize].take_top();
+        self.head.deques[thief as usize].push(stolen);
+        Ok(self.frames[stolen as usize].depth)
     }
 
     /// A sync's outcome. A bottom frame with a live child is alone in its deque.
     #[inline(always)]
     fn sync(&mut self, worker: u32) -> Result<u32, Refusal> {
         let bottom = self.bottom(worker)?;
-        let frame = &mut self.state.frames[bottom];
+        let frame = &mut self.frames[bottom];
         if frame.outstanding == 0 {
             return Ok(0);
         }
         frame.suspended = 1;
-        self.state.deques[worker as usize].pop();
+        self.head.deques[worker as usize].pop();
         Ok(1)
     }
 
     #[inline(always)]
     fn read(&mut self, worker: u32, splitter: u32) -> Result<u32, Refusal> {
         let bottom = self.bottom(worker)?;
-        if splitter >= self.state.splitters {
+        if splitter >= self.head.splitters {
             return Err(Refusal::UnknownSplitter);
         }
-        let mut node = self.state.frames[bottom].root;
+        let mut node = self.frames[bottom].root;
         for level in (0..self.height).rev() {
             let side = LEFT + (splitter >> level & 1) as usize;
             node = self.nodes[node as usize][side];
@@ -732,10 +788,10 @@ impl<'a> Engine<'a> {
     #[inline(always)]
     fn write(&mut self, worker: u32, splitter: u32, value: u32) -> Result<u32, Refusal> {
         let bottom = self.bottom(worker)?;
-        if splitter >= self.state.splitters {
+        if splitter >= self.head.splitters {
             return Err(Refusal::UnknownSplitter);
         }
-        let mut node = self.state.frames[bottom].root;
+        let mut node = self.frames[bottom].root;
         let mut above = NONE;
         let mut level = self.height;
         while level > 0 && self.nodes[node as usize][HOLDERS] == 1 {
@@ -753,7 +809,7 @@ impl<'a> Engine<'a> {
         let new = self.copy_rest(node, level, splitter, value);
         self.nodes[node as usize][HOLDERS] -= 1;
         if above == NONE {
-            self.state.frames[bottom].root = new;
+            self.frames[bottom].root = new;
         } else {
             self.nodes[above as usize][LEFT + (splitter >> level & 1) as usize] = new;
         }
@@ -764,7 +820,7 @@ impl<'a> Engine<'a> {
     #[inline(always)]
     fn fold(&mut self, worker: u32, reducer: u32, value: u32) -> Result<u32, Refusal> {
         let bottom = self.bottom(worker)?;
-        let view = &mut self.state.frames[bottom].view;
+        let view = &mut self.frames[bottom].view;
         match reducer {
             SUM => view.sum = view.sum.wrapping_add(value),
             MIN => view.min = view.min.min(value),
@@ -800,8 +856,8 @@ impl<'a> Engine<'a> {
     }
 
     fn allocate(&mut self) -> u32 {
-        let node = self.state.free;
-        self.state.free = self.nodes[node as usize][LEFT];
+        let node = self.head.free;
+        self.head.free = self.nodes[node as usize][LEFT];
         self.free_nodes -= 1;
         node
     }
@@ -818,8 +874,8 @@ impl<'a> Engine<'a> {
             return;
         }
         let [_, left, right, _] = *cell;
-        *cell = [0, self.state.free, 0, 0];
-        self.state.free = node;
+        *cell = [0, self.head.free, 0, 0];
+        self.head.free = node;
         self.free_nodes += 1;
         if left != NONE {
             self.release(left);
@@ -864,22 +920,42 @@ fn numbers_sound(state: &State, held: usize) -> bool {
         && (1..=MAX_SPLITTERS as u32).contains(&n)
         && (tree_nodes(n)..=MAX_NODES as u32).contains(&state.nodes)
         && state.nodes as usize <= held
+        && (1..=MAX_PLACES as u32).contains(&state.places)
+        && state.places as usize == state.frames.len()
+}
+
+/// A bit for each place.
+#[derive(Default)]
+struct Met([u64; MAX_PLACES / 64]);
+
+impl Met {
+    fn has(&self, place: usize) -> bool {
+        self.0[place / 64] >> (place % 64) & 1 == 1
+    }
+
+    /// Whether it is met for the first time.
+    fn meet(&mut self, place: usize) -> bool {
+        let first = !self.has(place);
+        self.0[place / 64] |= 1 << (place % 64);
+        first
+    }
 }
 
 fn frames_sound(state: &State) -> bool {
-    let mut queued = 0;
+    let mut queued = Met::default();
     let deques_right = (0..).zip(&state.deques).all(|(worker, deque)| {
         (worker < state.workers || deque.length == 0) && deque_sound(state, deque, &mut queued)
     });
-    deques_right && live_frames_sound(state, queued) && vacant_chain_sound(state)
+    deques_right && live_frames_sound(state, &queued) && vacant_chain_sound(state)
 }
 
-/// `queued` has a bit for each frame met in a deque so far.
-fn deque_sound(state: &State, deque: &Deque, queued: &mut u64) -> bool {
+/// `queued` has the frames met in a deque so far.
+fn deque_sound(state: &State, deque: &Deque, queued: &mut Met) -> bool {
     let Some((frames, past)) = deque.places.split_at_checked(deque.length as usize) else {
         return false;
     };
-    if past.iter().any(|&place| place != 0) {
+    // all of them: the compiler makes vectors of that
+    if past.iter().fold(0, |all, place| all | place) != 0 {
         return false;
     }
     let mut above = None;
@@ -887,10 +963,9 @@ fn deque_sound(state: &State, deque: &Deque, queued: &mut u64) -> bool {
         let Some(frame) = state.frames.get(number as usize) else {
             return false;
         };
-        if frame.live != 1 || frame.suspended != 0 || *queued >> number & 1 == 1 {
+        if frame.live != 1 || frame.suspended != 0 || !queued.meet(number as usize) {
             return false;
         }
-        *queued |= 1 << number;
         if let Some(parent) = above {
             let below = (place + 1 < frames.len()) as u32;
             if frame.parent != parent || frame.outstanding != below {
@@ -902,15 +977,15 @@ fn deque_sound(state: &State, deque: &Deque, queued: &mut u64) -> bool {
     true
 }
 
-fn live_frames_sound(state: &State, queued: u64) -> bool {
-    let mut children = [0; MAX_FRAMES];
-    let mut eldest = [NONE; MAX_FRAMES];
+fn live_frames_sound(state: &State, queued: &Met) -> bool {
+    let mut children = [0; MAX_PLACES];
+    let mut eldest = [NONE; MAX_PLACES];
     let (mut live, mut mains) = (0, 0);
     for (number, frame) in state.frames.iter().enumerate() {
-        match (frame.live, frame.suspended, queued >> number & 1) {
+        match (frame.live, frame.suspended, queued.has(number)) {
             (0, _, _) => continue,
-            (1, 0, 1) if frame.returning == 0 => {}
-            (1, 1, 0) if frame.outstanding > 0 && frame.returning <= 1 => {}
+            (1, 0, true) if frame.returning == 0 => {}
+            (1, 1, false) if frame.outstanding > 0 && frame.returning <= 1 => {}
             _ => return false,
         }
         live += 1;

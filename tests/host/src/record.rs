@@ -1,7 +1,7 @@
 //! Calls and their outcomes written to a file, for sanitized.c to make them again. All but the bytes is little-endian words: the entry
 //! (1 start, 2 step, 3 tape, 4 save, 5 load), four words (a start's workers or a step's entry), the two words of the result, the values,
-//! the bytes (tape, target or image), then numbers, deques, frames, pool, work and answers. Each of these has its length first; all but
-//! the values are followed by what the call left there. Calls with large pools are left out, for the file's size.
+//! the bytes (tape, target or image), then numbers, deques, frames, pool, work and answers. Each of these has its length in words first; all
+//! but the values are followed by what the call left there. Calls with large pools are left out, for the file's size.
 
 use crate::call::{Call, Entry, Outcome};
 use std::fs::File;

@@ -1,9 +1,10 @@
 //! Seeded random runs: a start, then steps and tapes, each call made on both sides with what the call before left.
 
+use crate::base;
 use crate::call::{Call, Entry, Outcome};
 use crate::family::Family;
 use crate::parts::Parts;
-use crate::plain::{self, Refusal, State, MAX_NODES, RECORD_BYTES, WRITE};
+use crate::plain::{self, Refusal, State, MAX_NODES, MAX_PLACES, RECORD_BYTES, WRITE};
 use crate::random::Random;
 use crate::replay;
 use crate::sentences;
@@ -16,13 +17,13 @@ const POOL_FULL: u32 = Refusal::PoolFull as u32;
 const WRITTEN: u32 = 106;
 const SIZES: [usize; 12] = [1, 2, 3, 5, 7, 8, 16, 31, 64, 100, 255, 256];
 
-/// The run of one seed: three of twelve are aimed at R-2's cases, two at R-3's, three at R-5's.
+/// The run of one seed: three of thirteen are aimed at R-2's cases, two at R-3's, four at R-5's. The lengths of the tables are R-6's.
 pub fn run(seed: u64, session: &mut Session) -> Result<(), Failure> {
     let random = Random::new(seed);
-    match random.below(12) {
+    match random.below(13) {
         0..3 => aimed(random, session),
         3 | 4 => chained(random, session),
-        5..8 => families(random, session),
+        5..9 => families(random, session),
         _ => mixed(random, session),
     }
 }
@@ -80,7 +81,7 @@ fn chained(random: Random, session: &mut Session) -> Result<(), Failure> {
             for _ in 0..random.below(12) {
                 sketch.push(driver.next(&sketch.state, random));
             }
-            sketch.chain(random.pick(&[1, 2, 3, 4, 7, 20, 63]));
+            sketch.chain(random.pick(&[1, 2, 3, 4, 7, 20, 63, 255]));
         };
         if run.random.one_in(4) {
             run.make_steps(session, draw)?;
@@ -113,20 +114,30 @@ fn families(random: Random, session: &mut Session) -> Result<(), Failure> {
     run.end(session)
 }
 
-/// A start with two workers or more and room for a path in each frame.
+/// A start with two workers or more and room for a path in each frame, or in some.
 fn starting_wide(random: &Random) -> Call {
     let splitters = random.pick(&SIZES);
+    let places = wide_places(random);
     let path = plain::height(splitters as u32) as usize + 1;
-    let nodes = plain::tree_nodes(splitters as u32) as usize + random.below(70) * path;
+    let nodes = plain::tree_nodes(splitters as u32) as usize + random.below(places + 6) * path;
     let pool_words = 4 * nodes + random.below(4);
     Call {
-        state: Parts::garbage(random),
+        state: Parts::garbage(places, random),
         pool: random.words(pool_words),
         work: Vec::new(),
         entry: Entry::Start {
             workers: 2 + random.word_below(7),
             values: random.words(splitters),
         },
+    }
+}
+
+/// A table with room for long lines of frames, mostly.
+fn wide_places(random: &Random) -> usize {
+    match random.below(8) {
+        0 => base::any_places(random),
+        1..6 => random.pick(&[63, 64, 65, 100]),
+        _ => random.pick(&[255, MAX_PLACES]),
     }
 }
 
@@ -145,7 +156,7 @@ fn starting_tight(large: bool, random: &Random) -> Call {
     };
     let pool_words = 4 * nodes + random.below(4);
     Call {
-        state: Parts::garbage(random),
+        state: Parts::garbage(wide_places(random), random),
         pool: random.words(pool_words),
         work: Vec::new(),
         entry: Entry::Start {
@@ -167,9 +178,14 @@ fn starting(random: &Random) -> Call {
         1 => random.pick(&[9, 10, 256, 257, u32::MAX]),
         _ => 1 + random.word_below(8),
     };
+    let places = match random.below(20) {
+        0 => 0,
+        1 => random.pick(&[257, 258, 300, 512, 513]),
+        _ => base::any_places(random),
+    };
     let nodes = nodes_for(splitters, random);
     let pool_words = 4 * nodes + random.below(4);
-    let mut state = Parts::garbage(random);
+    let mut state = Parts::garbage(places, random);
     if random.one_in(20) {
         state.spoil_length(random);
     }
@@ -239,6 +255,7 @@ impl Run {
         }
         replay::each(call, &after, |taken| {
             session.waits.count(&taken);
+            session.tables.count(&taken);
             self.family.take(&taken, &mut session.families);
         });
         self.adopt(after)?;
@@ -283,7 +300,9 @@ impl Run {
     }
 
     fn typed(&self) -> State {
-        self.state.state().unwrap_or_else(State::zero)
+        self.state
+            .state()
+            .unwrap_or_else(|| State::zero(Vec::new()))
     }
 
     /// The recorded nodes.
@@ -358,8 +377,9 @@ impl Run {
     fn spoil_length(&mut self, call: &mut Call) {
         let random = &self.random;
         let nodes = self.nodes();
-        match random.below(5) {
+        match random.below(6) {
             0 => call.state.spoil_length(random),
+            5 => call.state.spoil_table(random),
             1 => call.work.truncate(random.below(nodes)),
             2 => call.pool.truncate(random.below(4 * nodes)),
             _ => {

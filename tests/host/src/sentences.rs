@@ -1,15 +1,16 @@
-//! Document 01's "Soundness", with what of document 02 ask, sentence by sentence, over the words of a state and a pool:
-//! for clarity, not for speed. It shares nothing with plain.rs. Every sentence can be asked of every state, so that one can tell which
+//! Document 01's "Soundness", with what of document 02 ask, sentence by sentence, over the words of a state, a table
+//! and a pool: for clarity, not for speed. It shares nothing with plain.rs. Every sentence can be asked of every state, so that one can tell which
 //! ones are broken.
 
 use crate::parts::Parts;
 use std::collections::{HashMap, HashSet};
 
 const NONE: u32 = 4_294_967_295;
-const FRAMES: usize = 64;
+const MOST_PLACES: usize = 256;
 
-/// R-1's layout with R-3's and R-5's words: 5 numbers and 4 totals, 8 deques of 65 words, 64 frame records of 12 words.
-const DEQUE_WORDS: usize = 65;
+/// R-1's layout with R-3's, R-5's and R-6's words: 5 numbers, 4 totals and the table's length; 8 deques, each with room for 256 places;
+/// frame records of 12 words.
+const DEQUE_WORDS: usize = 257;
 const FRAME_WORDS: usize = 12;
 
 /// A sentence and what it asks.
@@ -18,7 +19,7 @@ pub struct Sentence {
     holds: fn(&Pair) -> bool,
 }
 
-pub const SENTENCES: [Sentence; 22] = [
+pub const SENTENCES: [Sentence; 24] = [
     Sentence {
         text: "workers are 1 to 8",
         holds: workers_are_1_to_8,
@@ -32,6 +33,14 @@ pub const SENTENCES: [Sentence; 22] = [
         holds: node_count_fits,
     },
     Sentence {
+        text: "the recorded length of the table is 1 to 256",
+        holds: length_is_1_to_256,
+    },
+    Sentence {
+        text: "the table has the recorded length",
+        holds: table_has_the_length,
+    },
+    Sentence {
         text: "live and suspended are 0 or 1",
         holds: flags_are_0_or_1,
     },
@@ -40,8 +49,8 @@ pub const SENTENCES: [Sentence; 22] = [
         holds: returning_is_1_or_0,
     },
     Sentence {
-        text: "a deque has 64 places",
-        holds: deques_have_64_places,
+        text: "a deque has as many places as the table",
+        holds: deques_have_the_places,
     },
     Sentence {
         text: "no frame and empty deques, or one of depth 0, parent none",
@@ -145,12 +154,16 @@ struct Pair {
     first_free_node: u32,
     first_free_place: u32,
     totals: [u32; 4],
+    recorded_length: u32,
+    /// The records of the lent table.
+    lent_length: usize,
     /// Each deque's recorded length.
     lengths: Vec<u32>,
     /// Each deque's frames, from the top.
     queued: Vec<Vec<u32>>,
     /// Each deque's places past its frames.
     past: Vec<Vec<u32>>,
+    /// The table's records, as many as are recorded and there.
     frames: Vec<Frame>,
     /// The lent pool's whole nodes.
     nodes: Vec<Node>,
@@ -162,7 +175,8 @@ impl Pair {
     fn new(state: &Parts, pool: &[u32]) -> Pair {
         let numbers = &state.numbers;
         let deques: Vec<&[u32]> = state.deques.chunks(DEQUE_WORDS).collect();
-        let end = |deque: &&[u32]| (deque[0] as usize).min(FRAMES) + 1;
+        let places = (numbers[9] as usize).min(MOST_PLACES);
+        let end = |deque: &&[u32]| (deque[0] as usize).min(places) + 1;
         let mut pair = Pair {
             workers: numbers[0],
             splitters: numbers[1],
@@ -170,10 +184,12 @@ impl Pair {
             first_free_node: numbers[3],
             first_free_place: numbers[4],
             totals: [numbers[5], numbers[6], numbers[7], numbers[8]],
+            recorded_length: numbers[9],
+            lent_length: state.frames.len() / FRAME_WORDS,
             lengths: deques.iter().map(|deque| deque[0]).collect(),
             queued: deques.iter().map(|d| d[1..end(d)].to_vec()).collect(),
             past: deques.iter().map(|d| d[end(d)..].to_vec()).collect(),
-            frames: read_frames(&state.frames),
+            frames: read_frames(&state.frames, numbers[9] as usize),
             nodes: read_nodes(pool),
             shaped: true,
             reached: HashSet::new(),
@@ -224,8 +240,8 @@ impl Pair {
     }
 }
 
-fn read_frames(words: &[u32]) -> Vec<Frame> {
-    let records = words.chunks_exact(FRAME_WORDS).take(FRAMES);
+fn read_frames(words: &[u32], recorded: usize) -> Vec<Frame> {
+    let records = words.chunks_exact(FRAME_WORDS).take(recorded);
     let read = |record: &[u32]| Frame {
         live: record[0],
         parent: record[1],
@@ -306,6 +322,16 @@ fn node_count_fits(pair: &Pair) -> bool {
         && pair.recorded_nodes as usize <= pair.nodes.len()
 }
 
+/// "a recorded length not 1 to 256 .. is unsound" (document 02, R-6)
+fn length_is_1_to_256(pair: &Pair) -> bool {
+    1 <= pair.recorded_length && pair.recorded_length <= 256
+}
+
+/// "or a table of another length" (document 02, R-6)
+fn table_has_the_length(pair: &Pair) -> bool {
+    pair.recorded_length as usize == pair.lent_length
+}
+
 /// "live and suspended are 0 or 1, and another word there is unsound" (document 02, R-1)
 fn flags_are_0_or_1(pair: &Pair) -> bool {
     pair.frames
@@ -322,9 +348,10 @@ fn returning_is_1_or_0(pair: &Pair) -> bool {
     })
 }
 
-/// "for each of 8 workers its deque length and 64 places for its frames" (document 02, R-1)
-fn deques_have_64_places(pair: &Pair) -> bool {
-    pair.lengths.iter().all(|&length| length <= 64)
+/// "images hold that many records and deque places" (document 02, R-6)
+fn deques_have_the_places(pair: &Pair) -> bool {
+    let most = pair.recorded_length.min(MOST_PLACES as u32);
+    pair.lengths.iter().all(|&length| length <= most)
 }
 
 /// "Either no frame lives and all deques are empty, or just one live frame has depth 0, with parent none."
@@ -459,7 +486,8 @@ fn other_nodes_are_free(pair: &Pair) -> bool {
 
 /// "Free frame places lie once on theirs, all but the link to the next being zero."
 fn free_places_are_chained(pair: &Pair) -> bool {
-    let free: HashSet<u32> = (0..).take(FRAMES).filter(|&p| !pair.is_live(p)).collect();
+    let places = (0..).take(pair.frames.len());
+    let free: HashSet<u32> = places.filter(|&p| !pair.is_live(p)).collect();
     let is_zero = |frame: &Frame| {
         let Frame {
             depth,

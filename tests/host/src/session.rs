@@ -5,6 +5,7 @@ use crate::family;
 use crate::plain::RECORD_BYTES;
 use crate::record::Recorder;
 use crate::sharing::Sharing;
+use crate::tables::Tables;
 use crate::tally::Tally;
 use crate::waits::Waits;
 
@@ -18,6 +19,7 @@ pub struct Session {
     pub tally: Tally,
     pub sharing: Sharing,
     pub waits: Waits,
+    pub tables: Tables,
     pub families: family::Counts,
     pub calls: u64,
     pub records: u64,
@@ -31,6 +33,7 @@ impl Session {
             tally: Tally::default(),
             sharing: Sharing::default(),
             waits: Waits::default(),
+            tables: Tables::default(),
             families: family::Counts::default(),
             calls: 0,
             records: 0,

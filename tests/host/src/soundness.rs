@@ -2,10 +2,11 @@
 
 use crate::base;
 use crate::call::{Call, Entry, Outcome};
+use crate::corrupt::words::TURNS;
 use crate::corrupt::{self, Expected, Pair, KINDS};
 use crate::order;
 use crate::parts::Parts;
-use crate::plain::{Refusal, State, NONE, RETURN, SPAWN, STATE_WORDS, WRITE};
+use crate::plain::{Refusal, State, NONE, RETURN, SPAWN, WRITE};
 use crate::random::Random;
 use crate::replay;
 use crate::sentences::{self, SENTENCES};
@@ -28,8 +29,8 @@ pub struct Counts {
     pub kinds: [Judged; KINDS.len()],
     /// How often each sentence was the only one broken.
     pub alone: [u64; SENTENCES.len()],
-    /// How often each state word was the one changed.
-    pub turns: [u64; STATE_WORDS],
+    /// How often each word of numbers and deques was the one changed.
+    pub turns: [u64; TURNS],
     /// The writes from sound pairs, by the part of the path that is shared; and those by the only frame, with a node that stands in
     /// several places of its tree.
     pub writes: [u64; 3],
@@ -64,7 +65,7 @@ impl Default for Counts {
         Counts {
             kinds: [Judged::default(); KINDS.len()],
             alone: [0; SENTENCES.len()],
-            turns: [0; STATE_WORDS],
+            turns: [0; TURNS],
             writes: [0; 3],
             beside_itself: 0,
             younger_within: 0,
@@ -85,7 +86,7 @@ pub fn group(
     let mut judged = 0;
     while judged < pairs.min(PER_SEED) {
         let mut pair = base.clone();
-        pair.turn = (seed as usize % STATE_WORDS * PER_SEED + judged) % STATE_WORDS;
+        pair.turn = (seed as usize % TURNS * PER_SEED + judged) % TURNS;
         while random.one_in(2) {
             corrupt::keep_sound(&mut pair, &random);
         }

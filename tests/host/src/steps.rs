@@ -1,8 +1,6 @@
 //! Random steps that suit a state, and spoilt ones.
 
-use crate::plain::{
-    State, FOLD, MAX_WORKERS, NONE, READ, RETURN, SPAWN, STEAL, SYNC, WRITE,
-};
+use crate::plain::{State, FOLD, MAX_WORKERS, NONE, READ, RETURN, SPAWN, STEAL, SYNC, WRITE};
 use crate::random::Random;
 
 /// Kind, worker, field, value.

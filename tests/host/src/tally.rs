@@ -3,7 +3,7 @@
 use std::collections::BTreeMap;
 
 /// Everything that a full comparison must have met. Returns and syncs are told apart by their outcomes.
-const EVENTS: [(u32, u32); 29] = [
+const EVENTS: [(u32, u32); 30] = [
     (1, 0),
     (2, 0),
     (3, 0),
@@ -20,6 +20,7 @@ const EVENTS: [(u32, u32); 29] = [
     (15, 0),
     (16, 0),
     (20, 0),
+    (21, 0),
     (99, 0),
     (101, 0),
     (102, 0),

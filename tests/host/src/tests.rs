@@ -1,7 +1,8 @@
-//! Document 01's example and edges, as change them, through plain.rs and the library, and the sentences on states
+//! Document 01's example and edges, as change them, through plain.rs and the library, and the sentences on states
 //! corrupted by hand.
 
 mod reducers;
+mod tables;
 mod waiting;
 
 use crate::call::{Call, Entry, Outcome, BAD_STATE};
@@ -11,9 +12,23 @@ use crate::random::Random;
 use crate::sentences::{self, SENTENCES};
 use crate::steps;
 
+/// Places of the table in most tests.
+const PLACES: usize = 64;
+
 /// A start and one tape, by both, with the same outcome: the tape's call and what it left.
 fn run(workers: u32, values: &[u32], nodes: usize, entries: &[[u32; 4]]) -> (Call, Outcome) {
-    let start = starting(workers, values, nodes);
+    run_in(PLACES, workers, values, nodes, entries)
+}
+
+/// The same in a table of so many places.
+fn run_in(
+    places: usize,
+    workers: u32,
+    values: &[u32],
+    nodes: usize,
+    entries: &[[u32; 4]],
+) -> (Call, Outcome) {
+    let start = starting_in(places, workers, values, nodes);
     let begun = both(&start);
     if begun.result[0] != 0 {
         return (start, begun);
@@ -31,9 +46,9 @@ fn run(workers: u32, values: &[u32], nodes: usize, entries: &[[u32; 4]]) -> (Cal
     (tape, ended)
 }
 
-fn starting(workers: u32, values: &[u32], nodes: usize) -> Call {
+fn starting_in(places: usize, workers: u32, values: &[u32], nodes: usize) -> Call {
     Call {
-        state: Parts::garbage(&Random::new(7)),
+        state: Parts::garbage(places, &Random::new(7)),
         pool: vec![7; 4 * nodes],
         work: Vec::new(),
         entry: Entry::Start {
@@ -56,12 +71,25 @@ fn answers(workers: u32, values: &[u32], nodes: usize, entries: &[[u32; 4]]) -> 
     after.answers.as_chunks().0.to_vec()
 }
 
-/// A refused start leaves zeros in all three parts, and the pool as it was.
+/// Zeros in the state beside a table of these words.
+fn zeros(frames: Vec<u32>) -> Parts {
+    let state = State::zero(Vec::new());
+    Parts {
+        frames,
+        ..Parts::of(&state)
+    }
+}
+
+/// A refused start leaves zeros in numbers and deques, and table and pool as they were.
 fn start_refusal(workers: u32, splitters: usize, nodes: usize) -> u32 {
-    let call = starting(workers, &vec![0; splitters], nodes);
+    start_refusal_in(PLACES, workers, splitters, nodes)
+}
+
+fn start_refusal_in(places: usize, workers: u32, splitters: usize, nodes: usize) -> u32 {
+    let call = starting_in(places, workers, &vec![0; splitters], nodes);
     let after = both(&call);
     if after.result[0] != 0 {
-        assert_eq!(after.state, Parts::of(&State::zero()));
+        assert_eq!(after.state, zeros(call.state.frames));
         assert_eq!(after.pool, call.pool);
     }
     after.result[0]
@@ -130,11 +158,13 @@ fn assert_bad_state(call: &Call) {
     }
 }
 
-/// 99 comes before 1, 2 and 3.
+/// 99 comes before 1, 2, 21 and 3.
 #[test]
 fn parts_of_another_length_at_a_start() {
     for (workers, splitters, nodes) in [(2, 5, 20), (2, 0, 20), (9, 5, 20), (2, 5, 10), (0, 0, 0)] {
-        assert_bad_state(&starting(workers, &vec![0; splitters], nodes));
+        for places in [0, 1, PLACES, 257] {
+            assert_bad_state(&starting_in(places, workers, &vec![0; splitters], nodes));
+        }
     }
 }
 
@@ -363,7 +393,7 @@ fn words_and_records() {
     let (call, _) = run(2, &FIVE, 20, &[]);
     let state = call.state.state().expect("a whole state");
     assert_eq!(Parts::of(&state), call.state);
-    let garbage = Parts::garbage(&Random::new(1));
+    let garbage = Parts::garbage(65, &Random::new(1));
     assert_eq!(garbage.state().as_ref().map(Parts::of), Some(garbage));
 }
 
@@ -381,7 +411,7 @@ fn broken(change: fn(&mut Parts, &mut [u32])) -> Vec<&'static str> {
 }
 
 /// Word 0 of a worker's deque, of a frame record, of a node.
-const DEQUE_1: usize = 65;
+const DEQUE_1: usize = 257;
 const FRAME_0: usize = 0;
 const FRAME_1: usize = 12;
 const NODE_3: usize = 12;
@@ -419,6 +449,9 @@ fn corrupted_frames() {
     });
     alone("places past a deque's frames are zero", |state, _| {
         state.deques[DEQUE_1 + 64] = 1;
+    });
+    alone("places past a deque's frames are zero", |state, _| {
+        state.deques[DEQUE_1 + 256] = 1;
     });
     let places = "free frame places are zero and once on their chain";
     alone(places, |state, _| state.frames[FRAME_1 + 2] = 1);
@@ -534,7 +567,9 @@ fn links_to_nowhere() {
         for part in state.each_mut() {
             part.fill(NONE);
         }
+        state.frames.fill(NONE);
         state.numbers[..3].copy_from_slice(&[2, 5, 20]);
+        state.numbers[9] = 64;
         pool.fill(NONE);
     })
     .is_empty());

@@ -2,7 +2,7 @@
 //! one. A file is a block of the host's own, then the image. The block's words, little-endian: a sequence
 //! number, the host's own words, a CRC of everything else in the file.
 
-use crate::layout::OWN_WORDS;
+use crate::layout::{OWN_WORDS, PLACES};
 use crate::NODES;
 use splitter::{image_array_bytes, BLOCK_BYTES};
 use std::fs::{self, File};
@@ -31,7 +31,7 @@ pub fn name(sequence: u32) -> &'static str {
 impl Kept {
     /// The host's own words under a sequence number, with room for an image.
     pub fn new(sequence: u32, own: &[u32]) -> Kept {
-        let mut kept = Kept { bytes: vec![0; BLOCK_BYTES + image_array_bytes(NODES)] };
+        let mut kept = Kept { bytes: vec![0; BLOCK_BYTES + image_array_bytes(PLACES, NODES)] };
         for (word, value) in [sequence].iter().chain(own).enumerate() {
             kept.bytes[4 * word..4 * word + 4].copy_from_slice(&value.to_le_bytes());
         }

@@ -2,11 +2,10 @@
 //! the layouts are folded: their sum, the least of them, and a digest of them in the order of a search by one
 //! worker.
 
-use splitter::{affine, tree_nodes, Engine, Reducer, Refusal, Returned, State, Synced, Totals, NODE_WORDS};
+use splitter::{affine, tree_nodes, Engine, Frame, Reducer, Refusal, Returned, State, Synced, Totals};
+use splitter::{MAX_PLACES, NODE_WORDS};
 
-pub const BLOCKS: u16 = 16;
-const FIRST_SPARE: u16 = 12;
-const BAD_BLOCKS: [u16; 2] = [3, 9];
+pub const PLACES: usize = MAX_PLACES;
 pub const MAX_WORKERS: usize = 3;
 
 /// A block's state, kept in its splitter; 0 is good. A spare in use holds `STANDS_FOR` plus the
@@ -15,26 +14,93 @@ const BAD: u32 = 1;
 const SPARE: u32 = 2;
 const STANDS_FOR: u32 = 100;
 
-pub const FACTORY_MARKS: [u32; BLOCKS as usize] = [0, 0, 0, BAD, 0, 0, 0, 0, 0, BAD, 0, 0, SPARE, SPARE, SPARE, SPARE];
+/// A card: where its bad blocks are, which spares may stand for each, and the first block from which on all pass
+/// their erase test.
+pub struct Card {
+    pub blocks: u16,
+    pub bad_blocks: usize,
+    first_bad: u16,
+    bad_apart: u16,
+    spares: u16,
+    first_spare: u16,
+    spares_apart: u16,
+    strong: u16,
+}
+
+/// The search that is told, saved and read back: blocks 3 and 9 are bad, 12 to 15 spare.
+pub const SMALL_CARD: Card = Card {
+    blocks: 16,
+    bad_blocks: 2,
+    first_bad: 3,
+    bad_apart: 6,
+    spares: 4,
+    first_spare: 12,
+    spares_apart: 0,
+    strong: 14,
+};
+
+/// 80 rows of three blocks: the first is bad, the others are its spares. It needs more than 64 frames.
+pub const LARGE_CARD: Card = Card {
+    blocks: 240,
+    bad_blocks: 80,
+    first_bad: 0,
+    bad_apart: 3,
+    spares: 2,
+    first_spare: 1,
+    spares_apart: 3,
+    strong: 234,
+};
+
+impl Card {
+    /// The bad block that a branch of this depth chose a spare for.
+    fn bad_block(&self, depth: usize) -> u16 {
+        self.first_bad + (depth as u16 - 1) * self.bad_apart
+    }
+
+    /// The first spare that a branch of this depth may choose from, for the next bad block.
+    fn first_spare(&self, depth: usize) -> u16 {
+        self.first_spare + depth as u16 * self.spares_apart
+    }
+
+    /// The blocks as the factory marked them.
+    pub fn factory_marks(&self) -> Vec<u32> {
+        let mut marks = vec![0; self.blocks.into()];
+        for depth in 0..self.bad_blocks {
+            marks[usize::from(self.bad_block(depth + 1))] = BAD;
+            marks[self.first_spare(depth).into()..][..self.spares.into()].fill(SPARE);
+        }
+        marks
+    }
+
+    /// Stands for the controller's own test: of the weak blocks each third fails.
+    fn passes_erase_test(&self, block: u16) -> bool {
+        block >= self.strong || block % 3 != 1
+    }
+}
+
+/// So many of a branch's choices are told, the last ones.
+const NAMED: usize = 3;
 
 /// The map of the digest multiplies by this and adds the cost: its total tells the order of the costs in a
 /// search by one worker.
 const DIGEST: u16 = 31;
 
-/// Memory to lend, for some number of nodes.
+/// Memory to lend, for some number of places and nodes.
 pub struct Memory {
     pub state: State,
+    pub frames: Vec<Frame>,
     pub pool: Vec<u32>,
     pub work: Vec<u32>,
 }
 
 impl Memory {
-    pub fn new(nodes: usize) -> Memory {
-        Memory { state: State::ZERO, pool: vec![0; nodes * NODE_WORDS], work: vec![0; nodes] }
+    pub fn new(places: usize, nodes: usize) -> Memory {
+        let frames = vec![Frame::ZERO; places];
+        Memory { state: State::ZERO, frames, pool: vec![0; nodes * NODE_WORDS], work: vec![0; nodes] }
     }
 
     pub fn lend(&mut self) -> Engine<'_> {
-        Engine { state: &mut self.state, pool: &mut self.pool, work: &mut self.work }
+        Engine { state: &mut self.state, frames: &mut self.frames, pool: &mut self.pool, work: &mut self.work }
     }
 }
 
@@ -92,6 +158,7 @@ fn branch_of(word: u32) -> Option<usize> {
 /// A search, and its result so far.
 pub struct Search<'a> {
     pub engine: Engine<'a>,
+    card: &'static Card,
     branches: Vec<Branch>,
     /// The branch that each worker runs.
     runs: [Option<usize>; MAX_WORKERS],
@@ -105,11 +172,9 @@ pub struct Search<'a> {
     pub layouts: u32,
     /// The best layout's branch and cost.
     best: Option<(usize, u32)>,
-}
-
-/// Stands for the controller's own test.
-fn passes_erase_test(block: u16) -> bool {
-    block != 13
+    /// The deepest frame's depth, and the most live frames.
+    pub deepest: usize,
+    pub most_live: usize,
 }
 
 /// The totals as a line of splitrun has them.
@@ -118,23 +183,32 @@ pub fn print_totals(totals: Totals) {
 }
 
 impl<'a> Search<'a> {
-    pub fn begin(mut engine: Engine<'a>, workers: u32, syncs: Syncs) -> Result<Search<'a>, Refusal> {
-        engine.start(workers, &FACTORY_MARKS)?;
-        let main = Branch { parent: None, stage: Stage::Look, depth: 0, spare: 0, next: FIRST_SPARE, failed: None };
+    pub fn begin(
+        card: &'static Card,
+        mut engine: Engine<'a>,
+        workers: u32,
+        syncs: Syncs,
+    ) -> Result<Search<'a>, Refusal> {
+        engine.start(workers, &card.factory_marks())?;
+        let next = card.first_spare(0);
+        let main = Branch { parent: None, stage: Stage::Look, depth: 0, spare: 0, next, failed: None };
         let nodes = (engine.pool.len() / NODE_WORDS) as u32;
         Ok(Search {
             engine,
+            card,
             branches: vec![main],
             runs: [Some(0), None, None],
             syncs,
             told: true,
             turn: 0,
             finished: false,
-            least_free: nodes - tree_nodes(BLOCKS.into()) as u32,
+            least_free: nodes - tree_nodes(card.blocks.into()) as u32,
             waits: 0,
             given_up: 0,
             layouts: 0,
             best: None,
+            deepest: 0,
+            most_live: 0,
         })
     }
 
@@ -172,6 +246,7 @@ impl<'a> Search<'a> {
         let (runs, branches) = rest.split_at(MAX_WORKERS);
         Search {
             engine,
+            card: &SMALL_CARD,
             branches: branches.chunks_exact(6).take(numbers[0] as usize).map(branch).collect(),
             runs: [0, 1, 2].map(|worker| branch_of(runs[worker])),
             syncs: SYNCS[numbers[8] as usize],
@@ -183,20 +258,29 @@ impl<'a> Search<'a> {
             given_up: numbers[3],
             layouts: numbers[5],
             best: branch_of(numbers[7]).map(|branch| (branch, numbers[6])),
+            deepest: 0,
+            most_live: 0,
         }
     }
 
-    /// The choices of a branch, as `3>12 9>14`.
-    fn name(&self, branch: usize) -> String {
+    /// The last choices of a branch, so many at most.
+    fn choices(&self, branch: usize, most: usize) -> String {
         let Branch { parent, depth, spare, .. } = self.branches[branch];
-        let Some(parent) = parent else {
-            return "Main".to_string();
-        };
-        let own = format!("{}>{spare}", BAD_BLOCKS[depth - 1]);
-        if depth == 1 {
-            own
-        } else {
-            format!("{} {own}", self.name(parent))
+        if most == 0 {
+            return "..".to_string();
+        }
+        let own = format!("{}>{spare}", self.card.bad_block(depth));
+        match parent.filter(|_| depth > 1) {
+            Some(parent) => format!("{} {own}", self.choices(parent, most - 1)),
+            None => own,
+        }
+    }
+
+    /// A branch by its choices, as `3>12 9>14`.
+    fn name(&self, branch: usize) -> String {
+        match self.branches[branch].depth {
+            0 => "Main".to_string(),
+            _ => self.choices(branch, NAMED),
         }
     }
 
@@ -292,12 +376,12 @@ impl<'a> Search<'a> {
     /// other branches end and free their nodes.
     fn take(&mut self, worker: u8, branch: usize) -> Result<bool, Refusal> {
         let Branch { depth, spare, .. } = self.branches[branch];
-        if !self.write(worker, spare, STANDS_FOR + u32::from(BAD_BLOCKS[depth - 1]))? {
+        if !self.write(worker, spare, STANDS_FOR + u32::from(self.card.bad_block(depth)))? {
             self.waits += 1;
             self.tell(worker, branch, "no room in the pool, waits");
             return Ok(false);
         }
-        let whole = depth == BAD_BLOCKS.len();
+        let whole = depth == self.card.bad_blocks;
         self.branches[branch].stage = if whole { Stage::Score } else { Stage::Look };
         self.tell(worker, branch, &format!("takes {spare}"));
         Ok(true)
@@ -315,11 +399,11 @@ impl<'a> Search<'a> {
     fn look(&mut self, worker: u8, branch: usize) -> Result<(), Refusal> {
         let spare = self.branches[branch].next;
         self.branches[branch].next += 1;
-        if self.branches[branch].next == BLOCKS {
+        if self.branches[branch].next == self.card.first_spare(self.branches[branch].depth) + self.card.spares {
             self.branches[branch].stage = if self.must_sync(branch) { Stage::Wait } else { Stage::End };
         }
         match self.engine.read(worker, spare)? {
-            SPARE if passes_erase_test(spare) => self.spawn(worker, branch, spare),
+            SPARE if self.card.passes_erase_test(spare) => self.spawn(worker, branch, spare),
             SPARE => self.mark_failed(worker, branch, spare),
             BAD => {
                 self.tell(worker, branch, &format!("{spare} is bad"));
@@ -332,11 +416,22 @@ impl<'a> Search<'a> {
         }
     }
 
+    /// Where the table has no place, the search goes on without this branch and all below it.
     fn spawn(&mut self, worker: u8, parent: usize, spare: u16) -> Result<(), Refusal> {
-        let depth = self.engine.spawn(worker)? as usize;
-        let child = Branch { parent: Some(parent), stage: Stage::Take, depth, spare, next: FIRST_SPARE, failed: None };
+        let depth = match self.engine.spawn(worker) {
+            Ok(depth) => depth as usize,
+            Err(Refusal::FramesFull) => {
+                self.given_up += 1;
+                return Ok(());
+            }
+            Err(other) => return Err(other),
+        };
+        let next = self.card.first_spare(depth);
+        let child = Branch { parent: Some(parent), stage: Stage::Take, depth, spare, next, failed: None };
         self.runs[usize::from(worker)] = Some(self.branches.len());
         self.branches.push(child);
+        self.deepest = self.deepest.max(depth);
+        self.most_live = self.most_live.max(self.engine.live_frames());
         self.tell(worker, parent, &format!("{spare} is a good spare: spawns a branch"));
         Ok(())
     }
@@ -370,7 +465,7 @@ impl<'a> Search<'a> {
     /// block should be far from its spare.
     fn score(&mut self, worker: u8, branch: usize) -> Result<(), Refusal> {
         let mut cost = 0;
-        for spare in FIRST_SPARE..BLOCKS {
+        for spare in self.card.first_spare..self.card.blocks {
             let is = self.engine.read(worker, spare)?;
             if is >= STANDS_FOR {
                 let moved = u32::from(spare) - (is - STANDS_FOR);

@@ -1,7 +1,9 @@
 //! A tape, and each refusal once.
 
-use crate::layout::{print_totals, Memory, BLOCKS, FACTORY_MARKS};
-use splitter::{answer, answers, image_bytes, raw, tree_nodes, Engine, Refusal, Returned, State, Step, NODE_WORDS};
+use crate::layout::{print_totals, Memory, PLACES, SMALL_CARD};
+use splitter::{
+    answer, answers, image_bytes, raw, tree_nodes, Engine, Frame, Refusal, Returned, State, Step, NODE_WORDS,
+};
 use std::error::Error;
 use std::fmt::Debug;
 
@@ -23,7 +25,7 @@ const EXAMPLE: [Step; 9] = [
 /// The example as a tape.
 pub fn tape() -> Outcome {
     let mut words = [0; 2 * EXAMPLE.len()];
-    let mut memory = Memory::new(20);
+    let mut memory = Memory::new(PLACES, 20);
     let mut engine = memory.lend();
     println!("\nTape: 2 workers, 5 splitters, 20 nodes");
     engine.start(2, &[10, 20, 30, 40, 50])?;
@@ -50,27 +52,37 @@ fn show<T: Debug>(answer: Result<T, Refusal>, wanted: Refusal, what: &str) -> Ou
 }
 
 fn refused_starts() -> Outcome {
-    let tree = tree_nodes(BLOCKS.into()) as usize;
-    let mut memory = Memory::new(tree);
+    let tree = tree_nodes(SMALL_CARD.blocks.into()) as usize;
+    let marks = SMALL_CARD.factory_marks();
+    let mut memory = Memory::new(PLACES, tree);
     let mut engine = memory.lend();
     show(engine.start(2, &[]), Refusal::BadValueCount, "a start without values")?;
-    show(engine.start(9, &FACTORY_MARKS), Refusal::BadWorkerCount, "a start with 9 workers")?;
-    let mut memory = Memory::new(tree - 1);
-    show(memory.lend().start(2, &FACTORY_MARKS), Refusal::BadNodeCount, "a start with a node too few")
+    show(engine.start(9, &marks), Refusal::BadWorkerCount, "a start with 9 workers")?;
+    let mut memory = Memory::new(0, 20);
+    show(memory.lend().start(2, &marks), Refusal::BadPlaceCount, "a start without a frame table")?;
+    let mut memory = Memory::new(PLACES + 1, 20);
+    show(memory.lend().start(2, &marks), Refusal::BadPlaceCount, "a start with 257 places")?;
+    let mut memory = Memory::new(PLACES, tree - 1);
+    show(memory.lend().start(2, &marks), Refusal::BadNodeCount, "a start with a node too few")
 }
 
-/// Calls refused whole. Each leaves state and pool as they were, so the run goes on.
+/// Calls refused whole. Each leaves state, table and pool as they were, so the run goes on.
 fn refused_calls(memory: &mut Memory) -> Outcome {
     let bytes = Step::Spawn { worker: 0 }.to_bytes();
     show(memory.lend().tape(&bytes[..7], &mut [0; 2]), Refusal::BadTape, "a tape of 7 bytes")?;
-    let Memory { state, pool, work } = memory;
+    let Memory { state, frames, pool, work } = memory;
     let short = work.len() - 1;
-    let mut engine = Engine { state, pool, work: &mut work[..short] };
+    let mut engine = Engine { state, frames, pool, work: &mut work[..short] };
     show(engine.read(0, 3), Refusal::ShortWork, "a work slice with a word too few")?;
     let mut parts = state.parts();
-    parts.frames = &mut parts.frames[1..];
-    let words = raw::step(parts, pool, work, [5, 0, 3, 0]);
-    show(answer(words), Refusal::BadState, "frames with a word too few")?;
+    parts.deques = &mut parts.deques[1..];
+    let words = raw::step(parts, frames, pool, work, [5, 0, 3, 0]);
+    show(answer(words), Refusal::BadState, "deques with a word too few")?;
+    let last = memory.frames.pop().ok_or("surprise: no table")?;
+    show(memory.lend().read(0, 3), Refusal::Unsound, "a table with a place less than at the start")?;
+    memory.frames.extend([last, Frame::ZERO]);
+    show(memory.lend().read(0, 3), Refusal::Unsound, "a table with a place more")?;
+    memory.frames.pop();
     let mut engine = memory.lend();
     engine.pool[0] ^= 1;
     show(engine.read(0, 3), Refusal::Unsound, "a bit of the pool has flipped")?;
@@ -82,7 +94,7 @@ fn refused_calls(memory: &mut Memory) -> Outcome {
 /// A refused save leaves the run. A refused reading leaves a state of zeros: the host reads another image,
 /// or this one in a better way.
 fn refused_images(memory: &mut Memory) -> Outcome {
-    let mut image = vec![0; image_bytes(memory.work.len() as u32) as usize];
+    let mut image = vec![0; image_bytes(PLACES as u32, memory.work.len() as u32) as usize];
     let short = image.len() - 1;
     let mut engine = memory.lend();
     show(engine.save(&mut image[..short]), Refusal::ShortTarget, "a target with a byte too few")?;
@@ -96,10 +108,12 @@ fn refused_images(memory: &mut Memory) -> Outcome {
     image[1] -= 2;
     show(engine.load(&image), Refusal::BadBlocks, "an image of the form before")?;
     image[1] += 1;
-    let Memory { state, pool, work } = memory;
+    let Memory { state, frames, pool, work } = memory;
     let short = pool.len() - NODE_WORDS;
-    let mut engine = Engine { state, pool: &mut pool[..short], work };
+    let mut engine = Engine { state, frames, pool: &mut pool[..short], work };
     show(engine.load(&image), Refusal::Unsound, "an image read into a pool with a node too few")?;
+    let mut engine = Engine { state, frames: &mut frames[..64], pool, work };
+    show(engine.load(&image), Refusal::Unsound, "an image of 256 places read into a table of 64")?;
     assert_eq!(*engine.state, State::ZERO);
     let mut engine = memory.lend();
     engine.load(&image)?;
@@ -113,7 +127,7 @@ fn refused_steps(engine: &mut Engine) -> Outcome {
     show(answer(words), Refusal::BadRecord, "a record of kind 9")?;
     show(engine.spawn(2), Refusal::UnknownWorker, "worker 2 of 2 spawns")?;
     show(engine.sync(1), Refusal::WorkerHasNoFrame, "worker 1 syncs")?;
-    show(engine.read(0, BLOCKS), Refusal::UnknownSplitter, "worker 0 reads block 16")?;
+    show(engine.read(0, SMALL_CARD.blocks), Refusal::UnknownSplitter, "worker 0 reads block 16")?;
     engine.tape(&[7, 0, 3, 0, 1, 0, 0, 0], &mut words)?; // no Step names such a reducer
     show(answer(words), Refusal::UnknownReducer, "worker 0 folds into reducer 3")
 }
@@ -148,7 +162,7 @@ fn full_frames(engine: &mut Engine) -> Outcome {
     while spawned.is_ok() {
         spawned = engine.spawn(1);
     }
-    show(spawned, Refusal::FramesFull, "64 frames, each the child of the one before, and one more")?;
+    show(spawned, Refusal::FramesFull, "256 frames, each the child of the one before, and one more")?;
     engine.ret(1)?;
     println!("    one has ended, the next spawn has depth {}", engine.spawn(1)?);
     while engine.ret(1)? != Returned::Finished {}
@@ -158,7 +172,7 @@ fn full_frames(engine: &mut Engine) -> Outcome {
 /// What 14 refused before: the frame waits as returning, and can do nothing more. Main has returned only
 /// when it has ended.
 fn waiting_main(engine: &mut Engine) -> Outcome {
-    engine.start(2, &FACTORY_MARKS)?;
+    engine.start(2, &SMALL_CARD.factory_marks())?;
     move_main(engine)?;
     assert_eq!(engine.ret(1)?, Returned::Waits);
     println!("    Main returns while its child runs elsewhere: it waits");
@@ -173,8 +187,8 @@ fn waiting_main(engine: &mut Engine) -> Outcome {
 pub fn refusals() -> Outcome {
     println!("\nRefusals");
     refused_starts()?;
-    let mut memory = Memory::new(tree_nodes(BLOCKS.into()) as usize + 5);
-    memory.lend().start(2, &FACTORY_MARKS)?;
+    let mut memory = Memory::new(PLACES, tree_nodes(SMALL_CARD.blocks.into()) as usize + 5);
+    memory.lend().start(2, &SMALL_CARD.factory_marks())?;
     refused_calls(&mut memory)?;
     refused_images(&mut memory)?;
     let engine = &mut memory.lend();

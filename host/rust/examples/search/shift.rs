@@ -2,9 +2,9 @@
 //! it goes. At the end of the shift the power goes off, and what came after the last save is forgotten.
 
 use crate::kept::{self, Kept};
-use crate::layout::{Memory, Search, Syncs, MAX_WORKERS};
+use crate::layout::{Memory, Search, Syncs, MAX_WORKERS, PLACES, SMALL_CARD};
 use crate::NODES;
-use splitter::{Engine, Refusal, State, NODE_WORDS};
+use splitter::{Engine, Frame, Refusal, State, NODE_WORDS};
 use std::error::Error;
 use std::path::Path;
 
@@ -33,6 +33,7 @@ fn read_one(engine: &mut Engine, kept: &Kept, name: &str) -> bool {
         assert_eq!(*engine.state, State::ZERO);
     }
     if read == Err(Refusal::Unsound) {
+        assert!(engine.frames.iter().all(|frame| *frame == Frame::ZERO));
         assert!(engine.pool.iter().all(|word| *word == 0));
     }
     false
@@ -49,10 +50,11 @@ fn read_newest(engine: &mut Engine, folder: &Path) -> Option<Kept> {
     Some(kept)
 }
 
-/// A pool of more nodes than the image has, full of garbage: no word of it may matter.
+/// A table and a pool full of garbage, the pool of more nodes than the image has: no word of them may matter.
 fn soiled(more: usize) -> Memory {
-    let mut memory = Memory::new(NODES + more);
-    memory.state.frames.fill(0x5A5A_5A5A);
+    let mut memory = Memory::new(PLACES, NODES + more);
+    memory.state.deques.fill(0x5A5A_5A5A);
+    memory.frames.fill(Frame::from_words([0x6969_6969; Frame::WORDS]));
     memory.pool.fill(0xA5A5_A5A5);
     memory.work.fill(0xC3C3_C3C3);
     memory
@@ -90,6 +92,6 @@ pub fn work(folder: &Path, turns: u32, more: usize) -> Result<(), Box<dyn Error>
     }
     println!("    no image can be read: begins");
     let mut memory = soiled(0);
-    let mut search = Search::begin(memory.lend(), WORKERS.into(), Syncs::All)?;
+    let mut search = Search::begin(&SMALL_CARD, memory.lend(), WORKERS.into(), Syncs::All)?;
     take_turns(&mut search, turns, folder, 0)
 }

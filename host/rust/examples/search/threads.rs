@@ -1,8 +1,8 @@
 //! The search on threads, one for each worker, with a lock around each turn, and with turns in any order:
 //! however they interleave, the same layout is the best, and the totals of the costs are the same.
 
-use crate::layout::{Memory, Search, Syncs, MAX_WORKERS, SYNCS};
-use splitter::{Totals, FRAME_RECORD_WORDS};
+use crate::layout::{Card, Memory, Search, Syncs, LARGE_CARD, MAX_WORKERS, PLACES, SMALL_CARD, SYNCS};
+use splitter::Totals;
 use std::sync::Mutex;
 use std::thread;
 
@@ -24,17 +24,25 @@ fn work(search: &Mutex<Search>, worker: u8) {
 /// Of the costs 106, 117, 130, 157, 153 and 169, in this order; the digest is theirs to the base 31.
 const TOTALS: Totals = Totals { sum: 832, min: 106, multiplier: 887_503_681, addend: 3_146_770_582 };
 
-/// What each search must find.
+/// What each search of the small card must find.
 fn check_found(search: &Search) {
     assert_eq!(search.engine.state.totals(), Some(TOTALS));
     assert_eq!(search.best(), "3>12 9>14, cost 106");
     assert_eq!((search.layouts, search.waits, search.given_up), (6, 0, 0));
 }
 
+/// What each search of the large card must find, in more than 64 frames: of the costs 314, 317, 317 and 320.
+fn check_found_deep(search: &Search) {
+    let totals = Totals { sum: 1_268, min: 314, multiplier: 923_521, addend: 9_669_158 };
+    assert_eq!(search.engine.state.totals(), Some(totals));
+    assert_eq!(search.best(), ".. 231>233 234>235 237>238, cost 314");
+    assert_eq!((search.layouts, search.given_up, search.deepest), (4, 0, 80));
+}
+
 /// A search to its end.
-fn search_on_threads(syncs: Syncs) {
-    let mut memory = Memory::new(NODES);
-    let mut search = Search::begin(memory.lend(), MAX_WORKERS as u32, syncs).expect("a fit start");
+fn search_on_threads(card: &'static Card, nodes: usize, syncs: Syncs, check_found: fn(&Search)) {
+    let mut memory = Memory::new(PLACES, nodes);
+    let mut search = Search::begin(card, memory.lend(), MAX_WORKERS as u32, syncs).expect("a fit start");
     search.told = false;
     let search = Mutex::new(search);
     thread::scope(|scope| {
@@ -48,15 +56,15 @@ fn search_on_threads(syncs: Syncs) {
 
 /// A search whose turns are taken in an order that the seed gives; the most frames that waited as returning.
 fn search_in_order(syncs: Syncs, mut seed: u32) -> usize {
-    let mut memory = Memory::new(NODES);
-    let mut search = Search::begin(memory.lend(), MAX_WORKERS as u32, syncs).expect("a fit start");
+    let mut memory = Memory::new(PLACES, NODES);
+    let mut search = Search::begin(&SMALL_CARD, memory.lend(), MAX_WORKERS as u32, syncs).expect("a fit start");
     let mut most = 0;
     search.told = false;
     while !search.finished {
         seed = seed.wrapping_mul(1_664_525).wrapping_add(1_013_904_223);
         let worker = (seed >> 16) as u8 % MAX_WORKERS as u8;
         search.take_a_turn(worker).expect("a turn that the host knows");
-        let waiting = search.engine.state.frames.chunks(FRAME_RECORD_WORDS).filter(|record| record[6] == 1);
+        let waiting = search.engine.frames.iter().filter(|frame| frame.returning == 1);
         most = most.max(waiting.count());
     }
     check_found(&search);
@@ -75,7 +83,15 @@ fn any_order_finds_the_same_layout() {
 fn threads_find_the_same_layout() {
     for syncs in SYNCS {
         for _ in 0..50 {
-            search_on_threads(syncs);
+            search_on_threads(&SMALL_CARD, NODES, syncs, check_found);
         }
+    }
+}
+
+/// The large card, whose branches are 80 deep.
+#[test]
+fn threads_search_deeper_than_64_frames() {
+    for syncs in SYNCS {
+        search_on_threads(&LARGE_CARD, crate::MOST_NODES, syncs, check_found_deep);
     }
 }

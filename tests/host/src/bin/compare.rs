@@ -21,7 +21,7 @@ const GUARD: usize = 7;
 const ENOUGH_RUNS: u64 = 1_000;
 /// And from so many runs on, every case of a write at every n.
 const ENOUGH_WRITES: u64 = 4_000;
-const ENOUGH_PAIRS: usize = 50_000;
+const ENOUGH_PAIRS: usize = 150_000;
 const ENOUGH_IMAGES: u64 = 10_000;
 const ENOUGH_DAMAGED: usize = 50_000;
 
@@ -126,6 +126,7 @@ fn compare_runs(options: &Options, session: &mut Session) -> Result<(), Failure>
             session.sharing.lines(),
             session.waits.lines(),
             session.families.lines(),
+            vec![session.tables.line()],
         ]
         .concat();
         lines.iter().for_each(|line| println!("{line}"));
@@ -137,6 +138,10 @@ fn compare_runs(options: &Options, session: &mut Session) -> Result<(), Failure>
     let missing = session.waits.missing();
     if options.runs >= ENOUGH_RUNS && !missing.is_empty() {
         return Err(format!("returns not met: {missing:?}"));
+    }
+    let missing = session.tables.missing();
+    if options.runs >= ENOUGH_RUNS && !missing.is_empty() {
+        return Err(format!("tables never full: {missing:?}"));
     }
     let missing = session.families.missing();
     if options.runs >= ENOUGH_RUNS && !missing.is_empty() {
@@ -246,7 +251,7 @@ fn report(counts: &Counts) {
         println!("  {times:6}  {}", sentence.text);
     }
     let fewest = counts.turns.iter().min().unwrap_or(&0);
-    println!("each state word was the one changed at least {fewest} times");
+    println!("each word of numbers and deques was the one changed at least {fewest} times");
     let [none, some, all] = counts.writes;
     println!(
         "writes from sound pairs: {none} with none of the path shared, {some} with some, {all} with all; {} by the only frame, in a tree with a node in two places",
@@ -272,7 +277,7 @@ fn all_met(counts: &Counts) -> Result<(), Failure> {
         return Err(format!("never broken alone: {}", sentence.text));
     }
     if counts.turns.contains(&0) {
-        return Err("a state word never had its turn".to_string());
+        return Err("a word of numbers or deques never had its turn".to_string());
     }
     if counts.writes.contains(&0) || counts.beside_itself == 0 {
         return Err("a case of a write from a sound pair was never met".to_string());

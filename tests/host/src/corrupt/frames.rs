@@ -1,7 +1,7 @@
 //! Changes of frames and deques.
 
 use super::Pair;
-use crate::plain::{Deque, Frame, View, MAX_FRAMES, MAX_WORKERS, NONE};
+use crate::plain::{Deque, Frame, View, MAX_PLACES, MAX_WORKERS, NONE};
 use crate::random::Random;
 
 /// Words that no flag can have.
@@ -22,7 +22,7 @@ fn busy(pair: &Pair, random: &Random) -> Option<usize> {
 }
 
 pub fn free_places(pair: &Pair) -> Vec<usize> {
-    (0..MAX_FRAMES)
+    (0..pair.state.frames.len())
         .filter(|&place| pair.state.frames[place].live == 0)
         .collect()
 }
@@ -47,7 +47,7 @@ pub fn past_the_end(pair: &mut Pair, random: &Random) -> Option<()> {
     let deque = &mut pair.state.deques[random.below(MAX_WORKERS)];
     let past = &mut deque.places[deque.length as usize..];
     let place = (!past.is_empty()).then(|| random.below(past.len()))?;
-    past[place] = random.pick(&[1, NONE, 1 + random.word_below(63)]);
+    past[place] = random.pick(&[1, NONE, 1 + random.word_below(255)]);
     Some(())
 }
 
@@ -65,11 +65,20 @@ pub fn absent_worker(pair: &mut Pair, random: &Random) -> Option<()> {
 
 /// A length that no deque can have. A full deque is the place for it, if there is one.
 pub fn deque_too_long(pair: &mut Pair, random: &Random) -> Option<()> {
-    let full = workers(pair, |deque| deque.length as usize == MAX_FRAMES);
+    let places = pair.state.places;
+    let full = workers(pair, |deque| deque.length == places);
     let worker = random
         .some(&full)
         .unwrap_or_else(|| random.below(MAX_WORKERS));
-    pair.state.deques[worker].length = random.pick(&[65, 66, 1 << 31, NONE, random.word() | 65]);
+    let lengths = [
+        places + 1,
+        places + 2,
+        257,
+        1 << 31,
+        NONE,
+        random.word() | 512,
+    ];
+    pair.state.deques[worker].length = random.pick(&lengths);
     Some(())
 }
 
@@ -88,7 +97,8 @@ pub fn workers_swapped(pair: &mut Pair, random: &Random) -> Option<()> {
 
 /// Another link in the chain of free places.
 pub fn place_relinked(pair: &mut Pair, random: &Random) -> Option<()> {
-    let next = random.pick(&[NONE, 64, random.word_below(64), random.word()]);
+    let places = pair.state.places;
+    let next = random.pick(&[NONE, places, random.word_below(places), random.word()]);
     let link = match random.some(&free_places(pair)) {
         Some(place) if !random.one_in(8) => &mut pair.state.frames[place].parent,
         _ => &mut pair.state.vacant,
@@ -114,13 +124,13 @@ pub fn place_not_zero(pair: &mut Pair, random: &Random) -> Option<()> {
 
 /// Moves frame places about, with all links to them put right.
 pub fn places_renumbered(pair: &mut Pair, random: &Random) -> Option<()> {
-    let mut places: Vec<u32> = (0..MAX_FRAMES as u32).collect();
+    let mut places: Vec<u32> = (0..pair.state.places).collect();
     random.shuffle(&mut places);
     let place = |link: u32| match link {
         NONE => NONE,
         old => places[old as usize],
     };
-    let old = pair.state.frames;
+    let old = pair.state.frames.clone();
     for (number, mut frame) in (0..).zip(old) {
         frame.parent = place(frame.parent);
         if frame.live != 0 {
@@ -143,7 +153,7 @@ pub fn in_two_places(pair: &mut Pair, random: &Random) -> Option<()> {
     let from = busy(pair, random)?;
     let frame = random.some(&queued(&pair.state.deques[from]))?;
     let to = idle(pair, random).unwrap_or(from);
-    if pair.state.deques[to].length as usize == MAX_FRAMES {
+    if pair.state.deques[to].length as usize == MAX_PLACES {
         return None;
     }
     pair.state.deques[to].push(frame);
@@ -152,7 +162,7 @@ pub fn in_two_places(pair: &mut Pair, random: &Random) -> Option<()> {
 
 pub fn dead_frame_queued(pair: &mut Pair, random: &Random) -> Option<()> {
     let free = random.some(&free_places(pair))? as u32;
-    let frame = random.pick(&[free, free, 64, NONE, random.word() | 64]);
+    let frame = random.pick(&[free, free, pair.state.places, NONE, random.word() | 256]);
     let worker = idle(pair, random)?;
     pair.state.deques[worker].push(frame);
     Some(())
@@ -385,6 +395,7 @@ pub fn free_place_returning(pair: &mut Pair, random: &Random) -> Option<()> {
 
 /// A frame that waits at a sync waits as returning, or the other way round.
 pub fn wait_turned(pair: &mut Pair, random: &Random) -> Option<()> {
-    pair.state.frames[random.some(&suspended(pair))?].returning ^= 1;
+    let place = random.some(&suspended(pair))?;
+    pair.state.frames[place].returning ^= 1;
     Some(())
 }

@@ -30,7 +30,11 @@ fn other_words(old: View, random: &Random) -> View {
         words[place] ^ 1 << random.below(32),
         random.word(),
     ]);
-    random.pick(&[View::of_words(words), View::of_words([0; 4]), View::IDENTITY])
+    random.pick(&[
+        View::of_words(words),
+        View::of_words([0; 4]),
+        View::IDENTITY,
+    ])
 }
 
 /// Words that are not all zero.
@@ -38,7 +42,12 @@ fn not_zero(random: &Random) -> View {
     let mut words = [0; 4];
     words[random.below(4)] = random.pick(&[1, NONE, 1 << 31, random.word() | 1]);
     let any = View::of_words([0; 4].map(|_| random.word() | 1));
-    random.pick(&[View::of_words(words), View::of_words(words), View::IDENTITY, any])
+    random.pick(&[
+        View::of_words(words),
+        View::of_words(words),
+        View::IDENTITY,
+        any,
+    ])
 }
 
 /// Every other time the child that its parent has below it in a deque, and that is the youngest in every run, is the eldest.
@@ -126,11 +135,20 @@ pub fn skipped(pair: &mut Pair, random: &Random) -> Option<()> {
     Some(())
 }
 
-/// A link leads to a frame that is no sibling, to a free place or to none of the 64.
+/// A link leads to a frame that is no sibling, to a free place or to none of the table.
 pub fn link_to_a_stranger(pair: &mut Pair, random: &Random) -> Option<()> {
     let children = family(pair, random, 1)?;
-    let mut strangers: Vec<u32> = (0..64).filter(|place| !children.contains(place)).collect();
-    strangers.extend([64, 65, 128, 1 << 31, NONE - 1, random.word() | 64]);
+    let places = pair.state.places;
+    let others = (0..places).filter(|place| !children.contains(place));
+    let mut strangers: Vec<u32> = others.collect();
+    strangers.extend([
+        places,
+        places + 1,
+        256,
+        1 << 31,
+        NONE - 1,
+        random.word() | 256,
+    ]);
     let from = random.some(&children)?;
     let to = match random.below(3) {
         0 => pair.state.frames[from as usize].parent,
@@ -146,7 +164,8 @@ pub fn main_linked(pair: &mut Pair, random: &Random) -> Option<()> {
     mains.retain(|&place| pair.state.frames[place].parent == NONE);
     let main = random.some(&mains)? as u32;
     let any = random.some(&pair.live())? as u32;
-    let to = [0, main, any, random.word_below(64), 64, NONE - 1];
+    let places = pair.state.places;
+    let to = [0, main, any, random.word_below(places), places, NONE - 1];
     link(pair, main, random.pick(&to));
     Some(())
 }

@@ -1,9 +1,12 @@
 //! Words changed without regard to what they mean.
 
 use super::Pair;
-use crate::plain::{self, View, Words, NONE, STATE_WORDS};
+use crate::plain::{self, View, Words, DEQUES_WORDS, FRAME_WORDS, NONE, NUMBERS_WORDS};
 use crate::random::Random;
 use std::array;
+
+/// The words of numbers and deques, which have their turns.
+pub const TURNS: usize = NUMBERS_WORDS + DEQUES_WORDS;
 
 /// A word that is not the old one, near it or far.
 fn another(old: u32, random: &Random) -> u32 {
@@ -13,7 +16,7 @@ fn another(old: u32, random: &Random) -> u32 {
         2 => NONE,
         3 => NONE - 1,
         4 => random.word(),
-        5 => random.word_below(70),
+        5 => random.word_below(260),
         6 => old ^ 1 << random.below(32),
         7 => old.wrapping_add(random.word_below(4)),
         8 => old.wrapping_sub(random.word_below(4)),
@@ -29,6 +32,13 @@ fn another(old: u32, random: &Random) -> u32 {
 /// The state word whose turn it is.
 pub fn state_word(pair: &mut Pair, random: &Random) -> Option<()> {
     change_state(pair, pair.turn, random);
+    Some(())
+}
+
+/// Any word of any record.
+pub fn record_word(pair: &mut Pair, random: &Random) -> Option<()> {
+    let words = pair.state.frames.len() * FRAME_WORDS;
+    change_state(pair, TURNS + random.below(words), random);
     Some(())
 }
 
@@ -52,7 +62,8 @@ pub fn pool_word(pair: &mut Pair, random: &Random) -> Option<()> {
 pub fn two_words(pair: &mut Pair, random: &Random) -> Option<()> {
     for _ in 0..2 {
         if random.one_in(2) {
-            change_state(pair, random.below(STATE_WORDS), random);
+            let words = TURNS + pair.state.frames.len() * FRAME_WORDS;
+            change_state(pair, random.below(words), random);
         } else {
             pool_word(pair, random)?;
         }
@@ -67,7 +78,7 @@ pub fn garbage(pair: &mut Pair, random: &Random) -> Option<()> {
 }
 
 pub fn small_garbage(pair: &mut Pair, random: &Random) -> Option<()> {
-    let limit = random.pick(&[2, 3, 10, 64]);
+    let limit = random.pick(&[2, 3, 10, 64, 257]);
     fill(pair, random, |random| match random.below(12) {
         0 => NONE,
         _ => random.word_below(limit),
@@ -80,7 +91,9 @@ fn fill(pair: &mut Pair, random: &Random, word: impl Fn(&Random) -> u32) {
     let words = Words {
         numbers: array::from_fn(|_| word(random)),
         deques: array::from_fn(|_| word(random)),
-        frames: array::from_fn(|_| word(random)),
+        frames: (0..old.frames.len() * FRAME_WORDS)
+            .map(|_| word(random))
+            .collect(),
     };
     pair.state = plain::from_words(&words);
     pair.pool.fill_with(|| word(random));
@@ -88,22 +101,24 @@ fn fill(pair: &mut Pair, random: &Random, word: impl Fn(&Random) -> u32) {
         pair.state.workers = old.workers;
         pair.state.splitters = old.splitters;
         pair.state.nodes = old.nodes;
+        pair.state.places = old.places;
     }
 }
 
 /// Some records replaced by random ones, the pool as it was.
 pub fn garbage_frames(pair: &mut Pair, random: &Random) -> Option<()> {
+    let places = pair.state.places;
     for frame in &mut pair.state.frames {
         if random.one_in(4) {
             frame.live = random.word_below(3);
-            frame.parent = random.pick(&[NONE, random.word_below(64)]);
+            frame.parent = random.pick(&[NONE, random.word_below(places)]);
             frame.depth = random.word_below(4);
             frame.outstanding = random.word_below(3);
             frame.suspended = random.word_below(2);
-            frame.root = random.word_below(pair.state.nodes + 1);
+            frame.root = random.word_below(pair.state.head.nodes + 1);
             frame.returning = random.pick(&[0, 0, 1]);
             frame.view = random.pick(&[View::of_words([0; 4]), View::IDENTITY]);
-            frame.younger = random.pick(&[0, NONE, random.word_below(64)]);
+            frame.younger = random.pick(&[0, NONE, random.word_below(places)]);
         }
     }
     Some(())

@@ -1,5 +1,5 @@
-//! A file that R-1's library wrote, before there were frames that wait as returning, views and totals: data/README.md says how. It is no
-//! longer read, nor is it in the form from before R-5; the same run in the present form goes on as it did.
+//! A file that R-1's library wrote, before there were frames that wait as returning, views, totals and a lent frame table: data/README.md
+//! says how. It is no longer read, nor is it in the forms from before; the same run in the present form goes on as it did.
 
 use super::tests::both;
 use super::*;
@@ -48,7 +48,7 @@ fn file_words() -> Vec<u32> {
     blocks.map(|&word| u32::from_le_bytes(word)).collect()
 }
 
-/// The same run in the present form: no totals, seventh words of zero, nothing folded. Of Main's children the elder is in place 1, the
+/// The same run in the present form: no totals, a table of 64 places, seventh words of zero, nothing folded. Of Main's children the elder is in place 1, the
 /// younger in place 2; the frames in places 3 and 4 have no sibling.
 fn present() -> (Parts, Vec<u32>) {
     let words = file_words();
@@ -60,20 +60,25 @@ fn present() -> (Parts, Vec<u32>) {
         })
         .collect();
     frames[12 + 11] = 2;
+    let mut deques = Vec::new();
+    for deque in words[5..525].chunks(65) {
+        deques.extend([deque, &[0; 192]].concat());
+    }
     let parts = Parts {
-        numbers: [&words[..5], &[0; 4]].concat(),
-        deques: words[5..525].to_vec(),
+        numbers: [&words[..5], &[0; 4], &[64]].concat(),
+        deques,
         frames,
     };
     (parts, words[909..909 + 4 * NODE_COUNT].to_vec())
 }
 
-/// Its image, written here: 1,457 words in 12 blocks; the rest is zero.
+/// Its image, written here: 1,458 words in 12 blocks; the rest is zero.
 fn present_image() -> Vec<u8> {
     let (state, nodes) = present();
-    let mut words = [&state.numbers[..], &state.deques, &state.frames, &nodes].concat();
-    assert_eq!((words[0], words.len()), (4, 1_457));
-    words[0] = 516;
+    let deques = &file_words()[5..525];
+    let mut words = [&state.numbers[..], deques, &state.frames, &nodes].concat();
+    assert_eq!((words[0], words.len()), (4, 1_458));
+    words[0] = 772;
     in_blocks(words)
 }
 
@@ -91,7 +96,7 @@ fn in_blocks(mut words: Vec<u32>) -> Vec<u8> {
 fn loading(image: &[u8]) -> Call {
     let random = Random::new(3);
     Call {
-        state: Parts::garbage(&random),
+        state: Parts::garbage(64, &random),
         pool: random.words(4 * NODE_COUNT + 6),
         work: random.words(NODE_COUNT + 2),
         entry: Entry::Load {
@@ -134,7 +139,7 @@ fn goes_on(read: &Outcome) {
     }
     assert!(state == ended.state && pool == ended.pool);
     assert!(!state.state().expect("a whole state").main_lives());
-    assert_eq!(state.numbers[5..], [0, NONE, 1, 0]); // nothing was folded
+    assert_eq!(state.numbers[5..], [0, NONE, 1, 0, 64]); // nothing was folded
 }
 
 #[test]
@@ -166,24 +171,37 @@ fn the_file() {
     assert_eq!((live, suspended.count()), (5, 2));
 }
 
-/// The file is refused by 17, and so is the same run in the form from before R-5: 256 more in the first word, seven words to a record.
-#[test]
-fn refused() {
+/// The same run in the form from before R-5: 256 more in the first word, seven words to a record.
+fn second_form() -> Vec<u8> {
     let words = file_words();
     let records = words[525..909].chunks(6);
     let records: Vec<u32> = records.flat_map(|record| [record, &[0]].concat()).collect();
-    let mut later = [&words[..525], &records, &words[909..909 + 4 * NODE_COUNT]].concat();
-    assert_eq!(later.len(), 1_133);
-    later[0] += 256;
-    for image in [IMAGE.to_vec(), in_blocks(later)] {
+    let mut second = [&words[..525], &records, &words[909..909 + 4 * NODE_COUNT]].concat();
+    assert_eq!(second.len(), 1_133);
+    second[0] += 256;
+    in_blocks(second)
+}
+
+/// And in that from before R-6: 512 more, the totals, twelve words to a record.
+fn third_form() -> Vec<u8> {
+    let (state, nodes) = present();
+    let deques = &file_words()[5..525];
+    let mut third = [&state.numbers[..9], deques, &state.frames, &nodes].concat();
+    assert_eq!(third.len(), 1_457);
+    third[0] += 512;
+    in_blocks(third)
+}
+
+/// The file is refused by 17, and so is the same run in the two forms after it.
+#[test]
+fn refused() {
+    for image in [IMAGE.to_vec(), second_form(), third_form()] {
         let call = loading(&image);
         let after = both(&call);
         assert_eq!(after.result, [17, 0]);
-        assert!(after
-            .state
-            .each()
-            .iter()
-            .all(|part| part.iter().all(|&word| word == 0)));
+        let state = after.state.numbers.iter().chain(&after.state.deques);
+        assert!(state.into_iter().all(|&word| word == 0));
+        assert_eq!(after.state.frames, call.state.frames);
         assert!(after.pool == call.pool && after.work == call.work);
     }
 }

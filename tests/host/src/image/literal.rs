@@ -3,26 +3,30 @@
 
 use crate::parts::{Parts, LENGTHS};
 use crate::sentences;
-use splitter::raw;
 
 /// "The first word of an image has 256 added" (R-3). "Each later change of the image adds 256 again and reads only its own form": R-5's is
-/// the first.
-const ADDED: u32 = 256 + 256;
+/// the first, R-6's the second.
+const ADDED: u32 = 256 + 256 + 256;
 
-/// 5 words, R-5's 4 totals, 8 times 65, 64 records of 6, R-3's 1 and R-5's 5 words; "then the pool's nodes", of four words.
-fn words_of(nodes: u32) -> u128 {
-    5 + 4 + 8 * (1 + 64) + 64 * (6 + 1 + 5) + u128::from(nodes) * 4
+/// 5 words, R-5's 4 totals, R-6's "length as a word before the deques".
+const NUMBERS: usize = 5 + 4 + 1;
+
+/// The numbers, 8 times a length and "that many .. deque places", "that many records" of 6, R-3's 1 and R-5's 5 words; "then the pool's
+/// nodes", of four words.
+fn words_of(places: u32, nodes: u32) -> u128 {
+    let (places, nodes) = (u128::from(places), u128::from(nodes));
+    NUMBERS as u128 + 8 * (1 + places) + places * (6 + 1 + 5) + nodes * 4
 }
 
 /// "blocks of 512 bytes: 508 of data": the least number of blocks whose data has room.
-fn blocks_of(nodes: u32) -> u128 {
-    let data = 4 * words_of(nodes);
+fn blocks_of(places: u32, nodes: u32) -> u128 {
+    let data = 4 * words_of(places, nodes);
     data / 508 + u128::from(data % 508 != 0)
 }
 
-/// The bytes of an image of so many nodes, as it is saved.
-pub fn image_bytes(nodes: u32) -> u64 {
-    (512 * blocks_of(nodes)) as u64
+/// The bytes of an image of so many places and nodes, as it is saved.
+pub fn image_bytes(places: u32, nodes: u32) -> u64 {
+    (512 * blocks_of(places, nodes)) as u64
 }
 
 /// "the sum modulo 4,294,967,296 of each data byte times 256 raised to its offset modulo 4"
@@ -70,42 +74,42 @@ fn word_at(data: &[u8], word: usize) -> u32 {
         .sum()
 }
 
-fn whole(state: &raw::Parts) -> bool {
-    [state.numbers.len(), state.deques.len(), state.frames.len()] == LENGTHS
+fn whole(state: &Parts) -> bool {
+    [state.numbers.len(), state.deques.len()] == LENGTHS
 }
 
 /// Whether they are sound; the work slice's first words, one for each recorded node, are zero afterwards.
-fn sound(state: &raw::Parts, pool: &[u32], work: &mut [u32]) -> bool {
-    let parts = Parts {
-        numbers: state.numbers.to_vec(),
-        deques: state.deques.to_vec(),
-        frames: state.frames.to_vec(),
-    };
+fn sound(state: &Parts, pool: &[u32], work: &mut [u32]) -> bool {
     for node in 0..state.numbers[2] {
         work[node as usize] = 0;
     }
-    sentences::broken(&parts, pool).is_empty()
+    sentences::broken(state, pool).is_empty()
 }
 
 /// Saving "checks 5, 6, 19".
-pub fn save(state: raw::Parts, pool: &[u32], work: &mut [u32], target: &mut [u8]) -> u32 {
-    if !whole(&state) {
+pub fn save(state: &Parts, pool: &[u32], work: &mut [u32], target: &mut [u8]) -> u32 {
+    if !whole(state) {
         return 99;
     }
     let nodes = state.numbers[2];
     if (work.len() as u128) < u128::from(nodes) {
         return 5;
     }
-    if !sound(&state, pool, work) {
+    if !sound(state, pool, work) {
         return 6;
     }
-    let blocks = blocks_of(nodes);
+    let places = state.numbers[9];
+    let blocks = blocks_of(places, nodes);
     if (target.len() as u128) < 512 * blocks {
         return 19;
     }
-    let pool = &pool[..4 * nodes as usize];
-    let mut words = [state.numbers, state.deques, state.frames, pool].concat();
+    let mut words = state.numbers.clone();
     words[0] += ADDED;
+    for worker in 0..8 {
+        words.extend((0..=places as usize).map(|at| state.deques[257 * worker + at]));
+    }
+    words.extend(&state.frames);
+    words.extend(&pool[..4 * nodes as usize]);
     let image = written(&words, blocks as usize);
     (0..image.len()).for_each(|place| target[place] = image[place]);
     0
@@ -120,8 +124,8 @@ fn accepted(image: &[u8]) -> Result<Vec<u8>, u32> {
     if !(ADDED..ADDED + 256).contains(&first) {
         return Err(17);
     }
-    let nodes = word_at(image, 2);
-    if image.len() as u128 != 512 * blocks_of(nodes) {
+    let (nodes, places) = (word_at(image, 2), word_at(image, 9));
+    if image.len() as u128 != 512 * blocks_of(places, nodes) {
         return Err(17);
     }
     for block in 0..image.len() / 512 {
@@ -131,50 +135,60 @@ fn accepted(image: &[u8]) -> Result<Vec<u8>, u32> {
         }
     }
     let data = data_of(image);
-    let rest = 4 * words_of(nodes) as usize;
+    let rest = 4 * words_of(places, nodes) as usize;
     if (rest..data.len()).any(|place| data[place] != 0) {
         return Err(18);
     }
     Ok(data)
 }
 
-/// A word of the state by its place among the 1,297: the same word of the image, but for what the first has added.
-fn state_word(data: &[u8], at: usize) -> u32 {
-    word_at(data, at) - if at == 0 { ADDED } else { 0 }
+/// "a recorded length not 1 to 256, or a table of another length, is unsound", whatever else the image has; else its words, one by one.
+fn read(state: &mut Parts, pool: &mut [u32], data: &[u8]) {
+    for at in 0..NUMBERS {
+        state.numbers[at] = word_at(data, at) - if at == 0 { ADDED } else { 0 };
+    }
+    let places = state.numbers[9] as usize;
+    if places == 0 || places > 256 || state.frames.len() != 12 * places {
+        return;
+    }
+    for worker in 0..8 {
+        for at in 0..1 + places {
+            state.deques[257 * worker + at] = word_at(data, NUMBERS + (1 + places) * worker + at);
+        }
+    }
+    let records = NUMBERS + 8 * (1 + places);
+    for at in 0..12 * places {
+        state.frames[at] = word_at(data, records + at);
+    }
+    let nodes = (state.numbers[2] as usize).min(pool.len() / 4);
+    for at in 0..4 * nodes {
+        pool[at] = word_at(data, records + 12 * places + at);
+    }
 }
 
 /// "reading checks 17, 18, 5, 6".
-pub fn load(state: raw::Parts, pool: &mut [u32], work: &mut [u32], image: &[u8]) -> u32 {
-    if !whole(&state) {
+pub fn load(state: &mut Parts, pool: &mut [u32], work: &mut [u32], image: &[u8]) -> u32 {
+    if !whole(state) {
         return 99;
     }
-    let (numbers, deques, frames) = (state.numbers.len(), state.deques.len(), state.frames.len());
-    let mut fill = |word: &dyn Fn(usize) -> u32| {
-        (0..numbers).for_each(|at| state.numbers[at] = word(at));
-        (0..deques).for_each(|at| state.deques[at] = word(numbers + at));
-        (0..frames).for_each(|at| state.frames[at] = word(numbers + deques + at));
-    };
-    fill(&|_| 0);
+    let zeros = |words: &mut [u32], count: usize| (0..count).for_each(|at| words[at] = 0);
+    zeros(&mut state.numbers, LENGTHS[0]);
+    zeros(&mut state.deques, LENGTHS[1]);
     let data = match accepted(image) {
         Ok(data) => data,
         Err(refusal) => return refusal,
     };
-    let nodes = word_at(&data, 2) as usize;
-    if work.len() < nodes {
+    if work.len() < word_at(&data, 2) as usize {
         return 5;
     }
-    fill(&|at| state_word(&data, at));
-    let held = pool.len() / 4;
-    let first = words_of(0) as usize;
-    for at in 0..4 * nodes.min(held) {
-        pool[at] = word_at(&data, first + at);
-    }
-    if sound(&state, pool, work) {
+    read(state, pool, &data);
+    if sound(state, pool, work) {
         return 0;
     }
-    (0..4 * held).for_each(|at| pool[at] = 0);
-    for part in [state.numbers, state.deques, state.frames] {
-        (0..part.len()).for_each(|at| part[at] = 0);
-    }
+    let (records, held) = (state.frames.len(), pool.len() / 4);
+    zeros(&mut state.numbers, LENGTHS[0]);
+    zeros(&mut state.deques, LENGTHS[1]);
+    zeros(&mut state.frames, records);
+    zeros(pool, 4 * held);
     6
 }

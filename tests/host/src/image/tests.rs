@@ -2,7 +2,8 @@
 
 use super::*;
 use crate::call::{Call, Entry, Outcome};
-use crate::plain::{State, NONE};
+use crate::plain::NONE;
+use crate::random::Random;
 
 /// All three, with the same outcome.
 pub fn both(call: &Call) -> Outcome {
@@ -14,36 +15,34 @@ pub fn both(call: &Call) -> Outcome {
 
 fn by_literal(call: &Call) -> Outcome {
     let mut after = call.untouched([0, 0]);
-    let state = splitter::raw::Parts {
-        numbers: &mut after.state.numbers,
-        deques: &mut after.state.deques,
-        frames: &mut after.state.frames,
-    };
+    let (state, pool, work) = (&mut after.state, &mut after.pool, &mut after.work);
     after.result[0] = match call.entry {
-        Entry::Save { .. } => literal::save(state, &after.pool, &mut after.work, &mut after.bytes),
-        _ => literal::load(state, &mut after.pool, &mut after.work, &after.bytes),
+        Entry::Save { .. } => literal::save(state, pool, work, &mut after.bytes),
+        _ => literal::load(state, pool, work, &after.bytes),
     };
     after
 }
 
-/// The records' first word, and that of the nodes.
-const RECORDS: usize = 9 + 8 * 65;
+/// The records' first word, and that of the nodes, of a table of 64 places.
+const RECORDS: usize = 10 + 8 * 65;
 const NODE_WORDS: usize = RECORDS + 64 * 12;
 
 /// A frame that has folded nothing and has no younger sibling: its last five words.
 const IDENTITIES: [u32; 5] = [0, NONE, 1, 0, NONE];
 
-/// One worker, one splitter of value 7, so many nodes: a start's words, by hand.
-fn fresh(nodes: u32) -> Vec<u32> {
+/// One worker, one splitter of value 7, so many places and nodes: a start's words, by hand.
+fn fresh(places: u32, nodes: u32) -> Vec<u32> {
     let next = |number, last| if number < last { number + 1 } else { NONE };
-    let mut words = vec![1 + 512, 1, nodes, next(0, nodes - 1), 1]; // workers, splitters, nodes, first free node and place
+    let mut words = vec![1 + 768, 1, nodes]; // workers, splitters, nodes
+    words.extend([next(0, nodes - 1), next(0, places - 1)]); // first free node and place
     words.extend([0; 4]); // the totals
+    words.push(places);
     words.extend([1, 0]); // worker 0: one frame, in place 0
-    words.resize(RECORDS, 0);
+    words.resize(10 + 8 * (1 + places as usize), 0);
     words.extend([1, NONE, 0, 0, 0, 0, 0]); // Main, with root 0
     words.extend(IDENTITIES);
-    for place in 1..64 {
-        words.extend([0, next(place, 63), 0, 0, 0, 0, 0, 0, 0, 0, 0, 0]);
+    for place in 1..places {
+        words.extend([0, next(place, places - 1), 0, 0, 0, 0, 0, 0, 0, 0, 0, 0]);
     }
     words.extend([1, NONE, NONE, 7]); // the leaf
     for node in 1..nodes {
@@ -53,15 +52,17 @@ fn fresh(nodes: u32) -> Vec<u32> {
 }
 
 fn smallest() -> Vec<u32> {
-    fresh(1)
+    fresh(64, 1)
 }
 
-/// The same in the form from before R-3, version 0, or that from before R-5, version 1: no totals, and records of six or seven words.
+/// The same in the form from before R-3, version 0, that from before R-5, version 1, with no totals and records of six or seven words, or
+/// that from before R-6, version 2, without the table's length.
 fn smallest_before(version: u32) -> Vec<u32> {
+    let (numbers, kept) = [(5, 6), (5, 7), (9, 12)][version as usize];
     let words = smallest();
     let records = words[RECORDS..NODE_WORDS].chunks(12);
-    let kept = records.flat_map(|record| &record[..6 + version as usize]);
-    let others = words[..5].iter().chain(&words[9..RECORDS]);
+    let kept = records.flat_map(|record| &record[..kept]);
+    let others = words[..numbers].iter().chain(&words[10..RECORDS]);
     let mut before: Vec<u32> = others
         .chain(kept)
         .chain(&words[NODE_WORDS..])
@@ -81,9 +82,9 @@ fn blocks(words: Vec<u32>, checks: &[u32]) -> Vec<u8> {
         .collect()
 }
 
-/// Its image: 1,301 words in 11 blocks, with checks that were summed by hand.
+/// Its image: 1,302 words in 11 blocks, with checks that were summed apart.
 fn smallest_image() -> Vec<u8> {
-    let checks = [516, 0, 0, 0, 43, 165, 255, 396, 517, 575, 68];
+    let checks = [836, 0, 0, 0, 43, 165, 255, 396, 465, 627, 68];
     blocks(smallest(), &checks)
 }
 
@@ -94,13 +95,34 @@ fn image_of(words: &[u32]) -> Vec<u8> {
     image
 }
 
-fn smallest_parts() -> Parts {
-    let mut words = smallest();
-    words[0] -= 512;
+/// The state and the table of an image's words.
+fn parts_of(words: &[u32]) -> Parts {
+    let places = words[9] as usize;
+    let records = 10 + 8 * (1 + places);
+    let mut numbers = words[..10].to_vec();
+    numbers[0] -= 768;
+    let mut deques = Vec::new();
+    for deque in words[10..records].chunks(1 + places) {
+        deques.extend(deque);
+        deques.resize(deques.len().next_multiple_of(257), 0);
+    }
     Parts {
-        numbers: words[..9].to_vec(),
-        deques: words[9..RECORDS].to_vec(),
-        frames: words[RECORDS..NODE_WORDS].to_vec(),
+        numbers,
+        deques,
+        frames: words[records..records + 12 * places].to_vec(),
+    }
+}
+
+fn smallest_parts() -> Parts {
+    parts_of(&smallest())
+}
+
+/// Zeros in the state beside a table of these words.
+fn zeros(frames: Vec<u32>) -> Parts {
+    Parts {
+        numbers: vec![0; 10],
+        deques: vec![0; 8 * 257],
+        frames,
     }
 }
 
@@ -117,22 +139,33 @@ fn saving(target: usize) -> Call {
     }
 }
 
-/// Read into 11 words of pool: two nodes and three words more.
+/// Read into a table of 64 places and 11 words of pool: two nodes and three words more.
 fn loading(image: Vec<u8>) -> Call {
+    loading_into(64, image)
+}
+
+fn loading_into(places: usize, image: Vec<u8>) -> Call {
     Call {
-        state: Parts::garbage(&crate::random::Random::new(7)),
+        state: Parts::garbage(places, &Random::new(7)),
         pool: vec![8; 11],
         work: vec![9; 3],
         entry: Entry::Load { image },
     }
 }
 
-/// A load that is refused so leaves zeros in the state, and pool and work as they were.
+/// A load that is refused so leaves zeros in the state, and table, pool and work as they were; by 6 the table is zero.
 fn refused(image: Vec<u8>) -> u32 {
-    let call = loading(image);
+    refused_into(64, image)
+}
+
+fn refused_into(places: usize, image: Vec<u8>) -> u32 {
+    let call = loading_into(places, image);
     let after = both(&call);
-    assert_eq!(after.state, Parts::of(&State::zero()));
-    if after.result[0] != 6 {
+    if after.result[0] == 6 {
+        assert_eq!(after.state, zeros(vec![0; 12 * places]));
+        assert_eq!(after.pool, [0, 0, 0, 0, 0, 0, 0, 0, 8, 8, 8]);
+    } else {
+        assert_eq!(after.state, zeros(call.state.frames.clone()));
         assert!(after.pool == call.pool && after.work == call.work);
     }
     assert_eq!(after.bytes, call.bytes());
@@ -154,15 +187,28 @@ fn with_word(word: usize, value: u32) -> Vec<u8> {
 
 #[test]
 fn sizes() {
-    // 1,297 words of state take 11 blocks, with room for 25 nodes: 11 × 127 = 1,397 = 1,297 + 100
-    let known = [(0, 11), (1, 11), (25, 11), (26, 12), (56, 12), (57, 13)];
-    for (nodes, blocks) in known
-        .into_iter()
-        .chain([(16_384, 527), (NONE, 135_274_571)])
-    {
-        assert_eq!(bytes(nodes), 512 * blocks, "{nodes}");
-        assert_eq!(literal::image_bytes(nodes), 512 * blocks, "{nodes}");
-        assert_eq!(splitter::image_bytes(nodes), 512 * blocks, "{nodes}");
+    // 18 words and 20 for each place: 64 places take 11 blocks, with room for 24 nodes, 11 × 127 = 1,397 = 1,298 + 99
+    let known = [
+        (64, 0, 11),
+        (64, 24, 11),
+        (64, 25, 12),
+        (1, 22, 1),
+        (1, 23, 2),
+        (0, 0, 1),
+        (256, 1, 41),
+        (256, 16_384, 557),
+        (64, NONE, 135_274_571),
+        (NONE, 0, 676_372_803),
+        (NONE, NONE, 811_647_363),
+    ];
+    for (places, nodes, blocks) in known {
+        assert_eq!(
+            bytes(Size { places, nodes }),
+            512 * blocks,
+            "{places} {nodes}"
+        );
+        assert_eq!(literal::image_bytes(places, nodes), 512 * blocks);
+        assert_eq!(splitter::image_bytes(places, nodes), 512 * blocks);
     }
 }
 
@@ -205,8 +251,10 @@ fn saves_refused() {
     let short_work = |call: &mut Call| call.work.clear();
     let unsound = |call: &mut Call| call.pool[0] = 2;
     let short_pool = |call: &mut Call| call.pool.truncate(3);
-    let bad_state = |call: &mut Call| call.state.frames.push(0);
-    let changes: [(&dyn Fn(&mut Call), u32); 4] = [
+    let other_table = |call: &mut Call| call.state.frames.truncate(12 * 63);
+    let bad_state = |call: &mut Call| call.state.deques.push(0);
+    let changes: [(&dyn Fn(&mut Call), u32); 5] = [
+        (&other_table, 6),
         (&short_pool, 6),
         (&unsound, 6),
         (&short_work, 5),
@@ -233,13 +281,104 @@ fn blocks_not_called_for() {
     for length in [0, 1, 511, 512, 513, 4_096, 5_631, 5_633, 6_144] {
         assert_eq!(refused(changed(|image| image.resize(length, 0))), 17);
     }
-    for nodes in [26, 27, 57, 16_384, 1 << 30, (1 << 30) + 1, NONE] {
+    for nodes in [25, 26, 57, 16_384, 1 << 30, (1 << 30) + 1, NONE] {
         assert_eq!(refused(with_word(2, nodes)), 17, "{nodes}");
     }
-    // one block, if the number of words were taken modulo 2^32; and as it was with shorter records
-    let one = |nodes| changed(|image| set_word(image, 2, nodes))[..512].to_vec();
-    for less in [324, 243, 227] {
-        assert_eq!(refused(one((1 << 30) - less)), 17);
+    // 11 blocks hold 63 to 68 places and a node
+    for places in [
+        0,
+        1,
+        58,
+        62,
+        69,
+        128,
+        256,
+        257,
+        1 << 30,
+        (1 << 30) + 64,
+        NONE,
+    ] {
+        assert_eq!(refused(with_word(9, places)), 17, "{places}");
+    }
+    // one block, if the number of words were taken modulo 2^32
+    let one = |word, value| changed(|image| set_word(image, word, value))[..512].to_vec();
+    for less in [325, 324, 320, 300] {
+        assert_eq!(refused(one(2, (1 << 30) - less)), 17);
+    }
+    // 20 times it and 22 are 2 and 26 modulo 2^32
+    for places in [(1 << 30) - 1, 0xCCCC_CCCD] {
+        assert_eq!(refused(one(9, places)), 17);
+    }
+}
+
+/// Other recorded lengths in as many blocks, the checks right: 6, in a table of that length too, or 18 where the rest is not zero.
+#[test]
+fn lengths_lied() {
+    for places in [65, 66, 67, 68] {
+        assert_eq!(refused_into(64, with_word(9, places)), 6);
+        assert_eq!(refused_into(places as usize, with_word(9, places)), 6);
+    }
+    assert_eq!(refused_into(63, with_word(9, 63)), 18);
+}
+
+/// An image of each table length is read into a table of this length and into no other; its save is the same.
+#[test]
+fn table_lengths() {
+    for places in [1, 2, 3, 63, 64, 65, 127, 128, 255, 256] {
+        for nodes in [1, 2] {
+            let words = fresh(places, nodes);
+            let after = both(&loading_into(places as usize, image_of(&words)));
+            assert_eq!((places, after.result[0]), (places, 0));
+            assert_eq!(after.state, parts_of(&words));
+            let target = bytes(Size { places, nodes }) as usize;
+            let save = Call {
+                entry: Entry::Save {
+                    target: vec![5; target],
+                },
+                state: after.state,
+                pool: after.pool,
+                work: after.work,
+            };
+            assert_eq!(both(&save).bytes, image_of(&words));
+        }
+        for other in [0, 1, 63, 64, 65, 255, 256, 257, 300] {
+            if other != places as usize {
+                assert_eq!(refused_into(other, image_of(&fresh(places, 2))), 6);
+            }
+        }
+    }
+}
+
+/// Images of 0 places, of 257 and of 300, with all else right: 6, in tables of these lengths too.
+#[test]
+fn lengths_that_no_table_has() {
+    for places in [257, 258, 300] {
+        let image = image_of(&fresh(places, 2));
+        for lent in [0, 1, 256, places as usize] {
+            assert_eq!(refused_into(lent, image.clone()), 6);
+        }
+    }
+    // no frame lives, no place is free: every node is
+    let mut words = vec![769, 1, 2, 0, NONE, 5, 6, 7, 8, 0];
+    words.extend([0; 8]);
+    words.extend([0, 1, 0, 0, 0, NONE, 0, 0]);
+    for lent in [0, 1, 64] {
+        assert_eq!(refused_into(lent, image_of(&words)), 6);
+    }
+}
+
+/// 17, 18 and 5 come before the table's length.
+#[test]
+fn other_tables_are_asked_last() {
+    for lent in [0, 63, 65, 257] {
+        let short = changed(|image| image.truncate(5_120));
+        assert_eq!(refused_into(lent, short), 17);
+        assert_eq!(refused_into(lent, changed(|image| image[0] ^= 2)), 18);
+        let mut call = loading_into(lent, smallest_image());
+        call.work.clear();
+        let after = both(&call);
+        assert_eq!(after.result[0], 5);
+        assert_eq!(after.state, zeros(call.state.frames));
     }
 }
 
@@ -249,25 +388,26 @@ fn wrong_checks() {
     assert_eq!(refused(changed(|image| image[0] ^= 2)), 18);
     assert_eq!(refused(changed(|image| image[5_631] ^= 128)), 18);
     assert_eq!(refused(changed(|image| image[508..512].reverse())), 18);
-    assert_eq!(refused(with_word(1_301, 1)), 18);
+    assert_eq!(refused(with_word(1_302, 1)), 18);
     assert_eq!(refused(with_word(1_396, 1 << 31)), 18);
-    assert_eq!(refused(changed(|image| set_word(image, 2, 25))), 18);
-    assert_eq!(refused(changed(|image| set_word(image, 2, 26))), 17);
-    let mut call = loading(with_word(0, 512));
+    assert_eq!(refused(changed(|image| set_word(image, 2, 24))), 18);
+    assert_eq!(refused(changed(|image| set_word(image, 2, 25))), 17);
+    assert_eq!(refused(changed(|image| set_word(image, 9, 68))), 18);
+    let mut call = loading(with_word(0, 768));
     call.work.clear();
     assert_eq!(both(&call).result[0], 5);
-    assert_eq!(both(&loading(with_word(0, 512))).result[0], 6);
+    assert_eq!(both(&loading(with_word(0, 768))).result[0], 6);
     call.entry = Entry::Load {
         image: changed(|image| image[0] ^= 2),
     };
     assert_eq!(both(&call).result[0], 18);
 }
 
-/// Not sound: every whole node of the lent pool is zero, and no word after them.
+/// Not sound: every record of the lent table and every whole node of the lent pool is zero, and no word after them.
 #[test]
 fn unsound() {
     let unsound = [
-        (0, 521),
+        (0, 777),
         (1, 0),
         (5, 1),
         (RECORDS, 2),
@@ -280,14 +420,14 @@ fn unsound() {
         assert_eq!((word, after.result[0]), (word, 6));
         assert_eq!(after.pool, [0, 0, 0, 0, 0, 0, 0, 0, 8, 8, 8]);
         assert_eq!(after.work, [0, 9, 9]);
-        assert_eq!(after.state, Parts::of(&State::zero()));
+        assert_eq!(after.state, zeros(vec![0; 12 * 64]));
     }
     // a recorded node more, of zeros, is on no chain
     assert_eq!(both(&loading(with_word(2, 2))).work, [0, 0, 9]);
     assert_eq!(refused(with_word(2, 0)), 18);
     assert_eq!(refused(vec![0; 5_632]), 17);
-    let mut zeros = vec![0; 1_297];
-    zeros[0] = 512;
+    let mut zeros = vec![0; 18];
+    zeros[0] = 768;
     assert_eq!(refused(image_of(&zeros)), 6);
 }
 
@@ -305,7 +445,7 @@ fn pools_too_short() {
 
 #[test]
 fn parts_of_another_length() {
-    for part in 0..3 {
+    for part in 0..2 {
         for image in [smallest_image(), Vec::new(), with_word(0, 0)] {
             let mut call = loading(image);
             call.state.each_mut()[part].pop();
@@ -314,23 +454,26 @@ fn parts_of_another_length() {
     }
 }
 
-/// "Each later change of the image adds 256 again and reads only its own form": neither form from before is read, nor with other numbers
-/// of workers, though length and checks are right.
+/// "Each later change of the image adds 256 again and reads only its own form": no form from before is read, nor with other numbers of
+/// workers, though length and checks are right.
 #[test]
 fn forms_from_before() {
-    for version in [0, 1] {
+    for version in [0, 1, 2] {
         let words = smallest_before(version);
-        assert_eq!(words.len(), [913, 977][version as usize]);
+        assert_eq!(words.len(), [913, 977, 1_301][version as usize]);
         for workers in [0, 1, 2, 8, 9, 255] {
             let mut words = words.clone();
             words[0] = workers + 256 * version;
             assert_eq!(refused(image_of(&words)), 17);
         }
-        // the present form's first word: 8 blocks are not 11; with so many, 6
+        // the present form's first word: a length of 0 or 1, and 8 to 11 blocks are not 1; with one, 6
         let mut words = words;
-        words[0] = 513;
+        words[0] = 769;
+        let places = [0, 0, 1][version as usize];
+        assert_eq!(words[9], places);
         assert_eq!(refused(image_of(&words)), 17);
-        words.resize(1_301, 0);
+        words.truncate(18 + 20 * places as usize + 4);
+        assert_eq!(refused_into(places as usize, image_of(&words)), 6);
         assert_eq!(refused(image_of(&words)), 6);
     }
 }
@@ -341,17 +484,19 @@ fn with_first(first: u32) -> u32 {
 }
 
 /// Words of forms from before and to come, and some that are none.
-const NO_FORM: [u32; 14] = [
+const NO_FORM: [u32; 16] = [
     0,
     1,
     8,
     255,
     256,
     257,
-    511,
-    768,
-    769,
+    513,
+    520,
+    767,
+    1_024,
     1_025,
+    1_281,
     65_536,
     66_049,
     1 << 31,
@@ -360,11 +505,11 @@ const NO_FORM: [u32; 14] = [
 
 #[test]
 fn first_words() {
-    for first in 513..=520 {
+    for first in 769..=776 {
         assert_eq!((first, with_first(first)), (first, 0));
     }
     for workers in [0, 9, 10, 16, 17, 129, 255] {
-        assert_eq!((workers, with_first(512 + workers)), (workers, 6));
+        assert_eq!((workers, with_first(768 + workers)), (workers, 6));
     }
     for first in NO_FORM {
         assert_eq!((first, with_first(first)), (first, 17));
@@ -390,7 +535,7 @@ fn no_form() {
 /// The words of a state in which Main waits as returning for its child, in place 1, which worker 0 has.
 fn main_waits() -> Vec<u32> {
     let mut words = smallest();
-    words[9 + 1] = 1;
+    words[10 + 1] = 1;
     words[4] = 2;
     words[RECORDS..RECORDS + 7].copy_from_slice(&[1, NONE, 0, 1, 1, 0, 1]);
     words[RECORDS + 12..RECORDS + 19].copy_from_slice(&[1, 0, 1, 0, 0, 0, 0]);
@@ -408,7 +553,7 @@ fn answer(words: &[u32]) -> u32 {
 fn read_and_saved(words: &[u32]) {
     let after = both(&loading(image_of(words)));
     assert_eq!(after.result[0], 0);
-    assert_eq!(after.state.numbers[1..], words[1..9]);
+    assert_eq!(after.state.numbers[1..], words[1..10]);
     assert_eq!(after.state.frames, words[RECORDS..NODE_WORDS]);
     let save = Call {
         entry: Entry::Save {
@@ -478,7 +623,7 @@ fn totals() {
     let mut ended = smallest();
     ended[3] = 0;
     ended[4] = 0;
-    ended[9] = 0;
+    ended[10] = 0;
     ended[RECORDS..RECORDS + 12].copy_from_slice(&[0, 1, 0, 0, 0, 0, 0, 0, 0, 0, 0, 0]);
     ended[NODE_WORDS..].copy_from_slice(&[0, NONE, 0, 0]);
     read_and_saved(&ended);

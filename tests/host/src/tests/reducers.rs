@@ -22,7 +22,7 @@ fn link(after: &Outcome, place: usize) -> u32 {
 }
 
 fn totals(after: &Outcome) -> [u32; 4] {
-    after.state.numbers[5..].try_into().expect("four words")
+    after.state.numbers[5..9].try_into().expect("four words")
 }
 
 /// What so many digits leave, in this order.
@@ -36,7 +36,7 @@ const IDENTITIES: [u32; 4] = [0, NONE, 1, 0];
 #[test]
 fn a_start() {
     let (call, _) = run(2, &FIVE, 20, &[]);
-    assert_eq!(call.state.numbers, [2, 5, 20, 11, 1, 0, 0, 0, 0]);
+    assert_eq!(call.state.numbers, [2, 5, 20, 11, 1, 0, 0, 0, 0, 64]);
     let main = [1, NONE, 0, 0, 0, 0, 0, 0, NONE, 1, 0, NONE];
     assert_eq!(call.state.frames[..12], main);
     assert_eq!(
@@ -297,7 +297,7 @@ fn order_by_links() {
         handed.state.frames[12 * place + 11] = younger;
     }
     handed.state.deques[..3].copy_from_slice(&[2, 0, 1]);
-    handed.state.deques[65 * 3..65 * 3 + 2].copy_from_slice(&[0, 0]);
+    handed.state.deques[257 * 3..257 * 3 + 2].copy_from_slice(&[0, 0]);
     assert!(sound(&handed));
     // b ends before a, in front of it; a ends within its deque, before Main
     let more = [[RETURN, 1, 0, 0], [RETURN, 0, 0, 0]];

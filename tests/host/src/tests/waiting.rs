@@ -1,10 +1,11 @@
 //! returns that wait for a child, and the chains of ends, through plain.rs and the library.
 
-use super::{answers, both, nodes, run, FIVE};
+use super::{answers, both, nodes, run, run_in, FIVE};
 use crate::call::{Call, Entry, Outcome};
 use crate::image;
 use crate::parts::Parts;
-use crate::plain::{self, State, NONE, READ, RETURN, SPAWN, STEAL, SYNC, WRITE};
+use crate::plain::{self, Head, State, NONE, READ, RETURN, SPAWN, STEAL, SYNC, WRITE};
+use crate::random::Random;
 use crate::sentences;
 use crate::steps;
 
@@ -64,7 +65,7 @@ fn main_waits_and_ends() {
     assert!(sound(&after));
     let record = &after.state.frames[..12];
     assert_eq!(record, [1, NONE, 0, 1, 1, 0, 1, 0, NONE, 1, 0, NONE]);
-    assert_eq!(after.state.deques[65], 0);
+    assert_eq!(after.state.deques[257], 0);
     assert_eq!(nodes(&after)[0][0], 2); // the root is held by both
     let more = [
         [RETURN, 1, 0, 0],
@@ -283,30 +284,39 @@ fn places_and_nodes_freed_child_first() {
     assert_all_free(&after);
 }
 
-/// Main and 63 below it, each but the last returned while its child lives.
-fn line_of_64() -> Entries {
+/// Main and so many below it, each but the last returned while its child lives.
+fn line(below: u32) -> Entries {
     let mut entries = Vec::new();
-    for value in 0..63 {
+    for value in 0..below {
         entries.extend([[SPAWN, 0, 0, 0], [WRITE, 0, value % 5, value]]);
     }
-    for _ in 0..63 {
+    for _ in 0..below {
         entries.extend([[STEAL, 1, 0, 0], [RETURN, 1, 0, 0]]);
     }
     entries
 }
 
+/// In tables of these lengths all frames but the last wait, 255 at most, and one return ends all.
 #[test]
-fn chain_of_63() {
-    let entries = line_of_64();
-    let (_, before) = run(2, &FIVE, 400, &entries);
+fn chains_that_fill_the_table() {
+    for places in [2, 3, 63, 64, 65, 255, 256] {
+        chain_that_fills(places);
+    }
+}
+
+fn chain_that_fills(places: usize) {
+    const NODES: usize = 1_200;
+    let below = places - 1;
+    let (_, before) = run_in(places, 2, &FIVE, NODES, &line(below as u32));
     let (given, _) = before.answers.as_chunks();
     let waits = given.iter().filter(|answer| **answer == [102, 4]);
-    assert_eq!(waits.count(), 63);
+    assert_eq!(waits.count(), below);
     assert!(sound(&before));
     let waiting = before.state.frames.chunks(12).filter(|frame| frame[6] == 1);
-    assert_eq!(waiting.count(), 63);
-    let free = plain::sound(&typed(&before), &before.pool, &mut [0; 400]);
-    assert!(free.is_some_and(|free| free < 400 - 11 - 63));
+    assert_eq!(waiting.count(), below);
+    let free = plain::sound(&typed(&before), &before.pool, &mut [0; NODES]);
+    assert!(free.is_some_and(|free| (free as usize) < NODES - 11 - below));
+    assert_eq!(next_answer(&before), [13, 0]);
     // by a tape, by a step, and by a tape after the image was saved and read
     for entry in [tape(&[[RETURN, 0, 0, 0]]), Entry::Step([RETURN, 0, 0, 0])] {
         let after = both(&next(&before, entry));
@@ -330,7 +340,8 @@ fn next_answer(after: &Outcome) -> [u32; 2] {
 }
 
 pub fn saved_and_read(before: &Outcome) -> Outcome {
-    let target = image::bytes(typed(before).nodes) as usize;
+    let Head { places, nodes, .. } = typed(before).head;
+    let target = image::bytes(image::Size { places, nodes }) as usize;
     let saved = both(&next(
         before,
         Entry::Save {
@@ -339,9 +350,9 @@ pub fn saved_and_read(before: &Outcome) -> Outcome {
     ));
     assert_eq!(saved.result[0], 0);
     let load = Call {
-        state: Parts::of(&State::zero()),
+        state: Parts::garbage(places as usize, &Random::new(5)),
         pool: vec![3; before.pool.len()],
-        work: vec![7; 400],
+        work: vec![7; nodes as usize],
         entry: Entry::Load { image: saved.bytes },
     };
     let read = both(&load);
