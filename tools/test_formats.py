@@ -18,17 +18,18 @@ ARCHIVE = ROOT / "target/staticlib/libsplitter.a"
 TEXT = (ROOT / "docs/FORMATS.md").read_text()
 WRITER, READER = re.findall(r"```python\n(.*?)```", TEXT, re.S)
 WRITE_8 = struct.pack("<BBHI", 6, 0, 0, 8)
-SIZES = [1, 10, 25, 26, 72, 1024, 2048, 16384]
+NODES, PLACES = [1, 10, 24, 25, 72, 1024, 2048, 16384], [1, 64, 256]
 
-# The example's first five records, then a save into the file argv[1]. It prints the nodes after the start, answers, sizes.
+# The example's first five records with a table of 64 places, then a save into the file argv[1]. It prints the nodes after the start, answers, sizes.
 PROGRAM = """
 #include <stdio.h>
 #include "splitter.h"
 static struct splitter_state state;
+static struct splitter_frame table[64];
 static uint32_t pool[80], work[20];
-static const uint32_t values[5] = {10, 20, 30, 40, 50}, sizes[] = {%s};
-static uint8_t image[SPLITTER_IMAGE_BYTES(20)];
-static const struct splitter_lent lent = {&state, pool, 80, work, 20};
+static const uint32_t values[5] = {10, 20, 30, 40, 50}, nodes[] = {%s}, places[] = {%s};
+static uint8_t image[SPLITTER_IMAGE_BYTES(64, 20)];
+static const struct splitter_lent lent = {&state, table, 64, pool, 80, work, 20};
 static void show(uint64_t answer) {
     printf("%%u %%u\\n", splitter_answer_kind(answer), splitter_answer_number(answer));
 }
@@ -46,11 +47,13 @@ int main(int argc, char **argv) {
     show(splitter_write(&lent, 1, 4, 99));
     show(splitter_read(&lent, 0, 4));
     show(splitter_sync(&lent, 1));
-    for (unsigned i = 0; i < sizeof sizes / sizeof sizes[0]; i++) { printf("%%u\\n", (unsigned)splitter_image_bytes(sizes[i])); }
+    for (unsigned k = 0; k < sizeof places / sizeof places[0]; k++) {
+        for (unsigned i = 0; i < sizeof nodes / sizeof nodes[0]; i++) { printf("%%u\\n", (unsigned)splitter_image_bytes(places[k], nodes[i])); }
+    }
     if (splitter_lent_save(&lent, image, sizeof image) != 0) { return 1; }
     return fwrite(image, 1, sizeof image, file) != sizeof image || fclose(file) != 0;
 }
-""" % ", ".join(map(str, SIZES))
+""" % (", ".join(map(str, NODES)), ", ".join(map(str, PLACES)))
 
 
 def table(before):
@@ -147,9 +150,10 @@ class Images(unittest.TestCase):
         self.assertEqual(self.said[20:30], ["7 0", "8 0", "15 0", "20 0", "12 0", "101 1", "103 0", "106 5", "105 50", "104 1"])
 
     def test_sizes(self):
-        rows = [re.search(rf"^\| {name} \|([ 0-9,|]+)\|$", TEXT, re.M)[1].split("|") for name in ("nodes", "bytes")]
-        nodes, sizes = ([number(cell.strip()) for cell in row] for row in rows)
-        self.assertEqual((nodes, [str(size) for size in sizes]), (SIZES, self.said[30:38]))
+        names = ["nodes"] + [f"bytes, {places} place{'s' if places > 1 else ''}" for places in PLACES]
+        rows = [re.search(rf"^\| {name} \|([ 0-9,|]+)\|$", TEXT, re.M)[1].split("|") for name in names]
+        nodes, *sizes = ([number(cell.strip()) for cell in row] for row in rows)
+        self.assertEqual((nodes, [str(size) for row in sizes for size in row]), (NODES, self.said[30:54]))
 
     def test_the_reader_prints_what_is_shown(self):
         shown = TEXT[TEXT.index("saved after its fifth record") :].split("\n\n")[1]
@@ -167,7 +171,7 @@ class Images(unittest.TestCase):
 
     def test_the_reader_refuses_other_forms(self):
         block = self.image.read_bytes()[:512]
-        for first in (2, 256 + 2, 768 + 2):
+        for first in (2, 256 + 2, 512 + 2, 1024 + 2):
             words = [first, *struct.unpack("<126I", block[4:508])]
             said = self.read(struct.pack("<128I", *words, sum(words) % 2**32))
             self.assertEqual((said.returncode, said.stdout), (1, b""))

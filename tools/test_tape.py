@@ -19,6 +19,7 @@ ROOT = HERE.parent
 sys.path.insert(0, str(HERE))
 
 from tapelib import cli, draw, explain, image, machine, script, soundness  # noqa: E402
+from tapelib.soundness import pool_at, records_at  # noqa: E402
 
 SPLITRUN = os.path.abspath(os.environ.get("SPLITRUN", ROOT / "target/bin/splitrun"))
 STDIN = Path(os.environ.get("SPLITRUN_STDIN", ROOT / "crates/splitrun/stdin"))
@@ -194,6 +195,16 @@ class PlainMachine(unittest.TestCase):
     def test_nested_spawns(self):
         spawns = self.lines("start 1 1\nvalues 1\n" + "0 spawn\n" * 64 + "0 return\n0 spawn\n")
         self.assertEqual(spawns[62:], ["101 63", "13 0", "102 0", "101 63", "free 0"])
+        # the limit is the table's length, whatever deques the frames are in
+        for places in (1, 2, 3, 64, 65, 255, 256):
+            plain = machine.Machine(2, [1], 1, places=places)
+            steps = [("spawn", 0, 0)] * (places // 2) + [("steal", 1, 0)] + [("spawn", 1, 0)] * (places - 1 - places // 2)
+            if places < 4:
+                steps = [("spawn", 0, 0)] * (places - 1)
+            for kind, worker, low in steps:
+                self.assertEqual(plain.step(struct.pack("<BBHI", script.KINDS[kind], worker, low, 0)).refusal, 0)
+            self.assertEqual(len(plain.frames), places)
+            self.assertEqual([plain.step(struct.pack("<BBHI", *step)).answer().split()[0] for step in ((1, 0, 0, 0), (2, 0, 0, 0))], ["13", "102"])
 
     def test_note_b_differs_in_one_read(self):
         data = example("note_b")
@@ -961,7 +972,7 @@ class Pictures(unittest.TestCase):
 NONE = 0xFFFFFFFF
 
 
-def start_words(workers, values, nodes):
+def start_words(workers, values, nodes, places=64):
     """Document 01's start, in the order of document 02's image: for 5 splitters T(n) is 5 + 3 + 2 + 1."""
     widths = [len(values)]
     while widths[-1] > 1:
@@ -974,9 +985,9 @@ def start_words(workers, values, nodes):
     used = len(tree)
     tree += [(0, at + 1 if at + 1 < nodes else NONE, 0, 0) for at in range(used, nodes)]
     main, free = (1, NONE, 0, 0, 0, 0, 0, *machine.IDENTITY, NONE), (0,) * 10
-    frames = [main] + [(0, at + 1 if at < 63 else NONE, *free) for at in range(1, 64)]
-    numbers = [workers + 512, len(values), nodes, used if used < nodes else NONE, 1, 0, 0, 0, 0]
-    return numbers + [1] + [0] * (8 * 65 - 1) + [word for record in frames + tree for word in record]
+    frames = [main] + [(0, at + 1 if at + 1 < places else NONE, *free) for at in range(1, places)]
+    numbers = [workers + 768, len(values), nodes, used if used < nodes else NONE, 1 if places > 1 else NONE, 0, 0, 0, 0, places]
+    return numbers + [1] + [0] * (8 * (1 + places) - 1) + [word for record in frames + tree for word in record]
 
 
 def image_bytes(words):
@@ -987,7 +998,7 @@ def image_bytes(words):
 
 
 FIVE = start_words(2, [10, 20, 30, 40, 50], 20)
-DEQUES, RECORDS, POOL = 9, 529, 1297  # the first words of the deques, the frame records, the pool
+DEQUES, RECORDS, POOL = 10, 530, 1298  # the first words of the deques, the frame records, the pool, with 64 places
 
 
 def changed(changes, words=FIVE):
@@ -996,9 +1007,10 @@ def changed(changes, words=FIVE):
 
 
 def older(words, version):
-    """The image of version 0 or 1: 256 times that added to the first word, five numbers, six or seven words to a record."""
-    records = [word for at, word in enumerate(words[RECORDS:POOL]) if at % 12 < 6 + version]
-    return [words[0] - 512 + 256 * version] + words[1:5] + words[DEQUES:RECORDS] + records + words[POOL:]
+    """The image of version 0, 1 or 2: 256 times that added to the first word, five numbers, from 2 on nine, six, seven or twelve words to a
+    record."""
+    records = [word for at, word in enumerate(words[RECORDS:POOL]) if at % 12 < (6, 7, 12)[version]]
+    return [words[0] - 768 + 256 * version] + words[1 : (5, 5, 9)[version]] + words[DEQUES:RECORDS] + records + words[POOL:]
 
 
 def stolen(returning=0):
@@ -1037,21 +1049,23 @@ class Images(unittest.TestCase):
             data[offset] = 3
             self.assertEqual(image.check(data), 3 << 8 * (offset % 4))
         self.assertEqual(image.check(bytes([255]) * 508), 2**32 - 127)
-        self.assertEqual([image.called_for(n) for n in (0, 25, 26, 56, 57, 16384)], [11, 11, 12, 12, 13, 527])
+        self.assertEqual([image.called_for(64, n) for n in (0, 24, 25, 56, 57, 16384)], [11, 11, 12, 12, 13, 527])
+        self.assertEqual([image.called_for(k, 26) for k in (0, 1, 64, 256, 257, NONE)], [1, 2, 12, 42, 42, 676372804])
+        self.assertEqual((image.called_for(1, 1), image.called_for(256, 16384) * 512), (1, 285184))
 
     def test_a_good_image(self):
         text = self.told(
             image_bytes(FIVE),
             True,
             "x: 5632 bytes, 11 blocks\n",
-            "form     version 2: 12 words to a frame record\n",
-            "2 workers, 5 splitters, 20 nodes, first free node 11, first free frame place 1\n",
+            "form     version 3: 12 words to a frame record\n",
+            "2 workers, 5 splitters, 20 nodes, 64 frame places, first free node 11, first free frame place 1\n",
             "worker 0: 0\n         worker 1: idle\n",
             "place 0: Main, depth 0, 0 outstanding, on worker 0, root 0\n",
             "free: 1 to 63\n",
             "11 nodes in use, 9 free\n",
             "all 11 are right\n",
-            "a reading takes it, with 20 nodes of pool and 20 words of work, or more\n",
+            "a reading takes it, with a frame table of just 64 places, and 20 nodes of pool and 20 words of work or more\n",
         )
         self.assertNotIn("refuse", text)
 
@@ -1061,20 +1075,50 @@ class Images(unittest.TestCase):
             for more in (0, 1, 100):
                 words = start_words(8, list(range(n)), nodes + more)
                 self.told(image_bytes(words), True, f"{nodes} nodes in use, {more} free\n")
+        for places in (1, 2, 3, 63, 65, 128, 255, 256):
+            free = {1: "none", 2: "1"}.get(places, f"1 to {places - 1}")
+            words = start_words(8, [1], 7, places)
+            self.told(image_bytes(words), True, f"{places} frame places, ", f"free: {free}\n", f"a frame table of just {places} place")
+        # a table of 256 places with 256 live frames, each the child of the one before, on one deque
+        words = start_words(1, [1], 1, 256)
+        words[4], words[10:267], words[pool_at(256)] = NONE, [256, *range(256)], 256
+        view = [0, 0, 0, *machine.IDENTITY, NONE]
+        chain = [word for at in range(256) for word in [1, at - 1 if at else NONE, at, int(at < 255), *view]]
+        words[records_at(256) : pool_at(256)] = chain
+        self.told(image_bytes(words), True, "place 255: child of 254, depth 255, 0 outstanding, on worker 0, root 0\n", "free: none\n")
+
+    def test_the_recorded_length(self):
+        """17 takes it as it stands, with as many blocks as it calls for; 0 or more than 256 is then 6."""
+        sentence = "not: The recorded length of the frame table is 1 to 256. (it is {})"
+        for places in (0, 257, 300, 5000):
+            words = start_words(2, [10, 20, 30, 40, 50], 20, max(places, 1))
+            if not places:
+                words = words[:18] + words[-80:]
+                words[9] = 0
+            text = self.told(image_bytes(words), False, f"{places} frame places, ", "by 6: state, frame table", sentence.format(places))
+            self.assertNotIn("\ndeques", text)
+            damaged = bytearray(image_bytes(words))
+            damaged[60] ^= 1
+            self.told(bytes(damaged), False, "by 18", "with right checks 6: " + sentence.format(places))
+        for places in (0, 1, 57, 65, 256, 257, 2**30, NONE):
+            self.told(image_bytes(changed({9: places})), False, f"{places} places and 20 nodes call for", "by 17")
+        # as many blocks are called for: the words after the nodes are those of the true ones
+        self.told(image_bytes(changed({9: 63})), False, "by 18", "with right checks 6: not: ")
 
     def test_forms(self):
-        """Each first word from 512 to 767 has a form, and no other; images from before are refused by 17."""
+        """Each first word from 768 to 1023 has a form, and no other; images from before are refused by 17."""
         for workers in (*range(12), 127, 254, 255):
-            self.told(image_bytes(changed({0: 512 + workers})), 1 <= workers <= 8, f"{workers} workers, ", "version 2")
-        for first in (0, 2, 255, 256, 258, 511, 768 + 2, 65536 + 514, NONE):
-            reason = f"the first word is {first}, and only 512 to 767 have a form that is read"
+            self.told(image_bytes(changed({0: 768 + workers})), 1 <= workers <= 8, f"{workers} workers, ", "version 3")
+        for first in (0, 2, 255, 256, 258, 511, 512 + 2, 767, 1024 + 2, 65536 + 770, NONE):
+            reason = f"the first word is {first}, and only 768 to 1023 have a form that is read"
             text = self.told(image_bytes(changed({0: first})), False, "by 17", reason)
             self.assertNotIn("numbers", text)
-        for version, said in ((0, "x: 4096 bytes, 8 blocks"), (1, "x: 4608 bytes, 9 blocks")):
+        for version, said in ((0, "x: 4096 bytes, 8 blocks"), (1, "x: 4608 bytes, 9 blocks"), (2, "x: 5632 bytes, 11 blocks")):
             for words in (FIVE, stolen()):
-                before = f"form     version {version}: from before R-5, no longer read\n"
+                before = f"form     version {version}: from before R-6, no longer read\n"
                 self.told(image_bytes(older(words, version)), False, said, before, "by 17", f"the first word is {2 + 256 * version}, and")
-        self.told(image_bytes(changed({0: 514}, older(FIVE, 1))), False, "by 17", "20 nodes call for 11 blocks, 5632 bytes; the file has 4608")
+        # a version 2 image taken for version 3: its tenth word is worker 0's deque length
+        self.told(image_bytes(changed({0: 770}, older(FIVE, 2))), False, "by 17", "1 places and 20 nodes call for 1 blocks, 512 bytes; the file has 5632")
 
     def test_folds_and_totals(self):
         self.told(image_bytes(stolen()), True, "root 0; folded: sum 30, minimum 5, affine map x to 100 x + 12\n")
@@ -1120,7 +1164,7 @@ class Images(unittest.TestCase):
     def test_a_damaged_block(self):
         data = bytearray(image_bytes(FIVE))
         right = struct.unpack_from("<I", data, 4 * 512 + 508)[0]
-        data[4 * 512 + 96] ^= 8
+        data[4 * 512 + 100] ^= 8
         found = image.Image(bytes(data)).wrong_checks()
         self.assertEqual([(number, stored) for number, stored, _ in found], [(4, right)])
         words = f"block 4 (bytes 2048 to 2559) is damaged: stored {right}, right {found[0][2]}\n"
@@ -1140,13 +1184,13 @@ class Images(unittest.TestCase):
             self.told(data[:length], False, "0 blocks", f"{length} bytes are no whole block", "by 17")
         for length in (512, 513, 5120, 5631, 5633, 6144):
             whole = (data + bytes(600))[:length]
-            self.told(whole, False, "by 17", f"20 nodes call for 11 blocks, 5632 bytes; the file has {length}\n")
+            self.told(whole, False, "by 17", f"64 places and 20 nodes call for 11 blocks, 5632 bytes; the file has {length}\n")
         large = image_bytes(start_words(1, [1], 200))
         self.told(large[:-512], False, "183 of 200 nodes are in the file", "by 17")
 
     def test_a_node_count_that_is_not_true(self):
         for nodes in (26, 43, 16384, 2**30 + 20, NONE):
-            self.told(image_bytes(changed({2: nodes})), False, f"{nodes} nodes call for", "by 17")
+            self.told(image_bytes(changed({2: nodes})), False, f"64 places and {nodes} nodes call for", "by 17")
         for nodes in (0, 1, 10, 11, 12, 19):
             self.told(image_bytes(changed({2: nodes})), False, "by 18", "with right checks 6: not: ")
         others = "not: All other nodes are free and lie once on the free chain. (node 20 is not reached"
@@ -1155,12 +1199,12 @@ class Images(unittest.TestCase):
     def test_each_sentence(self):
         node = lambda number, word: POOL + 4 * number + word  # noqa: E731
         one = {
-            "Workers are 1 to 8.": {0: 512 + 9},
+            "Workers are 1 to 8.": {0: 768 + 9},
             "n is 1 to 256.": {1: 257},
             "The recorded node count is T(n) to 16,384.": {1: 11},
             "Live and suspended are 0 or 1, and": {RECORDS: 2},
             "The seventh word of a record is 1 on a frame": {RECORDS + 6: 1},
-            "For each of 8 workers there are 64 places": {DEQUES: 65},
+            "For each of 8 workers there are as many places": {DEQUES: 65},
             "Either no frame lives and all deques": {RECORDS + 1: 5},
             "Every other live frame has a live parent one shallower.": {RECORDS + 2: 3},
             "Outstanding counts are right.": {RECORDS + 3: 1},
@@ -1177,7 +1221,7 @@ class Images(unittest.TestCase):
             "Free frame places lie once on their chain": {RECORDS + 14: 1},
         }
         for sentence, changes in one.items():
-            self.told(image_bytes(changed(changes)), False, "refuses it by 6: State and pool are not sound\n", f"not: {sentence}")
+            self.told(image_bytes(changed(changes)), False, "refuses it by 6: state, frame table and pool are not sound\n", f"not: {sentence}")
         # Main, its child in place 1 and that one's in place 2 on one deque; place 3 is another child of 1, suspended
         chained = changed({DEQUES: 3, DEQUES + 2: 1, DEQUES + 3: 2, 4: 4, POOL: 4, RECORDS + 3: 1})
         last = [0, 0, 0, *machine.IDENTITY]
@@ -1190,9 +1234,9 @@ class Images(unittest.TestCase):
     def test_no_image_is_too_bad_to_be_told(self):
         chance = random.Random(7)
         for turn in range(300):
-            words = list(chance.choice((FIVE, stolen(), stolen(1), siblings(), older(stolen(), 1))))
+            words = list(chance.choice((FIVE, stolen(), stolen(1), siblings(), older(stolen(), 1), start_words(2, [5], 7, 256))))
             for _ in range(chance.choice((1, 2, 50, 2000))):
-                words[chance.randrange(len(words))] = chance.choice((0, 1, 2, 5, 63, 64, NONE, chance.randrange(2**32)))
+                words[chance.randrange(len(words))] = chance.choice((0, 1, 2, 5, 63, 64, 255, 256, NONE, chance.randrange(2**32)))
             data = bytearray(image_bytes(words))
             if turn % 2:
                 data[chance.randrange(len(data))] ^= 1 << chance.randrange(8)
@@ -1218,7 +1262,7 @@ class Images(unittest.TestCase):
         page = (ROOT / "docs/TAPES.md").read_text()
         data = bytearray(image_bytes(stolen(1)))
         texts = [image.described("evening.image", bytes(data))[0]]
-        data[4 * 512 + 96] ^= 1
+        data[4 * 512 + 100] ^= 1
         texts.append(image.described("evening.image", bytes(data))[0])
         for line in "".join(texts).splitlines():
             self.assertIn(f"    {line}\n", page)

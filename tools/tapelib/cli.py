@@ -189,10 +189,10 @@ def read_image(path):
     """The bytes of the file at path (- is standard input)."""
     data = read_bytes(path, image.LARGEST)
     if not data:
-        raise Trouble(f"{path}: empty; an image has at least {image.called_for(1)} blocks of {image.BLOCK} bytes")
+        raise Trouble(f"{path}: empty; an image has at least a block of {image.BLOCK} bytes")
     if len(data) > image.LARGEST:
-        largest = image.called_for(16384) * image.BLOCK
-        raise Trouble(f"{path}: more than {image.LARGEST} bytes; an image of 16,384 nodes, the most, has {largest}")
+        largest = image.called_for(256, 16384) * image.BLOCK
+        raise Trouble(f"{path}: more than {image.LARGEST} bytes; an image of 256 frame places and 16,384 nodes, the most, has {largest}")
     return data
 
 

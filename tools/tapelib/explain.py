@@ -2,24 +2,25 @@
 from dataclasses import dataclass
 from itertools import zip_longest
 
-from .machine import IDENTITY, name_text, tree_nodes
+from .machine import IDENTITY, LENT_PLACES, name_text, tree_nodes
 from .script import AFFINE, Expect, about, record_line, split_input, split_records
 
-# Document 01's sentences, "Refused, in checking order"; 16 as document 02, R-2, has it; 14 is gone with R-3; 7 and 20 as R-5 has them.
+# Document 01's sentences, "Refused, in checking order"; 16 as document 02, R-2, has it; 14 is gone with R-3; 7 and 20 as R-5 has them,
+# 13 and 6 as R-6 has them.
 REFUSED = {
     1: "At a start, there are 0 or more than 256 initial values.",
     2: "At a start, there are 0 or more than 8 workers.",
     3: "At a start, the pool has fewer than T(n) or more than 16,384 nodes.",
     4: "The tape is not a multiple of 8 bytes, or the answer slice has fewer than two words per record.",
     5: "The work slice has fewer words than the recorded node count.",
-    6: "State and pool are not sound.",
+    6: "State, frame table and pool are not sound.",
     7: "The kind is not 1 to 7, or an unused field is not zero.",
     8: "The worker does not exist.",
     9: "Main has returned.",
     10: "The step is not a steal and the worker is idle.",
     11: "The step is a steal and the thief is not idle.",
     12: "The victim does not exist or has fewer than two frames.",
-    13: "The step is a spawn and 64 frames live.",
+    13: f"The step is a spawn and as many frames live as the frame table has places; splitrun lends {LENT_PLACES}.",
     15: "The step is a read or a write and the splitter is not below n.",
     16: "The step is a write and fewer nodes are free than the shared rest of its path has.",
     20: "The step is a fold and names no reducer.",

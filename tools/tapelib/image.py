@@ -1,19 +1,19 @@
-"""A saved image (document 02, R-1, R-3 and R-5) in words: what it holds, which blocks are damaged, and why a reading would refuse it."""
+"""A saved image (document 02, R-1, R-3, R-5 and R-6) in words: what it holds, which blocks are damaged, and why a reading would refuse it."""
 import struct
 
 from . import soundness
 from .explain import total_words
 from .machine import IDENTITY
-from .soundness import FRAME_WORDS, NONE, STATE_WORDS, link
+from .soundness import FRAME_WORDS, MOST_PLACES, NODE_WORDS, NONE, PLACES, link, pool_at, right_length
 
 BLOCK, DATA = 512, 508
 NODES = 2  # the word of the recorded nodes
-VERSION = 2  # the only one that is read; the first word is the workers and 256 times it
+VERSION = 3  # the only one that is read; the first word is the workers and 256 times it
 LARGEST = 1 << 24  # no file of more bytes is looked at
 REFUSED = {
     17: "the image is not just as many whole blocks as its first block calls for, has no whole block or no readable form",
     18: "a check is wrong or the rest of the last block is not zero",
-    6: "State and pool are not sound",
+    6: "state, frame table and pool are not sound",
 }
 
 
@@ -28,23 +28,24 @@ def blocks(data):
     return [(data[at - BLOCK : at - BLOCK + DATA], struct.unpack_from("<I", data, at - 4)[0]) for at in ends]
 
 
-def called_for(nodes):
-    """The blocks of an image of so many nodes."""
-    return -(-4 * (STATE_WORDS + 4 * nodes) // DATA)
+def called_for(places, nodes):
+    """The blocks of an image of so many frame places and nodes."""
+    return -(-4 * (pool_at(places) + NODE_WORDS * nodes) // DATA)
 
 
 class Image:
-    """The bytes of a file, looked at as an image. The state is there if the form is readable and has all its words."""
+    """The bytes of a file, looked at as an image. The state is there if the form is readable, the table's recorded length right, and
+    its words are all there."""
 
     def __init__(self, data):
         self.data, self.blocks = data, blocks(data)
         payload = b"".join(block for block, _ in self.blocks)
         self.words = list(struct.unpack(f"<{len(payload) // 4}I", payload))
-        self.nodes = self.words[NODES] if self.words else None
+        self.nodes, self.places = (self.words[NODES], self.words[PLACES]) if self.words else (None, None)
         self.version = self.words[0] // 256 if self.words else None
         self.readable = self.version == VERSION
         self.state = None
-        if self.readable and len(self.words) >= STATE_WORDS:
+        if self.readable and right_length(self.places) and len(self.words) >= pool_at(self.places):
             self.state = soundness.State([self.words[0] % 256] + self.words[1:])
 
     def wrong_length(self):
@@ -52,11 +53,11 @@ class Image:
         if not self.blocks:
             return f"{len(self.data)} bytes are no whole block"
         if not self.readable:
-            return f"the first word is {self.words[0]}, and only 512 to 767 have a form that is read"
-        called = called_for(self.nodes)
+            return f"the first word is {self.words[0]}, and only 768 to 1023 have a form that is read"
+        called = called_for(self.places, self.nodes)
         if len(self.data) == called * BLOCK:
             return None
-        return f"{self.nodes} nodes call for {called} blocks, {called * BLOCK} bytes; the file has {len(self.data)}"
+        return f"{self.places} places and {self.nodes} nodes call for {called} blocks, {called * BLOCK} bytes; the file has {len(self.data)}"
 
     def wrong_checks(self):
         """(block number, stored check, right check) of each damaged block."""
@@ -65,7 +66,7 @@ class Image:
 
     def rest(self):
         """The places of words after the recorded nodes that are not zero."""
-        last = STATE_WORDS + 4 * self.nodes
+        last = pool_at(self.places) + NODE_WORDS * self.nodes
         return [at for at in range(last, len(self.words)) if self.words[at]]
 
 
@@ -87,17 +88,17 @@ def labelled(label, lines):
 
 def form_lines(image):
     if image.version < VERSION:
-        return [f"version {image.version}: from before R-5, no longer read"]
+        return [f"version {image.version}: from before R-6, no longer read"]
     if not image.readable:
         return [f"first word {image.words[0]}: of no form that is read"]
     return [f"version {image.version}: {FRAME_WORDS} words to a frame record"]
 
 
 def number_lines(words):
-    workers, n, nodes, free_node, free_place = words[:5]
+    workers, n, nodes, free_node, free_place, *totals, places = words[: PLACES + 1]
     first = f"first free node {link(free_node)}, first free frame place {link(free_place)}"
-    lines = [f"{workers % 256} workers, {n} splitters, {nodes} nodes, {first}"]
-    return lines + ([f"totals: {total_words(words[5:9])}"] if any(words[5:9]) else [])
+    lines = [f"{workers % 256} workers, {n} splitters, {nodes} nodes, {places} frame places, {first}"]
+    return lines + ([f"totals: {total_words(totals)}"] if any(totals) else [])
 
 
 def deque_lines(state):
@@ -154,17 +155,20 @@ def check_lines(image):
 
 def refusals(image):
     """(number, reason) in the order in which a reading checks; the reasons of 18 are the lines of the checks. What a reading lends is not
-    known here: 5, and 6 for a pool that is too short."""
+    known here: 5, and 6 for a table of another length and for a pool that is too short."""
     length = image.wrong_length()
     if length:
         return [(17, length)]
     found = [(18, "")] if image.wrong_checks() or image.rest() else []
+    if not image.state:
+        return found + [(6, f"not: The recorded length of the frame table is 1 to {MOST_PLACES}. (it is {image.places})")]
     return found + [(6, f"not: {sentence} ({fault})") for sentence, fault in soundness.broken(image.state)]
 
 
 def verdict_lines(image, found):
     if not found:
-        return [f"a reading takes it, with {image.nodes} nodes of pool and {image.nodes} words of work, or more"]
+        table = f"a frame table of just {image.places} place{'' if image.places == 1 else 's'}"
+        return [f"a reading takes it, with {table}, and {image.nodes} nodes of pool and {image.nodes} words of work or more"]
     number = found[0][0]
     lines = [f"a reading refuses it by {number}: {REFUSED[number]}"]
     for other, reason in found:

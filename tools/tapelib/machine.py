@@ -1,4 +1,4 @@
-"""The plain machine of documents 01 and 02 (R-2, R-3, R-5), and the lines that splitrun must print.
+"""The plain machine of documents 01 and 02 (R-2, R-3, R-5, R-6), and the lines that splitrun must print.
 
 With note_b=True the machine has the bug of integration note B: a frame that resumes after its last
 child takes that child's values."""
@@ -9,7 +9,7 @@ from itertools import groupby
 
 from .script import AFFINE, NAMES, REDUCERS, is_step, split_input, split_records
 
-MOST_FRAMES = 64
+LENT_PLACES = 64  # of the frame table that splitrun lends, and host/c/replay.c
 # Splitrun's limits (document 01): past one of them it prints `unfit`.
 MOST_SPLITTERS, MOST_NODES, MOST_BYTES = 256, 1024, 16384
 # A view, and the totals: the sum, the minimum, the multiplier and the addend.
@@ -106,10 +106,10 @@ class Frame:
 
 
 class Machine:
-    """The plain machine after an accepted start."""
+    """The plain machine after an accepted start with a frame table of so many places."""
 
-    def __init__(self, workers, values, nodes, note_b=False):
-        self.n, self.nodes, self.note_b = len(values), nodes, note_b
+    def __init__(self, workers, values, nodes, note_b=False, places=LENT_PLACES):
+        self.n, self.nodes, self.note_b, self.places = len(values), nodes, note_b, places
         self.writes, self.totals = 0, None
         self.held = Counter()  # of each distinct triple, how many live frames have it
         main = Frame((), values, [[0] * ((self.n + 2**level - 1) >> level) for level in range(height(self.n) + 1)])
@@ -153,7 +153,7 @@ class Machine:
             return 10
         if kind == "steal":
             return self.steal_refusal(deque, event.low)
-        if kind == "spawn" and len(self.frames) >= MOST_FRAMES:
+        if kind == "spawn" and len(self.frames) >= self.places:
             return 13
         if kind in ("read", "write") and event.low >= self.n:
             return 15
@@ -292,7 +292,7 @@ class Run:
 
 
 def whole_refusal(workers, values, nodes, tail):
-    """Refusals 1 to 4; 5 and 6 cannot come from an input of splitrun."""
+    """Refusals 1 to 4; 21, 5 and 6 cannot come from an input of splitrun."""
     if not 1 <= len(values) <= 256:
         return 1
     if not 1 <= workers <= 8:

@@ -1,13 +1,28 @@
-"""Document 01's "Soundness", sentence by sentence, and document 02's, R-1, R-3 and R-5, over the words of a state and its pool."""
+"""Document 01's "Soundness", sentence by sentence, and document 02's, R-1, R-3, R-5 and R-6, over the words of an image: numbers, deques,
+frame records and the pool's nodes."""
 from collections import Counter
 
 from .machine import height, tree_nodes
 
 NONE = 0xFFFFFFFF
-WORKERS, FRAMES, MOST_NODES = 8, 64, 16384
-NUMBERS, DEQUE_WORDS, FRAME_WORDS, NODE_WORDS = 9, 1 + FRAMES, 12, 4
-RECORDS = NUMBERS + WORKERS * DEQUE_WORDS  # the first word of the frame records
-STATE_WORDS = RECORDS + FRAMES * FRAME_WORDS
+WORKERS, MOST_PLACES, MOST_NODES = 8, 256, 16384
+NUMBERS, FRAME_WORDS, NODE_WORDS = 10, 12, 4
+PLACES = 9  # the word of the frame table's recorded length
+
+
+def records_at(places):
+    """The first word of the frame records, after deques of so many places each."""
+    return NUMBERS + WORKERS * (1 + places)
+
+
+def pool_at(places):
+    """The first word of the nodes, after so many frame records."""
+    return records_at(places) + FRAME_WORDS * places
+
+
+def right_length(places):
+    """Document 02, R-6: what a recorded length of the frame table must be."""
+    return 1 <= places <= MOST_PLACES
 
 
 def pieces(words, size):
@@ -27,17 +42,18 @@ class Frame:
 
 
 class State:
-    """The words of a state and of its pool's nodes, read into records."""
+    """The words of a state with a table of 1 to 256 places and of its pool's nodes, read into records."""
 
     def __init__(self, words):
         self.workers, self.n, self.nodes, self.free_node, self.free_place = words[:5]
-        self.totals = tuple(words[5:NUMBERS])
-        deques = pieces(words[NUMBERS:RECORDS], DEQUE_WORDS)
+        self.totals, self.places = tuple(words[5:PLACES]), words[PLACES]
+        records, pool = records_at(self.places), pool_at(self.places)
+        deques = pieces(words[NUMBERS:records], 1 + self.places)
         self.lengths = [deque[0] for deque in deques]
-        self.deques = [deque[1 : 1 + min(deque[0], FRAMES)] for deque in deques]
-        self.past = [deque[1 + min(deque[0], FRAMES) :] for deque in deques]
-        self.frames = [Frame(record) for record in pieces(words[RECORDS:STATE_WORDS], FRAME_WORDS)]
-        self.pool = pieces(words[STATE_WORDS : STATE_WORDS + NODE_WORDS * self.nodes], NODE_WORDS)
+        self.deques = [deque[1 : 1 + min(deque[0], self.places)] for deque in deques]
+        self.past = [deque[1 + min(deque[0], self.places) :] for deque in deques]
+        self.frames = [Frame(record) for record in pieces(words[records:pool], FRAME_WORDS)]
+        self.pool = pieces(words[pool : pool + NODE_WORDS * self.nodes], NODE_WORDS)
         self.live = {place: frame for place, frame in enumerate(self.frames) if frame.live}
         self.children = {place: [p for p, f in self.live.items() if f.parent == place] for place in self.live}
         self.reached, self.shape = set(), None
@@ -88,7 +104,7 @@ def free_nodes(state):
 
 
 def free_places(state):
-    return chain(state.free_place, lambda at: state.frames[at].parent, FRAMES)
+    return chain(state.free_place, lambda at: state.frames[at].parent, state.places)
 
 
 def first(faults):
@@ -119,7 +135,7 @@ def returning(s):
 
 
 def deque_lengths(s):
-    return first(f"worker {w}: a deque of {length} frames" for w, length in enumerate(s.lengths) if length > FRAMES)
+    return first(f"worker {w}: a deque of {length} frames" for w, length in enumerate(s.lengths) if length > s.places)
 
 
 def one_main(s):
@@ -171,7 +187,7 @@ def past_the_end(s):
 def in_order(s):
     for worker, deque in enumerate(s.deques):
         for above, below in zip(deque, deque[1:]):
-            if below >= FRAMES or s.frames[below].parent != above:
+            if below >= s.places or s.frames[below].parent != above:
                 return f"worker {worker}: frame place {link(below)} below {link(above)} is not its child"
     return None
 
@@ -239,20 +255,21 @@ def places_free(s):
     met, fault = free_places(s)
     if fault:
         return f"the chain of free places: {fault}"
-    for place in sorted(set(range(FRAMES)) - set(s.live) ^ set(met)):
+    for place in sorted(set(range(s.places)) - set(s.live) ^ set(met)):
         return f"frame place {place} is " + ("live and on the chain" if place in s.live else "not live and not on the chain")
     dirty = (p for p in met for f in [s.frames[p]] if any((f.depth, f.outstanding, f.suspended, f.root, f.returning, *f.view, f.younger)))
     return first(f"free frame place {place} has a word that is not zero" for place in dirty)
 
 
-# Document 01's words; document 02's, R-1, for the flags and the places of a deque, R-3 for the returning word, R-5 for totals and links.
+# Document 01's words; document 02's, R-1, for the flags, R-3 for the returning word, R-5 for totals and links, R-6 for the places of a deque.
+# That the recorded length is 1 to 256 is asked before there is a state to look at.
 SENTENCES = (
     ("Workers are 1 to 8.", workers),
     ("n is 1 to 256.", splitters),
     ("The recorded node count is T(n) to 16,384.", node_count),
     ("Live and suspended are 0 or 1, and another word there is unsound.", flags),
     ("The seventh word of a record is 1 on a frame waiting as returning, which is suspended, else 0.", returning),
-    ("For each of 8 workers there are 64 places for its frames.", deque_lengths),
+    ("For each of 8 workers there are as many places for its frames as the table has.", deque_lengths),
     ("Either no frame lives and all deques are empty, or just one live frame has depth 0, with parent none.", one_main),
     ("Every other live frame has a live parent one shallower.", parents),
     ("Outstanding counts are right.", outstanding),
