@@ -8,13 +8,18 @@ pub const WORKERS: usize = 4;
 /// The record workloads' pool has this many times T(n) nodes.
 pub const POOL_VIEWS: usize = 32;
 pub const MAX_NODES: usize = 16_384;
+/// The places of the lent frame table, where nothing else is said; the most there can be.
+pub const PLACES: usize = 64;
+pub const MAX_PLACES: usize = 256;
+/// The table's lengths that records and images are compared at.
+pub const BOTH: [usize; 2] = [PLACES, MAX_PLACES];
 /// The shared writes of a tape, each in a frame of its own.
 pub const SHARED_WRITES: usize = 48;
 /// Steps in calls of their own, and their workers.
 pub const SINGLE_STEPS: usize = 256;
 pub const SINGLE_WORKERS: usize = 2;
 /// The frames of a chain that wait, each for the next one, the last for the frame whose return ends them all.
-pub const WAITING: usize = 63;
+pub const WAITING: usize = PLACES - 1;
 /// Frames that a control record lets live at most.
 pub const MAX_LIVE: usize = 24;
 
@@ -85,13 +90,14 @@ impl Workload {
     }
 }
 
-/// A state for the soundness check: so many frames live, each with so many writes since its spawn. In one line they are Main and its
-/// descendants, on one deque; in more lines Main has so many children, each with as many of the other frames below it, each line on a deque
-/// of its own.
+/// A state for the soundness check: in a table of so many places so many frames live, each with so many writes since its spawn. In one line
+/// they are Main and its descendants, on one deque; in more lines Main has so many children, each with as many of the other frames below it,
+/// each line on a deque of its own.
 #[derive(Clone, Copy, PartialEq, Eq, Debug)]
 pub struct Standing {
     pub n: usize,
     pub nodes: usize,
+    pub places: usize,
     pub frames: usize,
     pub writes: usize,
     pub lines: usize,
@@ -101,6 +107,8 @@ pub struct Case {
     pub workers: usize,
     pub values: Vec<u32>,
     pub nodes: usize,
+    /// The places of the lent frame table.
+    pub places: usize,
     /// Run before the measured tape, on the same state.
     pub prelude: Vec<u8>,
     pub tape: Vec<u8>,
@@ -173,6 +181,7 @@ impl Case {
             workers,
             values: values(n),
             nodes,
+            places: PLACES,
             prelude,
             tape: generator.take(),
         }
@@ -193,6 +202,7 @@ impl Case {
             workers: 1,
             values: values(n),
             nodes: tree_nodes(n) + SHARED_WRITES * path_nodes(n),
+            places: PLACES,
             prelude,
             tape: generator.take(),
         }
@@ -216,6 +226,7 @@ impl Case {
             workers: 2,
             values: values(n),
             nodes: tree_nodes(n) + WAITING * path_nodes(n),
+            places: PLACES,
             prelude,
             tape: generator.take(),
         }
@@ -230,12 +241,19 @@ impl Case {
         self
     }
 
+    /// The same in a table of so many places.
+    pub fn in_table(mut self, places: usize) -> Self {
+        self.places = places;
+        self
+    }
+
     /// The same start, and nothing after it.
     pub fn started(&self) -> Self {
         Case {
             workers: self.workers,
             values: self.values.clone(),
             nodes: self.nodes,
+            places: self.places,
             prelude: Vec::new(),
             tape: Vec::new(),
         }
@@ -265,6 +283,7 @@ impl Case {
             workers,
             values: values(n),
             nodes: standing.nodes,
+            places: standing.places,
             prelude: generator.take(),
             tape: Vec::new(),
         }

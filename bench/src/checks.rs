@@ -1,7 +1,7 @@
 //! What the soundness check costs: the instructions of a call with an empty tape.
 
 use crate::callgrind::count_all;
-use crate::case::{tree_nodes, Standing, MAX_NODES};
+use crate::case::{tree_nodes, Standing, MAX_NODES, PLACES};
 use crate::job::Job;
 use crate::peer::Peer;
 
@@ -17,6 +17,20 @@ pub struct CheckCost {
 impl CheckCost {
     pub fn ratio(&self) -> f64 {
         self.library as f64 / self.plain as f64
+    }
+
+    /// Instructions of library and plain Rust per place that this table has more than another with as many splitters.
+    pub fn per_place_more(&self, other: &CheckCost) -> Option<[f64; 2]> {
+        let (here, there) = (self.standing, other.standing);
+        let places = here.places.checked_sub(there.places)?;
+        let more = |a: u64, b: u64| (a as f64 - b as f64) / places as f64;
+        let same = here.n == there.n && places > 0;
+        same.then(|| {
+            [
+                more(self.library, other.library),
+                more(self.plain, other.plain),
+            ]
+        })
     }
 }
 
@@ -49,6 +63,7 @@ pub fn over_nodes(n: usize) -> Vec<Standing> {
         .map(|nodes| Standing {
             n,
             nodes,
+            places: PLACES,
             frames: 1,
             writes: 0,
             lines: 1,
@@ -77,6 +92,7 @@ fn over_frames(n: usize, writes: usize) -> Vec<Standing> {
         .map(|frames| Standing {
             n,
             nodes,
+            places: PLACES,
             frames,
             writes,
             lines: 1,
@@ -92,4 +108,29 @@ pub fn siblings(n: usize) -> Vec<Standing> {
     all.filter(wide)
         .map(|standing| Standing { lines, ..standing })
         .collect()
+}
+
+/// The table's lengths that the check is counted at.
+pub const TABLES: [usize; 6] = [1, 2, 64, 128, 192, 256];
+
+/// Main alone, in tables of 1 to 256 places.
+pub fn empty_tables(n: usize) -> Vec<Standing> {
+    TABLES.map(|places| in_table(n, places, 1)).to_vec()
+}
+
+/// The same with a frame in every place: a line that shares one tree.
+pub fn full_tables(n: usize) -> Vec<Standing> {
+    TABLES.map(|places| in_table(n, places, places)).to_vec()
+}
+
+/// In a pool of two trees.
+fn in_table(n: usize, places: usize, frames: usize) -> Standing {
+    Standing {
+        n,
+        nodes: 2 * tree_nodes(n),
+        places,
+        frames,
+        writes: 0,
+        lines: 1,
+    }
 }

@@ -1,6 +1,6 @@
 //! Pools of 16,384 nodes that are filled: a line of frames from Main down, each with writes of its own, until the nodes run out.
 
-use crate::case::{tree_nodes, values, Case, MAX_NODES};
+use crate::case::{tree_nodes, values, Case, MAX_NODES, MAX_PLACES, PLACES};
 use crate::generate::Generator;
 use crate::measure::answers;
 use crate::peer::Peer;
@@ -10,7 +10,6 @@ use crate::tape::{record, READ, RETURN, SPAWN, STEAL};
 pub const N: usize = 256;
 /// The second worker is idle.
 const WORKERS: usize = 2;
-const MAX_FRAMES: usize = 64;
 /// Of the pools whose instructions are counted.
 const SEED: u64 = 5;
 pub const WRITTEN: u32 = 106;
@@ -30,9 +29,11 @@ pub enum Filling {
     FullViews,
     /// Each frame writes to every fourth splitter: of the 255 nodes that it takes 191 are inner ones, with two links each.
     FullApart,
+    /// In a table of 256 places, each frame writes to ten splitters.
+    FullDeep,
 }
 
-pub const FILLINGS: [Filling; 7] = [
+pub const FILLINGS: [Filling; 8] = [
     Filling::Untouched,
     Filling::Quarter,
     Filling::Half,
@@ -40,6 +41,7 @@ pub const FILLINGS: [Filling; 7] = [
     Filling::Full,
     Filling::FullViews,
     Filling::FullApart,
+    Filling::FullDeep,
 ];
 
 impl Filling {
@@ -52,6 +54,7 @@ impl Filling {
             Filling::Full => "full",
             Filling::FullViews => "full, all splitters written",
             Filling::FullApart => "full, writes far apart",
+            Filling::FullDeep => "full, 256 places",
         }
     }
 
@@ -65,7 +68,16 @@ impl Filling {
             Filling::Untouched => 0,
             Filling::FullViews => N,
             Filling::FullApart => N / 4,
+            Filling::FullDeep => 10,
             _ => 200,
+        }
+    }
+
+    /// Of the frame table.
+    pub fn places(self) -> usize {
+        match self {
+            Filling::FullDeep => MAX_PLACES,
+            _ => PLACES,
         }
     }
 
@@ -73,6 +85,7 @@ impl Filling {
         match self {
             Filling::FullViews => generator.write_to(0, number),
             Filling::FullApart => generator.write_to(0, 4 * number),
+            Filling::FullDeep => generator.write_to(0, 25 * number),
             _ => generator.write(0),
         }
     }
@@ -90,14 +103,14 @@ impl Filling {
     pub fn is_full(self) -> bool {
         matches!(
             self,
-            Filling::Full | Filling::FullViews | Filling::FullApart
+            Filling::Full | Filling::FullViews | Filling::FullApart | Filling::FullDeep
         )
     }
 
     /// More records than the nodes suffice for.
     fn records(self, seed: u64) -> Vec<[u8; 8]> {
-        let mut generator = Generator::new(seed, 1, N, MAX_FRAMES);
-        let frames = if self.writes() == 0 { 0 } else { MAX_FRAMES };
+        let mut generator = Generator::new(seed, 1, N, self.places());
+        let frames = if self.writes() == 0 { 0 } else { self.places() };
         for frame in 0..frames {
             if frame > 0 {
                 generator.spawn(0);
@@ -110,6 +123,7 @@ impl Filling {
 
 /// A pool that has been filled.
 pub struct Filled {
+    places: usize,
     records: Vec<[u8; 8]>,
     /// The write after them: of a full pool, the one that is refused.
     next: Option<[u8; 8]>,
@@ -124,7 +138,8 @@ impl Filled {
 
     pub fn seeded(filling: Filling, seed: u64) -> Self {
         let mut records = filling.records(seed);
-        let answers = answers(Peer::Plain, &case(&[], &records));
+        let places = filling.places();
+        let answers = answers(Peer::Plain, &case(places, &[], &records));
         let (answers, _) = answers.as_chunks();
         let used = |answer: &[u32; 2]| MAX_NODES - answer[1] as usize;
         let too_many = |answer: &[u32; 2]| {
@@ -135,6 +150,7 @@ impl Filled {
         records.truncate(end);
         let written = answers[..end].iter().rfind(|answer| answer[0] == WRITTEN);
         Filled {
+            places,
             records,
             next,
             used: written.map_or(tree_nodes(N), used),
@@ -148,13 +164,13 @@ impl Filled {
 
     /// An empty tape.
     pub fn case(&self) -> Case {
-        case(&self.records, &[])
+        case(self.places, &self.records, &[])
     }
 
     /// The records that fill it, and the one after them, as a tape.
     pub fn as_tape(&self) -> Case {
         let next: Vec<[u8; 8]> = self.next.into_iter().collect();
-        case(&[], &[&self.records[..], &next].concat())
+        case(self.places, &[], &[&self.records[..], &next].concat())
     }
 
     /// The writes of the last frame: to write there again takes no node.
@@ -164,11 +180,12 @@ impl Filled {
     }
 }
 
-fn case(prelude: &[[u8; 8]], tape: &[[u8; 8]]) -> Case {
+fn case(places: usize, prelude: &[[u8; 8]], tape: &[[u8; 8]]) -> Case {
     Case {
         workers: WORKERS,
         values: values(N),
         nodes: MAX_NODES,
+        places,
         prelude: prelude.concat(),
         tape: tape.concat(),
     }
@@ -234,6 +251,6 @@ impl FullStep {
             _ => Vec::new(),
         };
         assert!(!tape.is_empty(), "{}: no such step", self.name());
-        case(&[filled.records, more].concat(), &tape)
+        case(filled.places, &[filled.records, more].concat(), &tape)
     }
 }

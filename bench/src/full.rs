@@ -1,14 +1,16 @@
 //! The whole benchmark: all peers, all tables, the pictures.
 
-use crate::case::{Standing, LONG_WORKLOADS, WORKLOADS};
+use crate::case::{Standing, LONG_WORKLOADS, PLACES, WORKLOADS};
 use crate::checks::{self, CheckCost};
 use crate::compare;
 use crate::facts;
 use crate::filled::{self, FilledCost, FullStepCost};
 use crate::images::{self, ImageCost};
+use crate::kind;
 use crate::kinds::{self, KindCost};
 use crate::peer::PEERS;
 use crate::pictures;
+use crate::places::{self, PlacesCost, SearchCost};
 use crate::records::{self, Cost};
 use crate::report;
 use crate::stack::{self, Stack};
@@ -36,6 +38,9 @@ pub struct Figures {
     pub written: Vec<CheckCost>,
     /// Frames in several lines, so that Main has several children.
     pub siblings: Vec<CheckCost>,
+    /// Growing table, with one frame and with one in each place.
+    pub empty_tables: Vec<CheckCost>,
+    pub full_tables: Vec<CheckCost>,
     /// The check of filled pools.
     pub filled: Vec<FilledCost>,
     /// The check's time, of those that are timed.
@@ -48,6 +53,9 @@ pub struct Figures {
     pub images: Vec<ImageCost>,
     /// Folds, spawns and returns.
     pub kinds: Vec<KindCost>,
+    /// Records in tables of both lengths, and searches for siblings by places.
+    pub places: Vec<PlacesCost>,
+    pub searches: Vec<SearchCost>,
 }
 
 impl Figures {
@@ -58,6 +66,8 @@ impl Figures {
             &self.sharing,
             &self.written,
             &self.siblings,
+            &self.empty_tables,
+            &self.full_tables,
         ];
         all.into_iter().flatten()
     }
@@ -80,6 +90,8 @@ pub fn run(docs: &Path) -> io::Result<()> {
         &figures.over_nodes,
         &figures.sharing,
         &figures.written,
+        &figures.empty_tables,
+        &figures.full_tables,
         &SIZES,
     );
     fs::write(docs.join("bench_check.svg"), checks.svg())?;
@@ -94,8 +106,11 @@ fn measure() -> Figures {
     let times = timing::time_all(&LONG_WORKLOADS, &SIZES);
     let filled_times = filled::times();
     eprintln!("bench: instructions of records");
-    let costs = records::count(&PEERS, &WORKLOADS, &GROWTH);
-    let kinds = kinds::count();
+    let costs = records::count(&PEERS, &WORKLOADS, &GROWTH, PLACES);
+    let kinds = kinds::count(&kind::all(), PLACES);
+    eprintln!("bench: instructions of records, by the table's places");
+    let places = places::count(&costs, &kinds);
+    let searches = places::count_searches();
     eprintln!("bench: instructions of the check");
     let all_sizes =
         |standings: fn(usize) -> Vec<Standing>| checks::count(&SIZES.map(standings).concat());
@@ -114,11 +129,15 @@ fn measure() -> Figures {
         steps,
         images,
         kinds,
+        places,
+        searches,
         costs,
         times,
         over_nodes: all_sizes(checks::over_nodes),
         sharing: all_sizes(checks::sharing),
         written: all_sizes(checks::written),
         siblings: all_sizes(checks::siblings),
+        empty_tables: all_sizes(checks::empty_tables),
+        full_tables: all_sizes(checks::full_tables),
     }
 }

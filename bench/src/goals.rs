@@ -1,10 +1,13 @@
 //! The goals, met or not by the figures.
 
-use crate::case::Workload;
+use crate::case::{Workload, MAX_PLACES, PLACES};
+use crate::checks::CheckCost;
+use crate::full::Figures;
 use crate::images::ImageCost;
 use crate::kind::{Kind, FOLDS};
 use crate::kinds::{self, KindCost};
 use crate::peer::Peer;
+use crate::places::PlacesCost;
 use crate::records::{self, Cost};
 use crate::stack::Stack;
 use crate::table::grouped;
@@ -29,6 +32,8 @@ const WITHOUT_SIBLINGS: [Kind; 5] = [
     Kind::ReturnIdle,
     Kind::ReturnResumes,
 ];
+/// How much more the check of the longest table may cost than a line through those of 1 and 64 places lets expect.
+const LINEAR_LIMIT: f64 = 1.02;
 /// How many times more the checks of the blocks must have cost before R-4.
 const BEFORE_LIMIT: f64 = 3.0;
 
@@ -39,13 +44,13 @@ struct Goal {
 }
 
 /// Lines of a list in markdown. Of each check, the library's instructions divided by plain Rust's.
-pub fn list(
-    costs: &[Cost],
-    kinds: &[KindCost],
-    checks: &[f64],
-    images: &[ImageCost],
-    stack: Option<&Stack>,
-) -> String {
+pub fn list(figures: &Figures, checks: &[f64]) -> String {
+    let Figures {
+        costs,
+        kinds,
+        images,
+        ..
+    } = figures;
     let mut goals = vec![
         records_goal(
             "mix: no more instructions per further record than plain Rust",
@@ -80,11 +85,13 @@ pub fn list(
         copying_goal(costs),
         folds_goal(kinds),
         more_goal(kinds),
+        places_goal(&figures.places),
         check_goal(checks),
+        linear_goal(&figures.empty_tables, &figures.full_tables),
         images_goal(images),
         blocks_goal(images),
     ];
-    goals.extend(stack.map(stack_goal));
+    goals.extend(figures.stack.as_ref().map(stack_goal));
     let line = |goal: Goal| {
         let met = if goal.met { "met" } else { "not met" };
         format!("- {}: **{met}** ({})\n", goal.what, goal.figures)
@@ -154,6 +161,47 @@ fn more_goal(costs: &[KindCost]) -> Goal {
     }
 }
 
+/// Those that need not look at the whole table.
+fn places_goal(costs: &[PlacesCost]) -> Goal {
+    let without: Vec<&PlacesCost> = costs.iter().filter(|cost| !cost.searches).collect();
+    let dearer: Vec<String> = without
+        .iter()
+        .filter(|cost| cost.more() > 0.0)
+        .map(|cost| format!("{}, n = {}: {:+.1}", cost.name, cost.n, cost.more()))
+        .collect();
+    let figures = match dearer.is_empty() {
+        true => format!("none of the {} measured takes more", without.len()),
+        false => dearer.join("; "),
+    };
+    Goal {
+        what: "records that search for no sibling: no more instructions in a table of 256 places than in one of 64",
+        met: dearer.is_empty(),
+        figures,
+    }
+}
+
+/// By the check in tables of 1, 64 and 256 places.
+fn linear_goal(empty: &[CheckCost], full: &[CheckCost]) -> Goal {
+    let over = |costs: &[CheckCost], n: usize| {
+        let of = |places: usize| {
+            let wanted = |cost: &&CheckCost| (cost.standing.n, cost.standing.places) == (n, places);
+            costs.iter().find(wanted).expect("it was counted").library as f64
+        };
+        let per_place = (of(PLACES) - of(1)) / (PLACES - 1) as f64;
+        of(MAX_PLACES) / (of(1) + per_place * (MAX_PLACES - 1) as f64)
+    };
+    let ratios = SIZES.map(|n| [over(empty, n), over(full, n)]);
+    let shown = |(n, [empty, full]): (usize, [f64; 2])| {
+        format!("n = {n}: {empty:.3} with one frame, {full:.3} with one in each place")
+    };
+    let figures: Vec<String> = SIZES.into_iter().zip(ratios).map(shown).collect();
+    Goal {
+        what: "check: linear in the places of the frame table; with 256 at most 1.02 times what a line through 1 and 64 places lets expect",
+        met: ratios.as_flattened().iter().all(|&ratio| ratio <= LINEAR_LIMIT),
+        figures: figures.join("; "),
+    }
+}
+
 fn check_goal(ratios: &[f64]) -> Goal {
     let within = ratios.iter().filter(|&&ratio| ratio <= CHECK_LIMIT).count();
     let least = ratios.iter().copied().fold(f64::MAX, f64::min);
@@ -176,12 +224,9 @@ fn images_goal(images: &[ImageCost]) -> Goal {
     });
     let figures = ratios.each_ref().map(|(call, ratios)| {
         let figures: Vec<String> = ratios.iter().map(|ratio| format!("{ratio:.3}")).collect();
-        format!("{call} {}", figures.join(" and "))
+        format!("{call} {}", figures.join(", "))
     });
-    let nodes: Vec<String> = images
-        .iter()
-        .map(|image| grouped(image.nodes as u64))
-        .collect();
+    let sizes: Vec<String> = images.iter().map(size).collect();
     Goal {
         what: "saving and reading: no more instructions per block than plain Rust",
         met: ratios
@@ -189,11 +234,16 @@ fn images_goal(images: &[ImageCost]) -> Goal {
             .flat_map(|(_, ratios)| ratios)
             .all(|&ratio| ratio <= 1.0),
         figures: format!(
-            "library / plain, {} nodes: {}",
-            nodes.join(" and "),
-            figures.join(", ")
+            "library / plain, {}: {}",
+            sizes.join(", "),
+            figures.join("; ")
         ),
     }
+}
+
+fn size(image: &ImageCost) -> String {
+    let nodes = grouped(image.nodes as u64);
+    format!("{nodes} nodes and {} places", image.places)
 }
 
 fn blocks_goal(images: &[ImageCost]) -> Goal {
@@ -203,7 +253,7 @@ fn blocks_goal(images: &[ImageCost]) -> Goal {
     };
     let figures: Vec<String> = images
         .iter()
-        .map(|image| format!("{} nodes: {:.1}", grouped(image.nodes as u64), times(image)))
+        .map(|image| format!("{}: {:.1}", size(image), times(image)))
         .collect();
     Goal {
         what: "checks of the blocks: at least three times fewer instructions per block than before R-4",

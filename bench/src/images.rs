@@ -1,11 +1,11 @@
 //! What saving and reading cost: the instructions of the calls, and of a plain copy of the image's bytes.
 
 use crate::callgrind::count_all;
-use crate::case::{Case, Standing, MAX_NODES};
+use crate::case::{Case, Standing, BOTH, MAX_NODES};
 use crate::job::{ImageCall, Job};
 use crate::library;
 use crate::peer::{Images, Peer, Run};
-use host_tests::image::{self, BLOCK_BYTES};
+use host_tests::image::{self, Size, BLOCK_BYTES};
 use host_tests::parts::Parts;
 use host_tests::plain;
 
@@ -70,6 +70,7 @@ impl Before {
 }
 
 pub struct ImageCost {
+    pub places: usize,
     pub nodes: usize,
     /// Those of `IMAGE_PEERS`.
     pub peers: [CallCosts; 3],
@@ -81,7 +82,7 @@ pub struct ImageCost {
 
 impl ImageCost {
     pub fn bytes(&self) -> u64 {
-        image::bytes(self.nodes as u32)
+        bytes(self.places, self.nodes) as u64
     }
 
     pub fn blocks(&self) -> u64 {
@@ -101,18 +102,31 @@ impl ImageCost {
     }
 }
 
-fn standings() -> [Standing; 2] {
-    POOLS.map(|(n, nodes)| Standing {
-        n,
-        nodes,
-        frames: FRAMES,
-        writes: WRITES,
-        lines: 1,
-    })
+/// The bytes of an image.
+fn bytes(places: usize, nodes: usize) -> usize {
+    let (places, nodes) = (places as u32, nodes as u32);
+    image::bytes(Size { places, nodes }) as usize
+}
+
+/// Each pool with tables of both lengths.
+fn standings() -> Vec<(Standing, Before)> {
+    let with_tables = |((n, nodes), before)| {
+        let of = |places| Standing {
+            n,
+            nodes,
+            places,
+            frames: FRAMES,
+            writes: WRITES,
+            lines: 1,
+        };
+        BOTH.map(|places| (of(places), before))
+    };
+    let pools = POOLS.into_iter().zip(BEFORE);
+    pools.flat_map(with_tables).collect()
 }
 
 pub fn count() -> Vec<ImageCost> {
-    let all = standings().into_iter().zip(BEFORE);
+    let all = standings().into_iter();
     all.map(|(standing, before)| count_at(standing, before))
         .collect()
 }
@@ -125,6 +139,7 @@ fn count_at(standing: Standing, before: Before) -> ImageCost {
     let (of_peers, _) = counts.as_chunks();
     let costs = |index: usize| costs(IMAGE_PEERS[index], of_peers[index]);
     ImageCost {
+        places: standing.places,
         nodes: standing.nodes,
         peers: [0, 1, 2].map(costs),
         before,
@@ -160,31 +175,31 @@ fn costs(peer: Peer, [save, load, bare_save, bare_load, checks]: [u64; 5]) -> Ca
 
 /// The image of the state after the case's prelude.
 pub fn saved(peer: Peer, case: &Case) -> Vec<u8> {
-    image_of(peer.begin(case).as_mut(), case.nodes)
+    image_of(peer.begin(case).as_mut(), case)
 }
 
 /// The image of a run that was only started and has then read this image.
 pub fn read_and_saved(peer: Peer, case: &Case, image: &[u8]) -> Vec<u8> {
     let mut run = peer.begin(&case.started());
-    assert_ne!(image_of(run.as_mut(), case.nodes), image, "nothing to read");
+    assert_ne!(image_of(run.as_mut(), case), image, "nothing to read");
     let refusal = images(run.as_mut()).load(image);
     assert_eq!(refusal, 0, "{}: the image is refused", peer.name());
-    image_of(run.as_mut(), case.nodes)
+    image_of(run.as_mut(), case)
 }
 
 /// The same without the soundness check.
 fn bare_read_and_saved(peer: Peer, case: &Case, image: &[u8]) -> Vec<u8> {
     let mut run = peer.begin(&case.started());
     let run = images(run.as_mut());
-    let mut target = vec![FILL; image::bytes(case.nodes as u32) as usize];
+    let mut target = vec![FILL; bytes(case.places, case.nodes)];
     let refusals = [run.bare_load(image), run.bare_save(&mut target)];
     assert_eq!(refusals, [0; 2], "{}: the image is refused", peer.name());
     target
 }
 
 /// A save into bytes that are not zero, with more of them past the image.
-fn image_of(run: &mut dyn Run, nodes: usize) -> Vec<u8> {
-    let bytes = image::bytes(nodes as u32) as usize;
+fn image_of(run: &mut dyn Run, case: &Case) -> Vec<u8> {
+    let bytes = bytes(case.places, case.nodes);
     let mut target = vec![FILL; bytes + BLOCK_BYTES];
     let refusal = images(run).save(&mut target);
     assert_eq!(refusal, 0, "the save is refused");
@@ -212,7 +227,8 @@ pub fn images(run: &mut dyn Run) -> &mut dyn Images {
 /// The image by `tests/host/src/image.rs`, of plain.rs's state.
 fn by_document(case: &Case) -> Vec<u8> {
     let (mut pool, mut work) = (vec![0; 4 * case.nodes], vec![0; case.nodes]);
-    let (mut state, started) = plain::start(case.workers as u32, &case.values, &mut pool);
+    let table = vec![plain::Frame::default(); case.places];
+    let (mut state, started) = plain::start(case.workers as u32, &case.values, table, &mut pool);
     let mut answers = vec![0; case.prelude.len() / 4];
     let ran = plain::tape(
         &mut state,
@@ -221,7 +237,7 @@ fn by_document(case: &Case) -> Vec<u8> {
         &case.prelude,
         &mut answers,
     );
-    let mut target = vec![FILL; image::bytes(case.nodes as u32) as usize];
+    let mut target = vec![FILL; bytes(case.places, case.nodes)];
     let saved = image::save(&Parts::of(&state), &pool, &mut work, &mut target);
     assert_eq!([started, ran, saved], [0; 3], "the document's image");
     target
@@ -229,11 +245,12 @@ fn by_document(case: &Case) -> Vec<u8> {
 
 /// Library and plain Rust save the document's bytes, and save them again after reading them into another run.
 pub fn compare() {
-    for standing in standings() {
+    for (standing, _) in standings() {
+        let Standing { places, nodes, .. } = standing;
         let case = Case::standing(standing);
         let expected = by_document(&case);
-        let what = format!("images, {} nodes", standing.nodes);
-        let bytes = library::image_bytes(standing.nodes);
+        let what = format!("images, {places} places, {nodes} nodes");
+        let bytes = library::image_bytes(places, nodes);
         assert_eq!(
             bytes,
             expected.len() as u64,

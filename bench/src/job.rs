@@ -6,10 +6,10 @@ use crate::kind::Kind;
 
 #[derive(Clone, Copy, PartialEq, Eq, Debug)]
 pub enum Job {
-    /// A workload's tape of records.
-    Records(Workload, usize),
+    /// A workload's tape of records; n and the places of the table.
+    Records(Workload, usize, usize),
     /// The same without the records that are counted.
-    Rest(Workload, usize),
+    Rest(Workload, usize, usize),
     /// An empty tape on a state made for the check.
     Check(Standing),
     /// A workload's records, each in a call of its own; n and the nodes of the pool.
@@ -22,10 +22,10 @@ pub enum Job {
     FullSteps(FullStep),
     /// Such steps as the records of one tape.
     FullTape(FullStep),
-    /// A read and then records of one kind.
-    Kind(Kind),
+    /// A read and then records of one kind, in a table of so many places.
+    Kind(Kind, usize),
     /// The read alone.
-    KindRest(Kind),
+    KindRest(Kind, usize),
 }
 
 /// Single steps in a full pool.
@@ -73,24 +73,26 @@ impl ImageCall {
 impl Job {
     pub fn case(self) -> Case {
         match self {
-            Job::Records(workload, n) => Case::records(workload, n),
-            Job::Rest(workload, n) => Case::records(workload, n).rest(workload),
+            Job::Records(workload, n, places) => Case::records(workload, n).in_table(places),
+            Job::Rest(workload, n, places) => {
+                Job::Records(workload, n, places).case().rest(workload)
+            }
             Job::Check(standing) | Job::Image(_, standing) => Case::standing(standing),
             Job::Steps(workload, n, nodes) => Case::steps(workload, n, nodes),
             Job::Filled(filling) => Filled::new(filling).case(),
             Job::FullSteps(step) => step.case(FULL_CALLS),
             Job::FullTape(step) => step.case(RECORDS),
-            Job::Kind(kind) => kind.case(),
-            Job::KindRest(kind) => kind.rest(),
+            Job::Kind(kind, places) => kind.case().in_table(places),
+            Job::KindRest(kind, places) => kind.rest().in_table(places),
         }
     }
 
     pub fn words(self) -> Vec<String> {
         match self {
-            Job::Records(workload, n) => vec![workload.name().into(), n.to_string()],
-            Job::Rest(workload, n) => {
-                vec![workload.name().into(), n.to_string(), "rest".into()]
+            Job::Records(workload, n, places) => {
+                vec![workload.name().into(), n.to_string(), places.to_string()]
             }
+            Job::Rest(workload, n, places) => with_rest(Job::Records(workload, n, places)),
             Job::Check(standing) => standing_words("check", standing),
             Job::Image(call, standing) => standing_words(call.name(), standing),
             Job::Steps(workload, n, nodes) => {
@@ -104,18 +106,21 @@ impl Job {
             Job::Filled(filling) => vec!["filled".into(), filling.name().into()],
             Job::FullSteps(step) => vec!["full_steps".into(), step.name().into()],
             Job::FullTape(step) => vec!["full_tape".into(), step.name().into()],
-            Job::Kind(kind) => vec!["kind".into(), kind.name().into()],
-            Job::KindRest(kind) => vec!["kind".into(), kind.name().into(), "rest".into()],
+            Job::Kind(kind, places) => {
+                vec!["kind".into(), kind.name().into(), places.to_string()]
+            }
+            Job::KindRest(kind, places) => with_rest(Job::Kind(kind, places)),
         }
     }
 
     pub fn from_words(words: &[&str]) -> Option<Self> {
         let number = |word: &str| word.parse::<usize>().ok();
         match words {
-            [name, n, nodes, frames, writes, lines] => {
+            [name, n, nodes, places, frames, writes, lines] => {
                 let standing = Standing {
                     n: number(n)?,
                     nodes: number(nodes)?,
+                    places: number(places)?,
                     frames: number(frames)?,
                     writes: number(writes)?,
                     lines: number(lines)?,
@@ -133,16 +138,31 @@ impl Job {
             ["filled", filling] => Some(Job::Filled(Filling::named(filling)?)),
             ["full_steps", step] => Some(Job::FullSteps(FullStep::named(step)?)),
             ["full_tape", step] => Some(Job::FullTape(FullStep::named(step)?)),
-            ["kind", kind] => Some(Job::Kind(Kind::named(kind)?)),
-            ["kind", kind, "rest"] => Some(Job::KindRest(Kind::named(kind)?)),
-            [workload, n] => Some(Job::Records(Workload::named(workload)?, number(n)?)),
-            [workload, n, "rest"] => Some(Job::Rest(Workload::named(workload)?, number(n)?)),
+            ["kind", kind, places] => Some(Job::Kind(Kind::named(kind)?, number(places)?)),
+            ["kind", kind, places, "rest"] => {
+                Some(Job::KindRest(Kind::named(kind)?, number(places)?))
+            }
+            [workload, n, places] => Some(Job::Records(
+                Workload::named(workload)?,
+                number(n)?,
+                number(places)?,
+            )),
+            [workload, n, places, "rest"] => Some(Job::Rest(
+                Workload::named(workload)?,
+                number(n)?,
+                number(places)?,
+            )),
             _ => None,
         }
     }
 }
 
+fn with_rest(job: Job) -> Vec<String> {
+    [job.words(), vec!["rest".into()]].concat()
+}
+
 fn standing_words(name: &str, s: Standing) -> Vec<String> {
-    let numbers = [s.n, s.nodes, s.frames, s.writes, s.lines].map(|number| number.to_string());
+    let numbers = [s.n, s.nodes, s.places, s.frames, s.writes, s.lines];
+    let numbers = numbers.map(|number| number.to_string());
     [vec![name.into()], numbers.to_vec()].concat()
 }

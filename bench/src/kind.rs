@@ -1,7 +1,7 @@
 //! Records of one kind that R-5 adds or changes, to be counted by themselves: folds, and spawns and returns, with and without live siblings
 //! elsewhere.
 
-use crate::case::{tree_nodes, values, Case, POOL_VIEWS, RECORDS};
+use crate::case::{tree_nodes, values, Case, PLACES, POOL_VIEWS, RECORDS};
 use crate::generate::Generator;
 use crate::tape::{AFFINE, MIN, SUM};
 
@@ -32,7 +32,19 @@ pub enum Kind {
     ReturnOver,
 }
 
+/// All kinds.
+pub fn all() -> Vec<Kind> {
+    FOLDS.into_iter().chain(CONTROLS).collect()
+}
+
 pub const FOLDS: [Kind; 4] = [Kind::FoldSum, Kind::FoldMin, Kind::FoldAffine, Kind::Fold];
+/// Those that search the table.
+pub const SEARCHES: [Kind; 4] = [
+    Kind::SpawnBeside,
+    Kind::ReturnYoungest,
+    Kind::ReturnEldest,
+    Kind::ReturnOver,
+];
 /// Spawns and returns: those without live siblings elsewhere first.
 pub const CONTROLS: [Kind; 10] = [
     Kind::Spawn,
@@ -109,7 +121,7 @@ impl Kind {
 
     /// A tape of one read and the records that are counted.
     pub fn case(self) -> Case {
-        let mut generator = Generator::new(SEED, WORKERS, N, 64);
+        let mut generator = Generator::new(SEED, WORKERS, N, PLACES);
         let prelude = self.prelude(&mut generator);
         generator.read(self.first_worker());
         self.records(&mut generator);
@@ -117,6 +129,7 @@ impl Kind {
             workers: WORKERS,
             values: values(N),
             nodes: POOL_VIEWS * tree_nodes(N),
+            places: PLACES,
             prelude,
             tape: generator.take(),
         }

@@ -3,7 +3,7 @@
 
 use crate::callgrind::count_all;
 use crate::job::Job;
-use crate::kind::{Kind, CONTROLS, FOLDS};
+use crate::kind::{Kind, CONTROLS};
 use crate::peer::Peer;
 
 /// Instructions of the library before R-5, at `BEFORE_COMMIT`, counted by this bench: those of `CONTROLS`, less those of the read alone. A
@@ -26,8 +26,12 @@ impl KindCost {
         self.peers[0]
     }
 
+    pub fn plain(&self) -> f64 {
+        self.peers[1]
+    }
+
     pub fn ratio(&self) -> f64 {
-        self.peers[0] / self.peers[1]
+        self.library() / self.plain()
     }
 
     /// How many more instructions than before R-5.
@@ -36,24 +40,27 @@ impl KindCost {
     }
 }
 
-pub fn count() -> Vec<KindCost> {
-    let folds = FOLDS.map(|kind| (kind, None));
-    let per_record =
-        |(kind, before): (Kind, u64)| (kind, Some(before as f64 / kind.counted() as f64));
-    let controls = CONTROLS.into_iter().zip(BEFORE).map(per_record);
-    let all: Vec<(Kind, Option<f64>)> = folds.into_iter().chain(controls).collect();
-    let jobs = |&(kind, _): &(Kind, Option<f64>)| {
-        KIND_PEERS.map(|peer| [(peer, Job::Kind(kind)), (peer, Job::KindRest(kind))])
+/// These kinds in a table of so many places.
+pub fn count(kinds: &[Kind], places: usize) -> Vec<KindCost> {
+    let jobs = |&kind: &Kind| {
+        let both = [Job::Kind(kind, places), Job::KindRest(kind, places)];
+        KIND_PEERS.map(|peer| both.map(|job| (peer, job)))
     };
-    let jobs: Vec<(Peer, Job)> = all.iter().flat_map(jobs).flatten().collect();
+    let jobs: Vec<(Peer, Job)> = kinds.iter().flat_map(jobs).flatten().collect();
     let counts = count_all(&jobs);
     let (counts, _) = counts.as_chunks::<2>().0.as_chunks();
-    let cost = |((kind, before), counts): ((Kind, Option<f64>), &[[u64; 2]; 3])| KindCost {
+    let cost = |(&kind, counts): (&Kind, &[[u64; 2]; 3])| KindCost {
         kind,
         peers: counts.map(|[whole, rest]| (whole - rest) as f64 / kind.counted() as f64),
-        before,
+        before: before(kind),
     };
-    all.into_iter().zip(counts).map(cost).collect()
+    kinds.iter().zip(counts).map(cost).collect()
+}
+
+/// Of the library before R-5, per record.
+fn before(kind: Kind) -> Option<f64> {
+    let at = CONTROLS.iter().position(|&control| control == kind)?;
+    Some(BEFORE[at] as f64 / kind.counted() as f64)
 }
 
 /// The cost of one kind among those counted.

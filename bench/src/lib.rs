@@ -20,6 +20,7 @@ mod machine;
 pub mod measure;
 pub mod peer;
 mod pictures;
+mod places;
 mod plain_image;
 mod plot;
 pub mod quick;

@@ -1,4 +1,4 @@
-//! Document 01's plain machine, with of document 02, in Rust: each live frame has its own values, spawn copies them. Refusals 7
+//! Document 01's plain machine, with of document 02, in Rust: each live frame has its own values, spawn copies them. Refusals 7
 //! to 15 and 20; there are no nodes, so 16 never comes and a write answers 0. The live frames are linked in R-5's order, each to the one
 //! before it and the one after it: a spawned child comes just before its parent, and no sibling is searched for.
 
@@ -7,7 +7,6 @@ use crate::values::Values;
 use crate::view::View;
 use std::mem;
 
-const MAX_FRAMES: usize = 64;
 /// The parent of Main, what comes after it and what comes before the first frame.
 const NONE: usize = usize::MAX;
 
@@ -27,7 +26,7 @@ struct Frame<V> {
 
 pub struct Machine<V> {
     splitters: usize,
-    /// A place for each frame that can live.
+    /// A place for each frame that can live: so many as the table has places.
     frames: Vec<Frame<V>>,
     free: Vec<usize>,
     /// Each from the top frame to the bottom one.
@@ -38,17 +37,16 @@ pub struct Machine<V> {
 }
 
 impl<V: Values> Machine<V> {
-    pub fn start(workers: usize, initial: &[u32]) -> Self {
-        let mut frames: Vec<Frame<V>> = (0..MAX_FRAMES).map(|_| no_frame()).collect();
+    pub fn start(workers: usize, initial: &[u32], places: usize) -> Self {
+        let mut frames: Vec<Frame<V>> = (0..places).map(|_| no_frame()).collect();
         frames[0].values = V::of(initial);
-        let mut deques: Vec<Vec<usize>> = (0..workers)
-            .map(|_| Vec::with_capacity(MAX_FRAMES))
-            .collect();
+        let mut deques: Vec<Vec<usize>> =
+            (0..workers).map(|_| Vec::with_capacity(places)).collect();
         deques[0].push(0);
         Machine {
             splitters: initial.len(),
             frames,
-            free: (1..MAX_FRAMES).rev().collect(),
+            free: (1..places).rev().collect(),
             deques,
             main_lives: true,
             totals: None,

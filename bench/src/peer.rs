@@ -100,14 +100,24 @@ impl Peer {
 
     fn start(self, case: &Case) -> Box<dyn Run> {
         match self {
-            Peer::Library => Box::new(Library::start(case.workers, &case.values, case.nodes)),
+            Peer::Library => Box::new(Library::start(
+                case.workers,
+                &case.values,
+                case.places,
+                case.nodes,
+            )),
             Peer::Plain => Box::new(Plain::start(case, Sum::ByWords)),
             Peer::Bytewise => Box::new(Plain::start(case, Sum::ByBytes)),
-            Peer::Copying => Box::new(Machine::<Vec<u32>>::start(case.workers, &case.values)),
+            Peer::Copying => Box::new(Machine::<Vec<u32>>::start(
+                case.workers,
+                &case.values,
+                case.places,
+            )),
             #[cfg(feature = "im")]
             Peer::Im => Box::new(Machine::<im_rc::Vector<u32>>::start(
                 case.workers,
                 &case.values,
+                case.places,
             )),
         }
     }
@@ -152,7 +162,7 @@ impl<V: Values> Run for Machine<V> {
     }
 }
 
-/// The same algorithm in plain Rust, with the memory that it works on.
+/// The same algorithm in plain Rust, with the memory that it works on; the state has the lent table in it.
 struct Plain {
     state: plain::State,
     pool: Vec<u32>,
@@ -164,7 +174,8 @@ struct Plain {
 impl Plain {
     fn start(case: &Case, sum: Sum) -> Self {
         let mut pool = vec![0; 4 * case.nodes];
-        let (state, refusal) = plain::start(case.workers as u32, &case.values, &mut pool);
+        let table = vec![plain::Frame::default(); case.places];
+        let (state, refusal) = plain::start(case.workers as u32, &case.values, table, &mut pool);
         assert_eq!(refusal, 0, "plain: the start is refused");
         Plain {
             state,

@@ -1,4 +1,4 @@
-//! The two pictures: instructions per record against n, and the check against nodes and frames.
+//! The two pictures: instructions per record against n, and the check against nodes, frames and places.
 
 use crate::case::{Workload, WORKLOADS};
 use crate::checks::CheckCost;
@@ -102,6 +102,8 @@ pub fn checks(
     nodes: &[CheckCost],
     sharing: &[CheckCost],
     written: &[CheckCost],
+    empty_tables: &[CheckCost],
+    full_tables: &[CheckCost],
     sizes: &[usize],
 ) -> Picture {
     let instructions = |scale| axis("instructions", scale);
@@ -117,11 +119,19 @@ pub fn checks(
         y: instructions(Scale::Log10),
         series: check_series(costs, sizes, |cost| cost.standing.frames),
     };
+    let against_places = |title: &str, costs: &[CheckCost]| Panel {
+        title: title.into(),
+        x: axis("places of the frame table", Scale::Quarters),
+        y: instructions(Scale::Linear),
+        series: check_series(costs, sizes, |cost| cost.standing.places),
+    };
     let panels = vec![
         against_nodes("one frame, growing pool", Scale::Log2, Scale::Log10),
         against_nodes("the same on plain axes", Scale::Quarters, Scale::Linear),
         against_frames("frames that share one tree", sharing),
         against_frames("frames after writes of their own", written),
+        against_places("one frame, growing table", empty_tables),
+        against_places("a frame in every place of the table", full_tables),
     ];
     Picture {
         title: "Instructions of one soundness check (a call with an empty tape)".into(),

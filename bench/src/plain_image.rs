@@ -1,15 +1,14 @@
-//! R-1's saving and reading, as change them, in fast plain Rust, over the state of plain.rs: words are moved a run at a time,
+//! R-1's saving and reading, as change them, in fast plain Rust, over the state of plain.rs: words are moved a run at a time,
 //! those of a whole block by arrays of fixed length, and a check is summed in one of two ways. `tests/host/src/image.rs` says the same
 //! without a thought of speed; the bench compares the two.
 
-use host_tests::image::{self, DATA_BYTES};
+use host_tests::image::{self, Size, DATA_BYTES};
 use host_tests::plain::{
-    of_record, record, sound, Deque, Frame, Refusal, State, View, DEQUES_WORDS, FRAME_WORDS,
-    MAX_FRAMES, NUMBERS_WORDS, STATE_WORDS,
+    of_record, record, sound, Frame, Head, Refusal, State, View, FRAME_WORDS, NUMBERS_WORDS,
 };
 
 /// Added to the workers in the first word; only this form is read.
-const VERSION: u32 = 2 * 256;
+const VERSION: u32 = 3 * 256;
 /// The image is not just as many whole blocks as its first block calls for, has no whole block, or a first word of another form.
 const NOT_ITS_BLOCKS: u32 = 17;
 /// A check is wrong or the rest of the last block is not zero.
@@ -40,7 +39,7 @@ pub fn save<const CHECKED: bool>(
     if CHECKED && sound(state, pool, work).is_none() {
         return Refusal::Unsound as u32;
     }
-    let Some(image) = target.get_mut(..image::bytes(state.nodes) as usize) else {
+    let Some(image) = target.get_mut(..image::bytes(size(state)) as usize) else {
         return SHORT_TARGET;
     };
     match sum {
@@ -53,7 +52,14 @@ pub fn save<const CHECKED: bool>(
     0
 }
 
-/// 0 with the state and the pool as saved, or 17, 18, 5, 6 and a state of zeros. Without the soundness check as a save.
+fn size(state: &State) -> Size {
+    Size {
+        places: state.places,
+        nodes: state.nodes,
+    }
+}
+
+/// 0 with the state, its table and the pool as saved, or 17, 18, 5, 6 and a state of zeros. Without the soundness check as a save.
 pub fn load<const CHECKED: bool>(
     state: &mut State,
     pool: &mut [u32],
@@ -64,30 +70,10 @@ pub fn load<const CHECKED: bool>(
     match take::<CHECKED>(state, pool, work, image, sum) {
         Ok(()) => 0,
         Err(refusal) => {
-            clear(state);
+            state.head = Head::ZERO;
             refusal
         }
     }
-}
-
-/// The state of zeros, made where it is.
-fn clear(state: &mut State) {
-    let State {
-        workers,
-        splitters,
-        nodes,
-        free,
-        vacant,
-        totals,
-        deques,
-        frames,
-    } = state;
-    for number in [workers, splitters, nodes, free, vacant] {
-        *number = 0;
-    }
-    *totals = View::default();
-    deques.fill(Deque::EMPTY);
-    frames.fill(Frame::default());
 }
 
 fn take<const CHECKED: bool>(
@@ -97,23 +83,24 @@ fn take<const CHECKED: bool>(
     image: &[u8],
     sum: Sum,
 ) -> Result<(), u32> {
-    let nodes = recorded(image)
-        .filter(|&nodes| image::bytes(nodes) == image.len() as u64)
+    let size = recorded(image)
+        .filter(|&size| image::bytes(size) == image.len() as u64)
         .ok_or(NOT_ITS_BLOCKS)?;
     let right = match sum {
         Sum::ByWords => checks_right(image, by_words),
         Sum::ByBytes => checks_right(image, by_bytes),
     };
-    let rest = rest(image, STATE_WORDS + 4 * nodes as usize);
+    let rest = rest(image, image::words(size) as usize);
     if !right || rest.iter().any(|&place| place != [0; 4]) {
         return Err(WRONG_CHECK);
     }
-    if work.len() < nodes as usize {
+    if work.len() < size.nodes as usize {
         return Err(Refusal::ShortWork as u32);
     }
-    read(state, pool, nodes as usize, image);
+    read(state, pool, size, image);
     if CHECKED && sound(state, pool, work).is_none() {
         pool.as_chunks_mut::<4>().0.fill([0; 4]);
+        state.frames.fill(Frame::default());
         return Err(Refusal::Unsound as u32);
     }
     Ok(())
@@ -161,11 +148,12 @@ fn by_bytes(data: &Data) -> u32 {
     image::check(data.as_flattened())
 }
 
-/// The nodes in the third word, if there is a whole block and the first word is of this form.
-fn recorded(image: &[u8]) -> Option<u32> {
-    let [first, _, nodes, ..] = blocks(image).first()?;
-    let version = u32::from_le_bytes(*first) & !0xFF;
-    (version == VERSION).then_some(u32::from_le_bytes(*nodes))
+/// The nodes in the third word and the places in the tenth, if there is a whole block and the first word is of this form.
+fn recorded(image: &[u8]) -> Option<Size> {
+    let block = blocks(image).first()?;
+    let [version, nodes, places] =
+        [0, image::NODES, image::PLACES].map(|word| u32::from_le_bytes(block[word]));
+    (version & !0xFF == VERSION).then_some(Size { places, nodes })
 }
 
 /// The data after so many words, which end in the last block.
@@ -196,7 +184,7 @@ fn store_and_sum(words: &[u32], places: &mut [Place]) -> u32 {
     sum
 }
 
-/// Writes the words of the state and its nodes, and zeros after them.
+/// Writes the words of the state, its table and its nodes, and zeros after them.
 fn write<S: Fn(&[u32], &mut [Place]) -> u32>(
     state: &State,
     pool: &[u32],
@@ -209,20 +197,29 @@ fn write<S: Fn(&[u32], &mut [Place]) -> u32>(
         sum: 0,
         store,
     };
-    writer.put(&state_words(state));
+    writer.put(&numbers(state));
+    for deque in &state.deques {
+        writer.put(&[deque.length]);
+        writer.put(&deque.places[..state.places as usize]);
+    }
+    for frames in state.frames.chunks(FRAMES) {
+        let mut words = [[0; FRAME_WORDS]; FRAMES];
+        for (words, frame) in words.iter_mut().zip(frames) {
+            *words = record(frame);
+        }
+        writer.put(words[..frames.len()].as_flattened());
+    }
     writer.put(&pool[..4 * state.nodes as usize]);
     writer.end();
 }
 
-/// A deque's words: the length and the places.
-const DEQUE_WORDS: usize = 1 + MAX_FRAMES;
+/// Frame records go by so many.
+const FRAMES: usize = 64;
 
-/// The words of the state, in an image's order.
-fn state_words(state: &State) -> [u32; STATE_WORDS] {
-    let mut words = [0; STATE_WORDS];
-    let (numbers, rest) = words.split_at_mut(NUMBERS_WORDS);
+/// The numbers of the state, in an image's order.
+fn numbers(state: &State) -> [u32; NUMBERS_WORDS] {
     let [sum, min, multiplier, addend] = state.totals.words();
-    numbers.copy_from_slice(&[
+    [
         state.workers + VERSION,
         state.splitters,
         state.nodes,
@@ -232,17 +229,8 @@ fn state_words(state: &State) -> [u32; STATE_WORDS] {
         min,
         multiplier,
         addend,
-    ]);
-    let (deques, frames) = rest.split_at_mut(DEQUES_WORDS);
-    let (deques, _) = deques.as_chunks_mut::<DEQUE_WORDS>();
-    for ([length, places @ ..], deque) in deques.iter_mut().zip(&state.deques) {
-        (*length, *places) = (deque.length, deque.places);
-    }
-    let (frames, _) = frames.as_chunks_mut::<FRAME_WORDS>();
-    for (words, frame) in frames.iter_mut().zip(&state.frames) {
-        *words = record(frame);
-    }
-    words
+        state.places,
+    ]
 }
 
 struct Writer<'a, S> {
@@ -299,38 +287,52 @@ impl<S: Fn(&[u32], &mut [Place]) -> u32> Writer<'_, S> {
     }
 }
 
-/// Reads an image of so many nodes. A pool with fewer stays as it is: the count alone makes it unsound.
-fn read(state: &mut State, pool: &mut [u32], nodes: usize, image: &[u8]) {
+/// Reads an image of this size. A table of another length and a pool with fewer nodes stay as they are: the numbers alone make them
+/// unsound.
+fn read(state: &mut State, pool: &mut [u32], size: Size, image: &[u8]) {
     let mut reader = Reader {
         blocks: blocks(image),
         taken: 0,
     };
-    let mut words = [0; STATE_WORDS];
+    let mut words = [0; NUMBERS_WORDS];
     reader.take(&mut words);
-    set_state(state, &words);
-    if let Some(front) = pool.get_mut(..4 * nodes) {
+    set_numbers(state, &words);
+    let places = size.places as usize;
+    if state.frames.len() != places {
+        return;
+    }
+    for deque in &mut state.deques {
+        let Some((front, past)) = deque.places.split_at_mut_checked(places) else {
+            return;
+        };
+        let mut length = [0];
+        reader.take(&mut length);
+        [deque.length] = length;
+        reader.take(front);
+        past.fill(0);
+    }
+    for frames in state.frames.chunks_mut(FRAMES) {
+        let mut words = [[0; FRAME_WORDS]; FRAMES];
+        reader.take(words[..frames.len()].as_flattened_mut());
+        for (frame, words) in frames.iter_mut().zip(&words) {
+            *frame = of_record(words);
+        }
+    }
+    if let Some(front) = pool.get_mut(..4 * size.nodes as usize) {
         reader.take(front);
     }
 }
 
-/// The state of these words.
-fn set_state(state: &mut State, words: &[u32; STATE_WORDS]) {
-    let [workers, splitters, nodes, free, vacant, sum, min, multiplier, addend, rest @ ..] = words;
+/// The state's numbers are these words.
+fn set_numbers(state: &mut State, words: &[u32; NUMBERS_WORDS]) {
+    let [workers, splitters, nodes, free, vacant, totals @ .., places] = *words;
     state.workers = workers - VERSION;
-    state.splitters = *splitters;
-    state.nodes = *nodes;
-    state.free = *free;
-    state.vacant = *vacant;
-    state.totals = View::of_words([*sum, *min, *multiplier, *addend]);
-    let (deques, frames) = rest.split_at(DEQUES_WORDS);
-    let (deques, _) = deques.as_chunks::<DEQUE_WORDS>();
-    for (deque, [length, places @ ..]) in state.deques.iter_mut().zip(deques) {
-        (deque.length, deque.places) = (*length, *places);
-    }
-    let (records, _) = frames.as_chunks::<FRAME_WORDS>();
-    for (frame, words) in state.frames.iter_mut().zip(records) {
-        *frame = of_record(words);
-    }
+    state.splitters = splitters;
+    state.nodes = nodes;
+    state.free = free;
+    state.vacant = vacant;
+    state.totals = View::of_words(totals);
+    state.places = places;
 }
 
 /// Takes the words that these places hold.

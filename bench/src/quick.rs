@@ -1,12 +1,14 @@
 //! The quick tables for tuning: instructions of the library and of plain Rust.
 
-use crate::case::{Standing, MAX_NODES, WORKLOADS};
+use crate::case::{Standing, MAX_NODES, PLACES, WORKLOADS};
 use crate::checks;
 use crate::compare;
 use crate::filled;
 use crate::images;
+use crate::kind;
 use crate::kinds;
 use crate::peer::Peer;
+use crate::places;
 use crate::records::{self, Cost};
 use crate::steps;
 use crate::tables::{self, SIZES};
@@ -15,14 +17,20 @@ const PEERS: [Peer; 2] = [Peer::Library, Peer::Plain];
 
 pub fn run() {
     compare::all(&WORKLOADS, &SIZES);
-    let costs = records::count(&PEERS, &WORKLOADS, &SIZES);
+    let costs = records::count(&PEERS, &WORKLOADS, &SIZES, PLACES);
     println!("Instructions per further record:\n");
     println!(
         "{}",
         tables::instructions(&costs, &WORKLOADS, &PEERS, Cost::marginal).markdown()
     );
     println!("Instructions of folds, spawns and returns:\n");
-    println!("{}", tables::kinds(&kinds::count()).markdown());
+    let kinds = kinds::count(&kind::all(), PLACES);
+    println!("{}", tables::kinds(&kinds).markdown());
+    println!("The same in tables of 64 and of 256 places:\n");
+    let places = places::count(&costs, &kinds);
+    println!("{}", tables::places(&places).markdown());
+    println!("Searches for siblings, by the table's places:\n");
+    println!("{}", tables::searches(&places::count_searches()).markdown());
     println!("Instructions of a call with one step:\n");
     println!("{}", tables::steps(&steps::count()).markdown());
     println!("Instructions of saving and reading, per block of 512 bytes:\n");
@@ -42,25 +50,30 @@ pub fn run() {
 }
 
 fn standings() -> Vec<Standing> {
-    let of = |(n, nodes, frames, writes, lines)| Standing {
+    let of = |(n, nodes, places, frames, writes, lines)| Standing {
         n,
         nodes,
+        places,
         frames,
         writes,
         lines,
     };
     let chosen = [
-        (1, 2, 1, 0, 1),
-        (1, MAX_NODES, 1, 0, 1),
-        (16, 62, 1, 0, 1),
-        (16, 2_048, 64, 0, 1),
-        (16, 2_048, 64, 0, 7),
-        (16, 2_048, 64, 16, 1),
-        (256, 1_022, 1, 0, 1),
-        (256, MAX_NODES, 8, 8, 1),
-        (256, MAX_NODES, 8, 8, 7),
-        (256, MAX_NODES, 64, 0, 1),
-        (256, MAX_NODES, 64, 8, 1),
+        (1, 2, 1, 1, 0, 1),
+        (1, 2, 64, 1, 0, 1),
+        (1, 2, 256, 1, 0, 1),
+        (1, 2, 64, 64, 0, 1),
+        (1, 2, 256, 256, 0, 1),
+        (1, MAX_NODES, 64, 1, 0, 1),
+        (16, 62, 64, 1, 0, 1),
+        (16, 2_048, 64, 64, 0, 1),
+        (16, 2_048, 64, 64, 0, 7),
+        (16, 2_048, 64, 64, 16, 1),
+        (256, 1_022, 64, 1, 0, 1),
+        (256, MAX_NODES, 64, 8, 8, 1),
+        (256, MAX_NODES, 64, 8, 8, 7),
+        (256, MAX_NODES, 64, 64, 0, 1),
+        (256, MAX_NODES, 64, 64, 8, 1),
     ];
     chosen.map(of).to_vec()
 }

@@ -1,4 +1,4 @@
-//! Instructions per record, by workload and n.
+//! Instructions per record, by workload, n and the places of the frame table.
 
 use crate::callgrind::count_all;
 use crate::case::Workload;
@@ -27,7 +27,7 @@ impl Cost {
     }
 }
 
-pub fn count(peers: &[Peer], workloads: &[Workload], sizes: &[usize]) -> Vec<Cost> {
+pub fn count(peers: &[Peer], workloads: &[Workload], sizes: &[usize], places: usize) -> Vec<Cost> {
     let mut asked = Vec::new();
     for &workload in workloads {
         for &n in sizes {
@@ -36,11 +36,11 @@ pub fn count(peers: &[Peer], workloads: &[Workload], sizes: &[usize]) -> Vec<Cos
     }
     let whole: Vec<(Peer, Job)> = asked
         .iter()
-        .map(|&(peer, workload, n)| (peer, Job::Records(workload, n)))
+        .map(|&(peer, workload, n)| (peer, Job::Records(workload, n, places)))
         .collect();
     let rest: Vec<(Peer, Job)> = asked
         .iter()
-        .map(|&(peer, workload, n)| (peer, Job::Rest(workload, n)))
+        .map(|&(peer, workload, n)| (peer, Job::Rest(workload, n, places)))
         .collect();
     let counts = count_all(&[whole, rest].concat());
     let (whole, rest) = counts.split_at(asked.len());
@@ -55,7 +55,7 @@ pub fn count(peers: &[Peer], workloads: &[Workload], sizes: &[usize]) -> Vec<Cos
     asked.into_iter().zip(pairs).map(cost).collect()
 }
 
-/// The cost of one peer among those counted.
+/// The cost of one peer among those counted, all in tables of one length.
 pub fn find(costs: &[Cost], peer: Peer, workload: Workload, n: usize) -> &Cost {
     let wanted = |cost: &&Cost| cost.peer == peer && cost.workload == workload && cost.n == n;
     costs.iter().find(wanted).expect("it was counted")

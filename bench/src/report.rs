@@ -1,8 +1,8 @@
 //! docs/BENCH.md, from the figures alone.
 
 use crate::case::{
-    LONG_WORKLOADS, MAX_LIVE, POOL_VIEWS, SHARED_WRITES, SINGLE_STEPS, SINGLE_WORKERS, WAITING,
-    WORKERS, WORKLOADS,
+    LONG_WORKLOADS, MAX_LIVE, PLACES, POOL_VIEWS, SHARED_WRITES, SINGLE_STEPS, SINGLE_WORKERS,
+    WAITING, WORKERS, WORKLOADS,
 };
 use crate::checks::CheckCost;
 use crate::contents;
@@ -33,11 +33,11 @@ const PEERS_TEXT: &str = "\
 All are fed the same tapes and give the same answer words, which the bench compares before it measures.
 
 - library: `splitter_tape` of libsplitter.a through its C interface, and `splitter_step` for single steps.
-- plain: the same algorithm in plain Rust on `&mut` state (`tests/host/src/plain.rs`), with the same soundness check in each call. A
-  write alters the nodes that one holder has where they are and copies the rest of the path from the first node with more (R-2); a
-  return waits for the frame's children, and the last child's end ends the waiting frames above it in a loop (R-3). An only child's
-  view joins its parent's; where siblings live, the table is searched for the one that names the ended frame, and the next frame is
-  found by going down the eldest children (R-5).
+- plain: the same algorithm in plain Rust on `&mut` state and a slice of frame records (`tests/host/src/plain.rs`), with the same
+  soundness check in each call. A write alters the nodes that one holder has where they are and copies the rest of the path from the
+  first node with more (R-2); a return waits for the frame's children, and the last child's end ends the waiting frames above it in a
+  loop (R-3). An only child's view joins its parent's; where siblings live, the table is searched for the one that names the ended
+  frame, and the next frame is found by going down the eldest children (R-5).
 - copying: a machine in Rust that keeps a `Vec<u32>` of values for each live frame; spawn copies it into the buffer of its frame's
   place, which later frames in this place use again. Its live frames are linked in R-5's order, both ways, so that no sibling is
   searched for.
@@ -57,7 +57,7 @@ const PICTURES: &str = "\
 
 ![instructions per further record against n](bench_records.svg)
 
-![instructions of a check against nodes and frames](bench_check.svg)
+![instructions of a check against nodes, frames and places](bench_check.svg)
 ";
 
 pub fn text(figures: &Figures) -> String {
@@ -67,19 +67,14 @@ pub fn text(figures: &Figures) -> String {
         sizing::text(figures),
         format!(
             "\n## Goals\n\n{}\n",
-            goals::list(
-                &figures.costs,
-                &figures.kinds,
-                &check_ratios(figures),
-                &figures.images,
-                figures.stack.as_ref()
-            )
+            goals::list(figures, &check_ratios(figures))
         ),
         PEERS_TEXT.to_string(),
         how(),
         section("What the tapes hold (n = 16)", "", contents::table(16)),
         records(figures),
         kinds(figures),
+        places(figures),
         rates(figures),
         steps(figures),
         check(figures),
@@ -107,8 +102,8 @@ fn how() -> String {
         "\
 ## How it is measured
 
-A tape has 8,192 records, all accepted, made from a seed. Before it, not measured, comes a fresh start with {WORKERS} workers and
-{POOL_VIEWS} T(n) nodes and a prelude: each worker gets a frame, and each frame makes n / 2 writes (rounded up) to random splitters, so
+A tape has 8,192 records, all accepted, made from a seed. Before it, not measured, comes a fresh start with {WORKERS} workers, {POOL_VIEWS} T(n) nodes
+and a frame table of {PLACES} places, as everywhere where no other length is named, and a prelude: each worker gets a frame, and each frame makes n / 2 writes (rounded up) to random splitters, so
 that their trees share some nodes. Reads and writes take a random busy worker and a random splitter. Mix is 70 in 100 reads, 22 writes,
 8 control. At most {MAX_LIVE} frames live. The tapes of reads, writes, control and mix are those from before R-2; no return in them waits for a
 child (R-3), and they have no folds (R-5). Mix with folds is another tape: 60 in 100 reads, 20 writes, 12 folds, 8 control.
@@ -176,6 +171,25 @@ one has no frame below it, or a line of {BELOW}. Only these search the table.",
     )
 }
 
+fn places(figures: &Figures) -> String {
+    let intro = "\
+R-6: the tapes and the records of one kind from above, once more in a table of 256 places. Control, both mixes and the last four kinds search
+for siblings, some of them to the table's end; the others look at no place but those of their frames.";
+    let searches = "\
+The kinds that search. A spawn looks for the youngest child, the return of a child for the one that names it, which the eldest does not
+have; the next frame is sought by going down the eldest children, with a look at the whole table for each level.
+\"Per place\" is from 64 places to 256.";
+    section(
+        "Records by the table's places",
+        intro,
+        tables::places(&figures.places),
+    ) + &section(
+        "Searches for siblings by the table's places",
+        searches,
+        tables::searches(&figures.searches),
+    )
+}
+
 fn rates(figures: &Figures) -> String {
     let table = |of| tables::rates(&figures.times, of);
     let ratio = "Millions. Ratios above 1: the library is faster. Times vary from run to run; the instructions above hardly do.";
@@ -203,6 +217,9 @@ fn check(figures: &Figures) -> String {
     let intro = "\
 Instructions of a call with an empty tape. The frames are a line of descendants of Main, on one worker; or seven lines, each from a child
 of Main and on a worker of its own. \"Writes each\" are writes to random splitters in every frame after its spawn.";
+    let places = "\
+The frames are a line that shares one tree, the pool has 2 T(n) nodes. \"Per place more\" is against the row before, divided by the places
+that it has fewer.";
     [
         section(
             "The soundness check against nodes",
@@ -224,6 +241,16 @@ of Main and on a worker of its own. \"Writes each\" are writes to random splitte
             "",
             tables::checks(&figures.siblings),
         ),
+        section(
+            "The soundness check against places, one frame",
+            places,
+            tables::check_places(&figures.empty_tables),
+        ),
+        section(
+            "The soundness check against places, a frame in each",
+            "",
+            tables::check_places(&figures.full_tables),
+        ),
     ]
     .concat()
 }
@@ -234,7 +261,7 @@ Instructions of a call with an empty tape; n is 256, the pool has 16,384 nodes. 
 descendants of Main. Each makes its writes after its spawn, to random splitters, until so many nodes are in use, or, in a full pool, until
 a write is refused by 16: then fewer nodes are free than it needs. \"All splitters written\": full views, of which half the nodes are
 leaves. \"Writes far apart\": to every fourth splitter, so that three in four of the nodes that a frame takes are inner ones, which have two
-links to follow. \"Per node\" is per node of the pool.";
+links to follow. \"256 places\": ten writes each, so that more than 200 frames share the pool. \"Per node\" is per node of the pool.";
     let steps = format!(
         "\
 In the pool that is full after random writes. \"Single\" is a call with one step, its check included: the mean over {FULL_CALLS} calls, one after
@@ -256,8 +283,8 @@ and they wait as returning: it is one call, and frees all nodes."
 fn saving(figures: &Figures) -> String {
     let intro = format!(
         "\
-R-1's calls, `splitter_save` and `splitter_load`, with images of R-5's form and R-4's sums. n is 16 with 1,024 nodes and 256 with 16,384;
-one worker, {frames} live frames as for the soundness check, {writes} writes each. Before anything is counted the bench compares: each peer saves
+R-1's calls, `splitter_save` and `splitter_load`, with images of R-6's form and R-4's sums. n is 16 with 1,024 nodes and 256 with 16,384,
+both in tables of 64 and of 256 places; one worker, {frames} live frames as for the soundness check, {writes} writes each. Before anything is counted the bench compares: each peer saves
 the very bytes that `tests/host/src/image.rs` writes and leaves those past them alone; a run that was only started reads the image and
 saves it again.
 
@@ -268,7 +295,7 @@ saves it again.
   pass, after all words are stored.
 - copy: `copy_from_slice` of the image's bytes, and no check of any kind.
 - before: the library before R-4, commit {before}. These figures are constants of the bench (`bench/src/images.rs`), counted once by it, per
-  block of the image as it was then (R-5 makes it longer).
+  block of the image as it was then (R-5 and R-6 make it longer).
 
 Save and reading are accepted and have the soundness check in them. \"Less the check\" is the image alone, with the checks of its blocks.
 Of the library it is the call less its call with an empty tape on the same state, as its soundness check is one function. That of plain

@@ -1,7 +1,7 @@
 //! Random runs with folds, steals and waiting returns, to Main's return: all peers answer alike, and their totals are the values folded in
 //! the order of Main's child-first list.
 
-use crate::case::{tree_nodes, values, Case};
+use crate::case::{tree_nodes, values, Case, MAX_PLACES};
 use crate::generate::Generator;
 use crate::peer::Peer;
 use crate::random::Random;
@@ -10,7 +10,8 @@ use crate::tape::{record, FOLD, REDUCERS};
 const RECORDS: usize = 400;
 /// The records of one call, which checks what the calls before it left.
 const CALL: usize = 10;
-const MAX_FRAMES: usize = 64;
+/// The tables' lengths, besides any other.
+const TABLES: [usize; 6] = [2, 63, 64, 65, 255, 256];
 /// A write's second word is the free nodes, which not every peer has.
 const WRITTEN: u32 = 106;
 
@@ -24,7 +25,9 @@ impl Finished {
     fn seeded(seed: u64) -> Self {
         let mut random = Random::new(seed);
         let (workers, n) = (1 + random.below(8), 1 + random.below(5));
-        let max_live = 2 + random.below(MAX_FRAMES - 1);
+        let any = 2 + random.below(MAX_PLACES - 1);
+        let places = *TABLES.get(random.below(2 * TABLES.len())).unwrap_or(&any);
+        let max_live = 2 + random.below(places - 1);
         let mut generator = Generator::new(seed, workers, n, max_live);
         let mut tape = Vec::new();
         for _ in 0..RECORDS {
@@ -39,7 +42,8 @@ impl Finished {
         let case = Case {
             workers,
             values: values(n),
-            nodes: MAX_FRAMES * tree_nodes(n),
+            nodes: MAX_PLACES * tree_nodes(n),
+            places,
             prelude: Vec::new(),
             tape,
         };

@@ -1,12 +1,13 @@
 //! The tables of the report, from the figures.
 
-use crate::case::{Workload, LONG_WORKLOADS};
+use crate::case::{Workload, BOTH, LONG_WORKLOADS};
 use crate::checks::CheckCost;
 use crate::filled::{self, FilledCost, FullStepCost};
 use crate::filling::Filling;
 use crate::images::{CallCosts, ImageCost};
 use crate::kinds::{KindCost, KIND_PEERS};
 use crate::peer::{Peer, PEERS};
+use crate::places::{per_place, PlacesCost, SearchCost, SEARCH_TABLES};
 use crate::records::{self, Cost};
 use crate::steps::StepCost;
 use crate::table::{grouped, Table};
@@ -87,10 +88,52 @@ pub fn steps(steps: &[StepCost]) -> Table {
     table
 }
 
+/// Records in tables of both lengths: the library's figures, how many more in the longer one, then plain's.
+pub fn places(costs: &[PlacesCost]) -> Table {
+    let of = |peer: &str| BOTH.map(|places| format!("{peer}, {places} places"));
+    let header = [
+        &["records", "n"].map(String::from)[..],
+        &of("library"),
+        &["more".into()],
+        &of("plain"),
+        &[format!("library / plain, {} places", BOTH[1])],
+    ]
+    .concat();
+    let mut table = Table::new(header);
+    let shown = |counts: [f64; 2]| counts.map(|count| format!("{count:.1}"));
+    for cost in costs {
+        let first = [cost.name.to_string(), cost.n.to_string()];
+        let more = format!("{:.1}", cost.more());
+        let ratio = format!("{:.2}", cost.ratio());
+        let (library, plain) = (shown(cost.library), shown(cost.plain));
+        table.row([&first[..], &library, &[more], &plain, &[ratio]].concat());
+    }
+    table
+}
+
+/// Records that search the table: library and plain Rust by its places.
+pub fn searches(costs: &[SearchCost]) -> Table {
+    let of = |peer: &str| {
+        let figures = SEARCH_TABLES.map(|places| format!("{peer}, {places} places"));
+        [&figures[..], &[format!("{peer}, per place")]].concat()
+    };
+    let mut table = Table::new([vec!["records".into()], of("library"), of("plain")].concat());
+    let shown = |counts: [f64; 3]| {
+        let figures = counts.map(|count| format!("{count:.0}"));
+        [&figures[..], &[format!("{:.1}", per_place(counts))]].concat()
+    };
+    for cost in costs {
+        let first = vec![cost.kind.name().to_string()];
+        table.row([first, shown(cost.library), shown(cost.plain)].concat());
+    }
+    table
+}
+
 pub fn checks(checks: &[CheckCost]) -> Table {
     let header = [
         "n",
         "nodes",
+        "places",
         "live frames",
         "lines",
         "writes each",
@@ -101,8 +144,8 @@ pub fn checks(checks: &[CheckCost]) -> Table {
     let mut table = Table::new(header.map(String::from).into());
     for check in checks {
         let s = check.standing;
-        let numbers =
-            [s.n, s.nodes, s.frames, s.lines, s.writes].map(|number| grouped(number as u64));
+        let numbers = [s.n, s.nodes, s.places, s.frames, s.lines, s.writes]
+            .map(|number| grouped(number as u64));
         let costs = vec![
             grouped(check.library),
             grouped(check.plain),
@@ -113,11 +156,46 @@ pub fn checks(checks: &[CheckCost]) -> Table {
     table
 }
 
+/// The check by the table's places: also per place more than in the row before, of the same n.
+pub fn check_places(checks: &[CheckCost]) -> Table {
+    let header = [
+        "n",
+        "nodes",
+        "places",
+        "live frames",
+        "library",
+        "plain",
+        "library / plain",
+        "library, per place more",
+        "plain, per place more",
+    ];
+    let mut table = Table::new(header.map(String::from).into());
+    let mut before: Option<&CheckCost> = None;
+    for check in checks {
+        let s = check.standing;
+        let numbers = [s.n, s.nodes, s.places, s.frames].map(|number| grouped(number as u64));
+        let costs = [
+            grouped(check.library),
+            grouped(check.plain),
+            format!("{:.2}", check.ratio()),
+        ];
+        let more = before.and_then(|before| check.per_place_more(before));
+        let more = match more {
+            Some(more) => more.map(|count| format!("{count:.1}")),
+            None => ["-", "-"].map(String::from),
+        };
+        table.row([&numbers[..], &costs, &more].concat());
+        before = Some(check);
+    }
+    table
+}
+
 /// The check of filled pools, also per node of the pool and against that of the untouched one.
 pub fn filled(costs: &[FilledCost]) -> Table {
     let header = [
         "pool",
         "nodes in use",
+        "places",
         "live frames",
         "writes each",
         "library",
@@ -132,6 +210,7 @@ pub fn filled(costs: &[FilledCost]) -> Table {
         table.row(vec![
             cost.filling.name().to_string(),
             grouped(cost.used as u64),
+            cost.filling.places().to_string(),
             cost.frames.to_string(),
             cost.filling.writes().to_string(),
             grouped(cost.library),
@@ -214,6 +293,7 @@ pub fn block_instructions(images: &[ImageCost]) -> Table {
     let header = [
         "call",
         "nodes",
+        "places",
         "blocks",
         "library",
         "before",
@@ -237,6 +317,7 @@ pub fn block_instructions(images: &[ImageCost]) -> Table {
             let first = [
                 call.to_string(),
                 grouped(image.nodes as u64),
+                image.places.to_string(),
                 grouped(image.blocks()),
             ];
             table.row([&first[..], &figures, &ratios].concat());

@@ -1,6 +1,6 @@
 //! Runs one peer on one case, for callgrind: see `USAGE`; `rest` is the tape without the records that are counted; an image is that of the
 //! state that `check` has; a filling, a step in a full pool and a kind of records go by their names in the tables, each as one word.
-//! By hand: `valgrind --tool=callgrind --dump-instr=yes --toggle-collect=bench_measured one library mix 16`.
+//! By hand: `valgrind --tool=callgrind --dump-instr=yes --toggle-collect=bench_measured one library mix 16 64`.
 
 use bench::job::Job;
 use bench::measure;
@@ -9,13 +9,13 @@ use std::env;
 use std::process::ExitCode;
 
 const USAGE: &str = "\
-one PEER WORKLOAD N [rest]
-one PEER check N NODES FRAMES WRITES LINES
+one PEER WORKLOAD N PLACES [rest]
+one PEER check N NODES PLACES FRAMES WRITES LINES
 one PEER steps WORKLOAD N NODES
 one PEER filled FILLING
 one PEER full_steps|full_tape STEP
-one PEER kind KIND [rest]
-one PEER save|load|bare_save|bare_load|checks|copy N NODES FRAMES WRITES LINES";
+one PEER kind KIND PLACES [rest]
+one PEER save|load|bare_save|bare_load|checks|copy N NODES PLACES FRAMES WRITES LINES";
 
 fn main() -> ExitCode {
     let words: Vec<String> = env::args().skip(1).collect();
