@@ -14,3 +14,5 @@ pub mod Random
 pub mod Records
 -- tapes with folds
 pub mod Folds
+-- work and span
+pub mod Clocks

@@ -6,6 +6,8 @@ pub mod Run
 pub mod Demand3
 -- R-5: what the frames have folded.
 pub mod Views
+-- R-7: work and span.
+pub mod Clocks
 pub mod Record
 -- What is proved about them.
 pub mod Theory

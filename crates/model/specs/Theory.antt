@@ -52,6 +52,25 @@ pub mod JoinViews
 pub mod Siblings
 -- whose view is the next one
 pub mod NextView
+-- ---- R-7: work and span
+-- clocks of frames that end, one after the other
+pub mod SettleClocks
+-- the clocks' names are those of the views
+pub mod ClockNames
+-- which clocks wait
+pub mod AtSync
+-- the clocks after each kind of step
+pub mod ClocksAfter
+-- no span while Main lives
+pub mod NoSpan
+-- what is computed over a frame's steps and its children's
+pub mod TraceFold
+-- a frame's clock at its end
+pub mod Foretold
+-- the span along a run
+pub mod Spans
+-- the theorems
+pub mod WorkAndSpan
 -- ---- invariants of the machine, for those who relate another state to it
 -- the shape of a deque
 pub mod DequeShape

@@ -20,7 +20,7 @@ pub record FoldCase : Type 0 where
   pub expected : List (ℕ × ℕ)
   pub totals : List (ℕ × ℕ)
 
-tape1 : FoldCase
+unfoldable pub tape1 : FoldCase
 tape1 = record {
   workers = 3;
   values = 57 ∷ 71 ∷ 99 ∷ 59 ∷ 57 ∷ [];
@@ -41,7 +41,7 @@ tape1 = record {
       ∷ (1, 54) ∷ (1, 58) ∷ (0, 26) ∷ (1, 168) ∷ (2, 94) ∷ [];
 }
 
-tape2 : FoldCase
+unfoldable pub tape2 : FoldCase
 tape2 = record {
   workers = 4;
   values = 99 ∷ 37 ∷ 10 ∷ [];
@@ -64,7 +64,7 @@ tape2 = record {
       ∷ (0, 104) ∷ (2, 75) ∷ [];
 }
 
-tape3 : FoldCase
+unfoldable pub tape3 : FoldCase
 tape3 = record {
   workers = 2;
   values = 87 ∷ [];
@@ -86,7 +86,7 @@ tape3 = record {
 }
 
 -- many returns that wait, several frames that end at once, and views that pass to a younger sibling's side
-tape4 : FoldCase
+unfoldable pub tape4 : FoldCase
 tape4 = record {
   workers = 5;
   values = 3 ∷ 1 ∷ 4 ∷ [];
@@ -105,7 +105,7 @@ tape4 = record {
       (2, 45) ∷ (0, 15) ∷ (0, 7) ∷ (2, 79) ∷ (2, 47) ∷ (0, 88) ∷ (0, 51) ∷ (2, 18) ∷ [];
 }
 
-tapes : List FoldCase
+unfoldable pub tapes : List FoldCase
 tapes = tape1 ∷ tape2 ∷ tape3 ∷ tape4 ∷ []
 
 tapes-hold : map (λ t. answers (start (t .workers) (t .values) (t .nodes) 64) (t .steps)) tapes ≡ map (λ t. t .expected) tapes

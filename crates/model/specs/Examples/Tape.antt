@@ -11,6 +11,7 @@ use Rattle.model.specs.Machine.{start, freeNodes}
 use Rattle.model.specs.Steps.{refusal, step, answer}
 use Rattle.model.specs.Run.{run, answers, Returned}
 use Rattle.model.specs.Views.{totalsOf}
+use Rattle.model.specs.Clocks.{pairOf}
 use Rattle.model.specs.Demand3.{oneWorkerOf, Demand3}
 use Rattle.model.specs.Theory.Demand3Proof.{demand3}
 
@@ -51,3 +52,8 @@ demanded = demand3 2 values 20 64 tape returned
 none-folded : totalsOf 2 values 20 64 tape ≡ []
 unfolding refusal answer step nodesInUse height width
 none-folded = refl
+
+-- R-7: its work and span
+work-and-span : pairOf 2 values 20 64 tape ≡ (5, 4)
+unfolding refusal answer step nodesInUse height width
+work-and-span = refl

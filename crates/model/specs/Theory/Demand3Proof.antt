@@ -36,10 +36,10 @@ module _ (w : ℕ) (vs : List ℕ) (nodes places : ℕ) (ss : List Step) (return
   over : live (run (start w vs nodes places) ss) ≡ []
   over = returned-ends (start w vs nodes places) ss (tree-start w vs nodes places) returned
 
-  run-of : LiveRun (length vs) nodes places (main vs ∷ []) (traceOf w vs nodes places ss)
+  pub run-of : LiveRun (length vs) nodes places (main vs ∷ []) (traceOf w vs nodes places ss)
   run-of = subst (λ L. LiveRun (length vs) nodes places L (traceOf w vs nodes places ss)) (live-start w vs nodes places) (live-run (length vs) nodes places (start w vs nodes places) ss refl refl refl (tree-start w vs nodes places) (deques-start w vs nodes places) over)
 
-  disjoint : Disjoint (main vs ∷ [])
+  pub disjoint : Disjoint (main vs ∷ [])
   disjoint = ((λ g m r o o′. not-in-nil m), tt)
 
   -- Main's child-first list, entries and all
@@ -59,7 +59,7 @@ module _ (w : ℕ) (vs : List ℕ) (nodes places : ℕ) (ss : List Step) (return
   pub same-trace : traceOf 1 vs nodes places (oneWorkerOf w vs nodes places ss) ≡ list
   same-trace = performs-trace list (start 1 vs nodes places) (solo (length vs) nodes places []) performs
 
-  same-of-name : (p : Name) → entriesOf p list ≡ entriesOf p (traceOf w vs nodes places ss)
+  pub same-of-name : (p : Name) → entriesOf p list ≡ entriesOf p (traceOf w vs nodes places ss)
   same-of-name p =
       ap (entriesOf p) main-list ∙
       elim (owns-or-not [] 0 p) [

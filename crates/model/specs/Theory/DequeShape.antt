@@ -147,6 +147,14 @@ to-those t (g ∷ l) f m e =
       | inr i ↦ elim (decided (t g)) [ inl s ↦ rw s (there (to-those t l f i e)) | inr s ↦ rw s (to-those t l f i e) ]
     ]
 
+pub to-others : (t : Frame → Bool) (l : List Frame) (f : Frame) → In f l → t f ≡ false → In f (others t l)
+to-others t [] f m e = absurd (not-in-nil m)
+to-others t (g ∷ l) f m e =
+    elim (In-cons m) [
+      | inl d ↦ rw (ap t (sym d) ∙ e) (here d)
+      | inr i ↦ elim (decided (t g)) [ inl s ↦ rw s (to-others t l f i e) | inr s ↦ rw s (there (to-others t l f i e)) ]
+    ]
+
 -- at most one frame has a name
 pub shape-those : (L : List Frame) (t : Frame → Bool) (p : Name) (l : List Frame) → ((f : Frame) → t f ≡ true → f .name ≡ p) → Disjoint l → DequeShape L (those t l)
 shape-those L t p [] n c = (tt, tt)

@@ -26,7 +26,7 @@ withChildren-eq : (c c′ : ℕ → List Entry) (s : ℕ) (xs : List Entry) → 
 withChildren-eq c c′ s [] h = refl
 withChildren-eq c c′ s (x ∷ xs) h = follow-eq (x .action) x (h s (le-refl s)) (withChildren-eq c c′ (suc s) xs (λ k l. h k (omega arith))) (withChildren-eq c c′ s xs h)
 
-below-down : (p : Name) (s k : ℕ) (r : Name) → s ≤ k → below p k r → below p s r
+pub below-down : (p : Name) (s k : ℕ) (r : Name) → s ≤ k → below p k r → below p s r
 below-down p s k [] l b = b
 below-down p s k (j ∷ r) l (inl h) = inl (h .0, omega (arith, h .1))
 below-down p s k (j ∷ r) l (inr h) = inr (h .0, below-down p s k r l (h .1))
@@ -48,7 +48,7 @@ withChildren-skip fuel e es p s xs h =
 abbrev ListIs : List Entry → List Frame → Type 0
 ListIs es L = (f : Frame) → In f L → f .returning ≡ false → (fuel : ℕ) → length es ≤ fuel → withChildren (λ k. childFirstList fuel es (k ∷ f .name)) (suc (f .spawned)) (entriesOf (f .name) es) ≡ childFirst es (f .name) (suc (f .spawned))
 
-not-below : (p : Name) (s : ℕ) (r : Name) → below p s r → same p r ≡ false
+pub not-below : (p : Name) (s : ℕ) (r : Name) → below p s r → same p r ≡ false
 not-below p s r b = same-differ (λ (d : p ≡ r). omega (arith, below-longer p s r b, ap length d))
 
 list-is-mine : (q : Frame) (a : Action) (es : List Entry) (fuel : ℕ) → q .returning ≡ false → ListIs es (successors q a) → (a ≡ return → entriesOf (q .name) es ≡ []) → length es ≤ fuel

@@ -33,7 +33,7 @@ main-stays s ended (v ∷ vs) totals o m h =
     last (u ∷ us) z = absurd (z (u .name) (here refl))
 
 -- Main is no frame's child
-main-before : (M : Machine) (t : Turn) (ns : List Name) → In [] (turnNames M t ns) → In [] ns
+pub main-before : (M : Machine) (t : Turn) (ns : List Name) → In [] (turnNames M t ns) → In [] ns
 main-before M (acting w a) ns m = at (deque M w) m
   where
     at : (d : List Frame) → In [] (bottomNames d a ns) → In [] ns

@@ -41,7 +41,7 @@ folds-append [] fs = refl
 folds-append (e ∷ es) fs = ap (λ z. foldedBy (e .action) ++ z) (folds-append es fs) ∙ sym (append-assoc (foldedBy (e .action)) (foldsIn es) (foldsIn fs))
 
 -- how many spawns each name has made, as the live frames have it
-abbrev Counts : (Name → ℕ) → List Frame → Type 0
+abbrev pub Counts : (Name → ℕ) → List Frame → Type 0
 Counts s L = (f : Frame) → In f L → s (f .name) ≡ f .spawned
 
 -- what is left to fold for the frame p and its children to come
@@ -82,7 +82,7 @@ join-keeps s es L ended (v ∷ vs) totals h =
 -- ---- a step of q
 
 -- the counts after it
-abbrev counted : Frame → Action → (Name → ℕ) → Name → ℕ
+abbrev pub counted : Frame → Action → (Name → ℕ) → Name → ℕ
 counted q spawn s r = cond (same r (q .name)) (suc (q .spawned)) (cond (same r ((child q) .name)) 0 (s r))
 counted q return s r = s r
 counted q sync s r = s r
@@ -90,7 +90,7 @@ counted q (read x) s r = s r
 counted q (write x y) s r = s r
 counted q (fold x y) s r = s r
 
-counted-other : (q : Frame) (a : Action) (s : Name → ℕ) (r : Name) → r ≢ q .name → r ≢ (child q) .name → counted q a s r ≡ s r
+pub counted-other : (q : Frame) (a : Action) (s : Name → ℕ) (r : Name) → r ≢ q .name → r ≢ (child q) .name → counted q a s r ≡ s r
 counted-other q spawn s r n c = rw (same-differ n, same-differ c)
 counted-other q return s r n c = refl
 counted-other q sync s r n c = refl
@@ -98,10 +98,10 @@ counted-other q (read x) s r n c = refl
 counted-other q (write x y) s r n c = refl
 counted-other q (fold x y) s r n c = refl
 
-counted-child : (q : Frame) (s : Name → ℕ) → counted q spawn s ((child q) .name) ≡ 0
+pub counted-child : (q : Frame) (s : Name → ℕ) → counted q spawn s ((child q) .name) ≡ 0
 counted-child q s = rw (same-differ {x = (child q) .name} {y = q .name} (λ e. omega (arith, ap length e)), same-refl (suc (q .spawned) ∷ q .name))
 
-counted-own : (q : Frame) (s : Name → ℕ) → counted q spawn s (q .name) ≡ suc (q .spawned)
+pub counted-own : (q : Frame) (s : Name → ℕ) → counted q spawn s (q .name) ≡ suc (q .spawned)
 counted-own q s = rw (same-refl (q .name))
 
 whole-skip : (q : Frame) (a : Action) (s : Name → ℕ) (es : List Entry) (vs : List View) → (In (q .name) (viewNames vs) → ⊥) → (In ((child q) .name) (viewNames vs) → ⊥) → whole s (entry q a ∷ es) vs ≡ whole (counted q a s) es vs
@@ -167,7 +167,7 @@ one-owner (x ∷ L) c f g mf mg r o o′ = elim (In-cons mf) [
   | inr if′ ↦ elim (In-cons mg) [ inl dg ↦ absurd (c .0 f if′ r (subst (λ z. Owns z r) dg o′) o) | inr ig ↦ one-owner L (c .1) f g if′ ig r o o′ ]
 ]
 
-counts-acted : (q : Frame) (a : Action) (R : List Frame) (s : Name → ℕ) → Disjoint (q ∷ R) → Counts s (q ∷ R) → Counts (counted q a s) (successors q a ++ R)
+pub counts-acted : (q : Frame) (a : Action) (R : List Frame) (s : Name → ℕ) → Disjoint (q ∷ R) → Counts s (q ∷ R) → Counts (counted q a s) (successors q a ++ R)
 counts-acted q a R s c k f m = elim (In-cases (successors q a) m) [ inl i ↦ new a i | inr i ↦ counted-other q a s (f .name) (λ e. c .0 f i (q .name) (inl refl) (inl (sym e))) (λ e. c .0 f i (f .name) (inr (subst (λ z. below (q .name) (q .spawned) z) (sym e) (inl (refl, omega arith)))) (inl refl)) ∙ k f (there i) ]
   where
     own : s (q .name) ≡ q .spawned
@@ -184,7 +184,7 @@ counts-acted q a R s c k f m = elim (In-cases (successors q a) m) [ inl i ↦ ne
 
 -- ---- a run
 
-silent : {n nodes places : ℕ} {L₁ L′ : List Frame} {es : List Entry} → Disjoint L₁ → ((f : Frame) → In f L′ → In f L₁) → LiveRun n nodes places L′ es
+pub silent : {n nodes places : ℕ} {L₁ L′ : List Frame} {es : List Entry} → Disjoint L₁ → ((f : Frame) → In f L′ → In f L₁) → LiveRun n nodes places L′ es
     → (p : Name) → (f : Frame) × In f L₁ × (f .name ≡ p) → hasFrame p L′ ≡ false → entriesOf p es ≡ []
 silent {L₁ = L₁} {L′ = L′} c sub g p x h = unowned g p (λ f m l o.
     let e = one-owner L₁ c f (x .0) (sub f m) (x .1) p o (inl (sym (x .2))) in

@@ -157,15 +157,18 @@ acted-at q a [] ws v d e = rw (same-of e)
 acted-at q a (u ∷ us) ws v d e =
     elim (decided (same (u .name) (q .name))) [ inl t ↦ absurd (d (here (sym (same-eq (u .name) (q .name) t)))) | inr t ↦ rw t (ap (λ z. u ∷ z) (acted-at q a us ws v (λ m. d (there m)) e)) ]
 
--- the first view of a name
-pub view-at : (vs : List View) (n : Name) → In n (viewNames vs) → (us : List View) × (v : View) × (ws : List View) × (vs ≡ us ++ (v ∷ ws)) × (v .name ≡ n) × (In n (viewNames us) → ⊥)
-view-at [] n m = absurd (not-in-nil m)
-view-at (v ∷ vs) n m =
-    elim (decided (same (v .name) n)) [
-      | inl t ↦ ([], v, vs, refl, same-eq (v .name) n t, not-in-nil)
-      | inr t ↦ (let r = view-at vs n (elim (In-cons m) [ inl e ↦ absurd (same-ne t (sym e)) | inr i ↦ i ]) in
+-- the first of a name, of any things that have names
+pub first-named : {A : Type 0} (name : A → Name) (vs : List A) (n : Name) → In n (map name vs) → (us : List A) × (v : A) × (ws : List A) × (vs ≡ us ++ (v ∷ ws)) × (name v ≡ n) × (In n (map name us) → ⊥)
+first-named name [] n m = absurd (not-in-nil m)
+first-named name (v ∷ vs) n m =
+    elim (decided (same (name v) n)) [
+      | inl t ↦ ([], v, vs, refl, same-eq (name v) n t, not-in-nil)
+      | inr t ↦ (let r = first-named name vs n (elim (In-cons m) [ inl e ↦ absurd (same-ne t (sym e)) | inr i ↦ i ]) in
           (v ∷ r .0, r .1, r .2, ap (λ z. v ∷ z) (r .3), r .4, λ i. elim (In-cons i) [ inl e ↦ same-ne t (sym e) | inr j ↦ r .5 j ]))
     ]
+
+pub view-at : (vs : List View) (n : Name) → In n (viewNames vs) → (us : List View) × (v : View) × (ws : List View) × (vs ≡ us ++ (v ∷ ws)) × (v .name ≡ n) × (In n (viewNames us) → ⊥)
+view-at = first-named (λ (v : View). v .name)
 
 -- views whose names are two lists, one after the other
 pub views-split : (vs : List View) (xs ys : List Name) → viewNames vs ≡ xs ++ ys → (us : List View) × (ws : List View) × (vs ≡ us ++ ws) × (viewNames us ≡ xs) × (viewNames ws ≡ ys)
