@@ -4,7 +4,7 @@ use Rattle.frames.specs.Steps.{returnedNumber, syncedNumber}
 use Rattle.semantics.specs.declared.Done.{Done}
 use Rattle.semantics.specs.declared.Done.the-variants.{Spawned, Ended, Stolen, Waited, Value, Written, Folded}
 use Rattle.semantics.specs.declared.Refusal.{Refusal}
-use Rattle.semantics.specs.declared.Refusal.the-variants.{Values, Workers, Nodes, Tape, Work, Unsound, Record, NoWorker, MainReturned, WorkerIdle, ThiefBusy, NoVictim, FramesFull, NoSplitter, PoolFull, Blocks, BlockCheck, Target, NoReducer, Places, Lengths}
+use Rattle.semantics.specs.declared.Refusal.the-variants.{Values, Workers, Nodes, Tape, Work, Unsound, Record, NoWorker, MainReturned, WorkerIdle, ThiefBusy, NoVictim, FramesFull, NoSplitter, PoolFull, Blocks, BlockCheck, Target, NoReducer, Places, Span, Lengths}
 use Rattle.semantics.specs.declared.Answer.{Answer}
 use Rattle.semantics.specs.declared.Answer.the-variants.{Accepted, Refused}
 
@@ -34,6 +34,8 @@ refusalNumber Target = 19
 refusalNumber NoReducer = 20
 -- R-6: "21, at a start, the table has 0 or more than 256 places"
 refusalNumber Places = 21
+-- R-7: "22, Main has not returned or the span is 0"
+refusalNumber Span = 22
 -- the entries' own: a lent part of the state has another length
 refusalNumber Lengths = 99
 

@@ -2,9 +2,14 @@ pub mod Answers
 pub mod Core
 pub mod Entries
 pub mod Images
+-- R-7
+pub mod Timing
+pub mod Report
 pub mod Promises
 pub mod Ranges
 pub mod SoundMachine
 pub mod Calls
 pub mod Demands
+-- R-7
+pub mod ReportDemands
 pub mod Theory

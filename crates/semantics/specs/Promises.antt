@@ -9,6 +9,7 @@ use Rattle.frames.specs.declared.Frame.{Frame}
 use Rattle.soundness.specs.Numbers.{numberCount}
 use Rattle.semantics.specs.Entries.{State, StartResult, OutsideResult, TapeResult}
 use Rattle.semantics.specs.Images.{SaveResult, LoadResult}
+use Rattle.semantics.specs.Report.{Lent, ReportResult}
 
 -- the state in three lent parts
 abbrev pub parts : List ℕ → List ℕ → List Frame → State
@@ -52,3 +53,14 @@ pub record IsLoad (o : LoadResult) (ns ds : List ℕ) (fs : List Frame) (ws ks :
   pub state : parts ns ds fs ≡ o .state
   pub pool : ws ≡ o .pool
   pub work : ks ≡ o .work
+
+-- the slices that a report is lent
+abbrev pub lent : List ℕ → List ℕ → List ℕ → List ℕ → Lent
+lent ks rs cs qs = record { work = ks; answers = rs; clocks = cs; report = qs }
+
+-- the parts, the pool ws, the work slice ks, the answer words rs, the clock words cs, the report's words qs and the result r are those of a report's result o
+pub record IsReport (o : ReportResult) (ns ds : List ℕ) (fs : List Frame) (ws ks rs cs qs : List ℕ) (r : ℕ) : Type 0 where
+  pub result : r ≡ o .result
+  pub state : parts ns ds fs ≡ o .state
+  pub pool : ws ≡ o .pool
+  pub lent : lent ks rs cs qs ≡ o .lent

@@ -34,6 +34,8 @@ pub mod ViewedSpawn
 pub mod NextFrame
 pub mod ViewedEnd
 pub mod ViewedTurns
+-- R-7: where the frames stand after each kind
+pub mod SamePlaces
 pub mod SimReturn
 -- what a return answers
 pub mod Returning
@@ -105,3 +107,26 @@ pub mod AllWords
 pub mod Kept
 -- what a sound core gives to code that indexes without a test
 pub mod Ready
+-- ---- R-7: clocks, work and span
+-- the two words of a place; the relation with the clocks beside the plain machine
+pub mod ClockWords
+pub mod Timed
+-- the clocks after each kind of step; each keeps the relation
+pub mod TimedActions
+pub mod TimedSpawn
+-- a return: the frames that end, one after the other, and the rise through the table before it
+pub mod ClocksLeft
+pub mod Rising
+pub mod TimedRise
+pub mod TimedUpward
+pub mod TimedReturn
+-- every step, accepted or refused
+pub mod TimedSteps
+-- along the records of a tape from a start
+pub mod TimedRuns
+-- what a report does, in cases; the demands of ReportDemands
+pub mod ReportCases
+pub mod Reports
+pub mod SameReports
+-- for the engine: the start before a report, bounds, records that move no deque
+pub mod TimedWords

@@ -25,7 +25,7 @@ pub enum Done {
     Folded,
 }
 
-// Document 01's refusals, 1 to 16 without 14, which no longer occurs (R-3), document 02's, 17 to 21, and the entries' own, 99.
+// Document 01's refusals, 1 to 16 without 14, which no longer occurs (R-3), document 02's, 17 to 22, and the entries' own, 99.
 pub enum Refusal {
     Values,
     Workers,
@@ -50,6 +50,8 @@ pub enum Refusal {
     NoReducer,
     // 21: the places of the frame table, at a start
     Places,
+    // 22: Main has not returned, or the span is 0
+    Span,
     // a lent part of the state has not the length that it must have
     Lengths,
 }
@@ -58,4 +60,12 @@ pub enum Refusal {
 pub enum Answer {
     Accepted(Done),
     Refused(Refusal),
+}
+
+// R-7: the ends that a return begins: when the last of them is, where the parent of the frame that ended last is (none: it was Main), and whether that parent
+// passes its sync.
+pub struct Rise {
+    pub place: u32,
+    pub passes: bool,
+    pub clock: u64,
 }

@@ -31,7 +31,7 @@ use Rattle.model.specs.Theory.DequeShape.{DequeInvariant}
 use Rattle.model.specs.Theory.Effects.{Passes, acts, live-with, isEmpty-nil, there-is-worker}
 use Rattle.model.specs.Theory.Histories.{inUse-perm}
 use Rattle.semantics.specs.declared.Refusal.{Refusal}
-use Rattle.semantics.specs.declared.Refusal.the-variants.{Values, Workers, Nodes, Tape, Work, Unsound, Record, NoWorker, MainReturned, WorkerIdle, ThiefBusy, NoVictim, FramesFull, NoSplitter, PoolFull, Blocks, BlockCheck, Target, NoReducer, Places, Lengths}
+use Rattle.semantics.specs.declared.Refusal.the-variants.{Values, Workers, Nodes, Tape, Work, Unsound, Record, NoWorker, MainReturned, WorkerIdle, ThiefBusy, NoVictim, FramesFull, NoSplitter, PoolFull, Blocks, BlockCheck, Target, NoReducer, Places, Span, Lengths}
 use Rattle.semantics.specs.declared.Answer.the-variants.{Refused}
 use Rattle.semantics.specs.Answers.{refusalNumber}
 use Rattle.semantics.specs.Core.{Core, StepResult, actingIn, idle, noWorker, allIdle, judged, actingTests, stepOn, testsOf, doneBy, kindTests}
@@ -83,6 +83,7 @@ number-range BlockCheck = omega arith
 number-range Target = omega arith
 number-range NoReducer = omega arith
 number-range Places = omega arith
+number-range Span = omega arith
 number-range Lengths = omega arith
 
 judged-passes : (ts : List (Bool × Refusal)) (us : List (Bool × ℕ)) (c : Core) (d : StepResult) → Alike ts us → firstTrue 0 us ≡ 0 → judged ts c d ≡ d

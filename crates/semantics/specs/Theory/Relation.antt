@@ -147,3 +147,8 @@ pub record Keeps {P : Trees} {M M′ : Machine} {c c′ : Core} (r : Relates P M
   pub from : (f : Frame) → In f (lives M′) → (g : Frame) × In g (lives M) × (g .name ≡ f .name)
   pub to : (f : Frame) → In f (lives M) → (g : Frame) × In g (lives M′) × (g .name ≡ f .name)
   pub totals : c′ .totals ≡ c .totals
+
+-- R-7: from c to c′ the frames that lived before keep their places, and one that is new stands where the first free place was
+pub record SamePlaces {P P′ : Trees} {M M′ : Machine} {c c′ : Core} (r : Relates P M c) (r′ : Relates P′ M′ c′) : Type 0 where
+  pub kept : (f : Frame) → In f (lives M) → r′ .at (f .name) ≡ r .at (f .name)
+  pub fresh : (f : Frame) → In f (lives M′) → ((g : Frame) → In g (lives M) → g .name ≢ f .name) → r′ .at (f .name) ≡ c .head .numbers .«free_place»

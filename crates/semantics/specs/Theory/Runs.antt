@@ -83,7 +83,7 @@ module _ {M : Machine} {c : Core} (K : Carried M c) where
 
   -- ---- the check
 
-  check-long : (work : List ℕ) → leb (c .head .numbers .nodes) (length work) ≡ true → checkedState (stateOf c) (c .pool) work ≡ Sound (c .head .«free_count»)
+  pub check-long : (work : List ℕ) → leb (c .head .numbers .nodes) (length work) ≡ true → checkedState (stateOf c) (c .pool) work ≡ Sound (c .head .«free_count»)
   unfolding checked
   check-long work e = rw (e, is-sound K .0, is-sound K .1)
 
@@ -111,7 +111,7 @@ module _ {M : Machine} {c : Core} (K : Carried M c) where
   unfolding tapeOn tapeWith
   tape-unfit bytes work as′ t = rw (fits-true (stateOf c) core-fits, t)
 
-  tape-done : (bytes work as′ : List ℕ) → unfitTape bytes as′ ≡ false → leb (c .head .numbers .nodes) (length work) ≡ true
+  pub tape-done : (bytes work as′ : List ℕ) → unfitTape bytes as′ ≡ false → leb (c .head .numbers .nodes) (length work) ≡ true
       → tapeOn (stateOf c) (c .pool) work bytes as′ ≡ tapeDone (runOn (recordsResult c as′) 0 (recordsOf bytes)) (cleared (c .head .numbers .nodes) work)
   tape-done bytes work as′ t e =
       tape-is bytes work as′ t (check-long work e) ∙ ap (λ (q : Core). tapeDone (runOn (recordsResult q as′) 0 (recordsOf bytes)) (cleared (c .head .numbers .nodes) work)) core-back

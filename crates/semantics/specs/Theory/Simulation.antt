@@ -21,7 +21,8 @@ use Rattle.model.specs.Theory.Bounds.{Bounded}
 use Rattle.semantics.specs.declared.Refusal.{Refusal}
 use Rattle.semantics.specs.Answers.{answerWords}
 use Rattle.semantics.specs.Core.{Core, StepResult, judged, spawnOn, stealOn, syncOn, readOn, writeOn, stepOn, doneBy, testsOf, foldOn}
-use Rattle.semantics.specs.Theory.Relation.{Trees, TreeLaws, Relates, Links, Keeps}
+use Rattle.semantics.specs.Theory.Relation.{Trees, TreeLaws, Relates, Links, Keeps, SamePlaces}
+use Rattle.semantics.specs.Theory.SamePlaces.{keeps-places, spawns-places, turns-places, folds-places}
 use Rattle.semantics.specs.Theory.SimSpawn.{sim-spawn}
 use Rattle.semantics.specs.Theory.SimReturn.{sim-return}
 use Rattle.semantics.specs.Theory.SimRead.{sim-read}
@@ -74,10 +75,11 @@ pub record SameAnswers (M : Machine) (c : Core) (st : Step) : Type 0 where
   pub unless-written : (answerWords (stepOn c st .answer) ≡ answer M st)
       ⊎ ((w : ℕ) × (x : ℕ) × (v : ℕ) × (st ≡ Write w x v) × (refusal M st ≡ 0) × (answerWords (stepOn c st .answer) ≡ (106, stepOn c st .core .head .«free_count»)))
 
--- R-5: from r to r′ the links and the views beside the machine are carried on; W′ are the views after the step, of W before it
+-- R-5: from r to r′ the links and the views beside the machine are carried on; W′ are the views after the step, of W before it. R-7: the frames keep their places
 pub record CarriesOn {P : Trees} {M M′ : Machine} {c c′ : Core} (r : Relates P M c) (r′ : Relates P M′ c′) (W′ : Views → Views) : Type 0 where
   pub links : Links (c .frames) (r .at) (live M) → Links (c′ .frames) (r′ .at) (live M′)
   pub viewed : (W : Views) → Viewed r W → Viewed r′ (W′ W)
+  pub places : SamePlaces r r′
 
 pub record Simulates {P : Trees} {M : Machine} {c : Core} (r : Relates P M c) (st : Step) : Type 0 where
   pub related : Relates P (step M st) (stepOn c st .core)
@@ -93,7 +95,7 @@ same-answers M c st e = record { first = ap (λ (z : ℕ × ℕ). z .0) e; both 
 
 -- where no frame begins, ends or folds, the views are as they were
 carries-same : {P : Trees} {M M′ : Machine} {c c′ : Core} (r : Relates P M c) (r′ : Relates P M′ c′) (W′ : Views → Views) → Keeps r r′ → ((W : Views) → Viewed r W → W′ W ≡ W) → CarriesOn r r′ W′
-carries-same r r′ W′ K e = record { links = keeps-links K; viewed = λ W H. subst (Viewed r′) (sym (e W H)) (viewed-keeps K W H) }
+carries-same r r′ W′ K e = record { links = keeps-links K; viewed = λ W H. subst (Viewed r′) (sym (e W H)) (viewed-keeps K W H); places = keeps-places K }
 
 -- the same machine and core, said otherwise
 moved : {P : Trees} {M : Machine} {c : Core} (r : Relates P M c) (W′ : Views → Views) {M₁ M₂ : Machine} {c₁ c₂ : Core} → M₂ ≡ M₁ → c₂ ≡ c₁ → (r′ : Relates P M₁ c₁) × CarriesOn r r′ W′ → (r″ : Relates P M₂ c₂) × CarriesOn r r″ W′
@@ -140,6 +142,7 @@ module _ (P : Trees) (M : Machine) (c : Core) (r : Relates P M c) (K : Links (c 
         record {
           links = links-spawn r (s .0) tree (acts M w spawn h .actor) (s .1);
           viewed = λ W H. subst (Viewed (s .0)) (sym (views-spawn M W (H .ordered .names) w h)) (viewed-spawn r (s .0) tree (acts M w spawn h .actor) (s .1) W H);
+          places = spawns-places (s .1);
         },
         s .2,
       )
@@ -147,7 +150,7 @@ module _ (P : Trees) (M : Machine) (c : Core) (r : Relates P M c) (K : Links (c 
   turn-return : (w : ℕ) → Passes M (acting w return) → SimulatesTurn r (Return w)
   turn-return w h =
       let s = sim-return P M c w laws tree h r K in
-      (s .0, record { links = turns-links (s .1); viewed = λ W H. subst (Viewed (s .0)) (sym (views-return M W w h)) (turns-viewed (s .1) K W H) }, s .2)
+      (s .0, record { links = turns-links (s .1); viewed = λ W H. subst (Viewed (s .0)) (sym (views-return M W w h)) (turns-viewed (s .1) K W H); places = turns-places (s .1) }, s .2)
 
   turn-steal : (w v : ℕ) → Passes M (stealing w v) → SimulatesTurn r (Steal w v)
   turn-steal w v h = let s = sim-steal P M c w v laws h r in (s .0, carries-same r (s .0) (λ W. viewsAfter M W (Steal w v)) (s .1) (λ W H. views-steal M W (H .ordered .names) w v h), s .2)
@@ -165,6 +168,7 @@ module _ (P : Trees) (M : Machine) (c : Core) (r : Relates P M c) (K : Links (c 
         record {
           links = fold-links (s .1);
           viewed = λ W H. subst (Viewed (s .0)) (sym (views-fold M W (H .ordered .names) w i x h)) (viewed-fold r (s .0) (acts M w (fold i x) h .actor) i x (s .1) (bottom-lives r w (acts M w (fold i x) h .actor) (acts M w (fold i x) h .above) (acts M w (fold i x) h .at)) W H);
+          places = folds-places (s .1);
         },
         s .2,
       )

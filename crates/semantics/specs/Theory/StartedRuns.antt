@@ -45,7 +45,7 @@ use Rattle.semantics.specs.Entries.{State, StartResult, fits, isSound, n
 use Rattle.semantics.specs.Calls.{Start, startResult, HostCall, outside, StateAndPool, afterStart, afterCall, Exchange, exchangesOf, recordsIn, answersIn, restIn, poolsAt, coreIn, Past, Run, Call, call, begun, runAfter, runOf}
 use Rattle.semantics.specs.Demands.{Plain, plainAfter, viewsBy, plainAnswer, fromStart, answersBy, machineBy, plainStart, plainBegun, runFrom, Demand2, plainNow, Counted, RestIsCounted, WritesAgain, StartWords, AllCallWords, traceOf, MainReturned, callOf, oneByOne, oneWorkerCalls, aloneStart, allAccepted, AllFree, totalWords, Demand3}
 use Rattle.semantics.specs.Promises.{Fits}
-use Rattle.semantics.specs.Theory.Relation.{TreeLaws, Relates, Links, rootOf, rootsOf}
+use Rattle.semantics.specs.Theory.Relation.{Trees, TreeLaws, Relates, Links, SamePlaces, rootOf, rootsOf}
 use Rattle.semantics.specs.Theory.RelationFacts.{trees-perm}
 use Rattle.semantics.specs.Theory.Places.{acting-frame}
 use Rattle.semantics.specs.Theory.Refusals.{SameRoom}
@@ -58,7 +58,7 @@ use Rattle.semantics.specs.Theory.Fitting.{true-fits}
 use Rattle.semantics.specs.Theory.SoundSteps.{Carried, is-sound, own-rest}
 use Rattle.semantics.specs.Theory.Elsewhere.{withPool, good-trees, relates-elsewhere}
 use Rattle.semantics.specs.Theory.NumberWords.{totals-in}
-use Rattle.semantics.specs.Theory.Starts.{Fit, fit-started, started-fit}
+use Rattle.semantics.specs.Theory.Starts.{Fit, alone-fit, fit-started, started-fit}
 use Rattle.semantics.specs.Theory.StartRelates.{firstCore, start-relates}
 use Rattle.semantics.specs.Theory.Viewed.{Viewed}
 use Rattle.semantics.specs.Theory.ViewedStart.{start-links, viewed-start}
@@ -68,9 +68,9 @@ use Rattle.semantics.specs.Theory.AllWords.{started-words}
 use Rattle.semantics.specs.Theory.WholeRuns.{RunKept, kept-begun, kept-calls, fed-calls, fed-sound, answers-by}
 use Rattle.semantics.specs.Theory.ValidRecords.{valids, trace-same, machine-plain, views-plain, returned-plain, valids-valid, answers-plain, all-accepted}
 
--- the relation, with the links and the views beside it
-abbrev WithViews : ℕ → ℕ → Plain → Core → Type 0
-WithViews N n P c = (r : Relates (GoodTrees N n) (P .machine) c) × Links (c .frames) (r .at) (live (P .machine)) × Viewed r (P .views)
+-- the relation, with the links and the views beside it; R-7: of the places in r₀
+abbrev WithViews : {Q : Trees} {M : Machine} {d : Core} → Relates Q M d → ℕ → ℕ → Plain → Core → Type 0
+WithViews r₀ N n P c = (r : Relates (GoodTrees N n) (P .machine) c) × Links (c .frames) (r .at) (live (P .machine)) × Viewed r (P .views) × SamePlaces r₀ r
 
 -- the core is that of a run from a start which the plain machine, with its views, has followed
 pub record Follows (P : Plain) (c : Core) : Type 0 where
@@ -108,7 +108,7 @@ live-relates r = record {
   values = r .values;
 }
 
-carried : (P : Plain) (c : Core) → Follows P c → Carried (P .machine) c
+pub carried : (P : Plain) (c : Core) → Follows P c → Carried (P .machine) c
 unfolding live-relates
 carried P c F =
     let M = P .machine in
@@ -159,11 +159,17 @@ counted-room P c F (Write w x v) = λ q d lt e b. counted-rest P c F w x v q d l
 counted-room P c F (Fold w i x) = tt
 
 -- what a step keeps
-abbrev stepped : Plain → Step → Plain
+abbrev pub stepped : Plain → Step → Plain
 stepped P st = record { machine = step (P .machine) st; views = viewsAfter (P .machine) (P .views) st }
 
-keeps-and-alike : (P : Plain) (c : Core) (st : Step) → Follows P c → Follows (stepped P st) (stepOn c st .core) × (answerWords (stepOn c st .answer) ≡ answer (P .machine) st)
-keeps-and-alike P c st F =
+-- it is answered as the plain machine answers; R-7: and the frames keep their places
+pub record FollowsOn (P : Plain) (c : Core) (st : Step) (F : Follows P c) : Type 0 where
+  pub next : Follows (stepped P st) (stepOn c st .core)
+  pub alike : answerWords (stepOn c st .answer) ≡ answer (P .machine) st
+  pub places : SamePlaces (F .related) (next .related)
+
+pub follows-step : (P : Plain) (c : Core) (st : Step) (F : Follows P c) → FollowsOn P c st F
+follows-step P c st F =
     let M = P .machine in
     let r = F .related in
     let laws = good-laws (M .nodes) (M .splitters) (omega (arith, F .nodes, r .numbers .nodes-le)) (r .numbers .splitters-positive) in
@@ -172,10 +178,10 @@ keeps-and-alike P c st F =
     let z = sizes-step M st in
     let P′ = stepped P st in
     let c′ = stepOn c st .core in
-    let t : WithViews (P′ .machine .nodes) (P′ .machine .splitters) P′ c′ =
-    subst (λ N. WithViews N (P′ .machine .splitters) P′ c′) (sym (z .nodes)) (subst (λ n. WithViews (M .nodes) n P′ c′) (sym (z .splitters)) (S .related, S .follows .links (F .links), S .follows .viewed (P .views) (F .viewed))) in
+    let t : WithViews r (P′ .machine .nodes) (P′ .machine .splitters) P′ c′ =
+    subst (λ N. WithViews r N (P′ .machine .splitters) P′ c′) (sym (z .nodes)) (subst (λ n. WithViews r (M .nodes) n P′ c′) (sym (z .splitters)) (S .related, S .follows .links (F .links), S .follows .viewed (P .views) (F .viewed), S .follows .places)) in
     let F′ : Follows P′ c′ = record { related = t .0; links = t .1; viewed = t .2; inv = invariant-step M st (F .inv); nodes = numbers-kept c st .nodes ∙ F .nodes ∙ sym (z .nodes) } in
-    (F′, S .answers .both (same-free P′ c′ F′))
+    record { next = F′; alike = S .answers .both (same-free P′ c′ F′); places = t .3 }
 
 -- the same nodes in another pool
 pub follows-elsewhere : (P : Plain) (c : Core) (ws' : List ℕ) → Follows P c → SameNodes (c .head .numbers .nodes) (c .pool) ws' → Follows P (withPool c ws')
@@ -195,24 +201,27 @@ laws : Laws fromStart Follows
 laws = record { carried = carried; keeps = keeps; alike = alike; elsewhere = follows-elsewhere }
   where
     keeps : (P : Plain) (c : Core) (d : Decoded) → Follows P c → Follows (record { machine = plainAfter (P .machine) d; views = viewsBy P d }) (recordOn c d .core)
-    keeps P c (Valid st) F = keeps-and-alike P c st F .0
+    keeps P c (Valid st) F = follows-step P c st F .next
     keeps P c Invalid F = F
 
     alike : (P : Plain) (c : Core) (d : Decoded) → Follows P c → answerWords (recordOn c d .answer) ≡ plainAnswer (P .machine) d
-    alike P c (Valid st) F = keeps-and-alike P c st F .1
+    alike P c (Valid st) F = follows-step P c st F .alike
     alike P c Invalid F = refl
+
+pub start-follows : (b : Start) → Fit (b .workers) (b .values) (b .parts .frames) (b .pool) → Follows (plainBegun b) (firstCore (b .workers) (b .values) (b .parts .frames) (b .pool))
+start-follows b F = record {
+  related = start-relates (b .workers) (b .values) (b .parts .frames) (b .pool) F;
+  links = start-links (b .workers) (b .values) (b .parts .frames) (b .pool) F;
+  viewed = viewed-start (b .workers) (b .values) (b .parts .frames) (b .pool) F;
+  inv = invariant-start (b .workers) (b .values) (wholeNodes (b .pool)) (length (b .parts .frames)) (F .enough) (F .places-positive);
+  nodes = refl;
+}
 
 begins : (b : Start) → Fits (b .parts) → Fit (b .workers) (b .values) (b .parts .frames) (b .pool) → KeptBy Follows (afterStart b) (plainBegun b)
 begins b L F = record {
   core = firstCore (b .workers) (b .values) (b .parts .frames) (b .pool);
   held = ap (λ (o : StartResult). record { state = o .state; pool = o .pool }) (fit-started (b .parts) (b .workers) (b .values) (b .pool) L F);
-  follows = record {
-    related = start-relates (b .workers) (b .values) (b .parts .frames) (b .pool) F;
-    links = start-links (b .workers) (b .values) (b .parts .frames) (b .pool) F;
-    viewed = viewed-start (b .workers) (b .values) (b .parts .frames) (b .pool) F;
-    inv = invariant-start (b .workers) (b .values) (wholeNodes (b .pool)) (length (b .parts .frames)) (F .enough) (F .places-positive);
-    nodes = refl;
-  };
+  follows = start-follows b F;
 }
 
 -- ---- demand 2, for every accepted start and every list of calls
@@ -258,10 +267,13 @@ writes-again b calls e w all-words u x v v′ h =
     (invariant-run (plainStart b) (valids (recordsIn (p .exchanges))) (invariant-start (b .workers) (b .values) (wholeNodes (b .pool)) (length (b .parts .frames)) (F .enough) (F .places-positive)))) h
 
 -- after steps and tapes alone, whatever they hand in
-pub plain-sound : (b : Start) (ks : List HostCall) → startResult b .result ≡ 0 → isSound (runFrom b (map call ks) .now .state) (runFrom b (map call ks) .now .pool) ≡ true
-plain-sound b ks e =
+pub started-fed : (b : Start) (ks : List HostCall) → startResult b .result ≡ 0 → let r = runFrom b (map call ks) in Fed fromStart Follows (plainBegun b) (r .now) (r .past .exchanges) (r .past .pools)
+started-fed b ks e =
     let A = started-fit (b .parts) (b .workers) (b .values) (b .pool) e in
-    fed-sound fromStart Follows laws (plainBegun b) (wholeNodes (b .pool)) (fed-calls fromStart Follows laws (plainBegun b) (wholeNodes (b .pool)) ks (begun (afterStart b)) (record { long = refl; kept = begins b (A .lengths) (A .fit); same = refl }))
+    fed-calls fromStart Follows laws (plainBegun b) (wholeNodes (b .pool)) ks (begun (afterStart b)) (record { long = refl; kept = begins b (A .lengths) (A .fit); same = refl })
+
+pub plain-sound : (b : Start) (ks : List HostCall) → startResult b .result ≡ 0 → isSound (runFrom b (map call ks) .now .state) (runFrom b (map call ks) .now .pool) ≡ true
+plain-sound b ks e = fed-sound fromStart Follows laws (plainBegun b) (wholeNodes (b .pool)) (started-fed b ks e)
 
 -- ---- demand 3
 
@@ -330,9 +342,7 @@ module _ (b : Start) (calls : List Call) (parts : State) (ws : List ℕ) (works 
   K = let A = started-fit (b .parts) (b .workers) (b .values) (b .pool) taken in begins b (A .lengths) (A .fit)
 
   fit₁ : Fit 1 (b .values) (parts .frames) ws
-  fit₁ =
-      let F = started-fit (b .parts) (b .workers) (b .values) (b .pool) taken .fit in
-      record { values-positive = F .values-positive; values-le = F .values-le; workers-positive = omega arith; workers-le = omega arith; places-positive = omega (arith, F .places-positive, same-places); places-le = omega (arith, F .places-le, same-places); enough = omega (arith, F .enough, as-many); nodes-le = omega (arith, F .nodes-le, as-many) }
+  fit₁ = alone-fit (parts .frames) ws same-places as-many (started-fit (b .parts) (b .workers) (b .values) (b .pool) taken .fit)
 
   K₁ : KeptBy Follows (afterStart b₁) (plainBegun b₁)
   unfolding b₁

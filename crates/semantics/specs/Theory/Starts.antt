@@ -30,6 +30,11 @@ pub record Fit (workers : ℕ) (vs : List ℕ) (fs : List Frame) (ws : List ℕ)
   pub enough : treeNodes (length vs) ≤ wholeNodes ws
   pub nodes-le : wholeNodes ws ≤ 16384
 
+-- with one worker, as many places and as many whole nodes
+pub alone-fit : {workers : ℕ} {vs : List ℕ} {fs : List Frame} {ws : List ℕ} (fs′ : List Frame) (ws′ : List ℕ) → length fs′ ≡ length fs → wholeNodes ws′ ≡ wholeNodes ws → Fit workers vs fs ws → Fit 1 vs fs′ ws′
+alone-fit fs′ ws′ same-places as-many F =
+    record { values-positive = F .values-positive; values-le = F .values-le; workers-positive = omega arith; workers-le = omega arith; places-positive = omega (arith, F .places-positive, same-places); places-le = omega (arith, F .places-le, same-places); enough = omega (arith, F .enough, as-many); nodes-le = omega (arith, F .nodes-le, as-many) }
+
 in-range : (x m : ℕ) → eqb x 0 || ltb m x ≡ false → (1 ≤ x) × (x ≤ m)
 in-range x m e =
     let b = neither (eqb x 0) (ltb m x) e in
@@ -64,7 +69,7 @@ pub record Accepts (s : State) (workers : ℕ) (vs ws : List ℕ) (o : StartResu
 abbrev Cases : State → ℕ → List ℕ → List ℕ → StartResult → Type 0
 Cases s workers vs ws o = (o ≡ record { state = s; pool = ws; result = 99 }) ⊎ (Refuses (s .frames) ws o ⊎ Accepts s workers vs ws o)
 
-with-cases : (s : State) (workers : ℕ) (vs ws : List ℕ) → Fits s → Refuses (s .frames) ws (startWith workers vs (s .frames) ws) ⊎ Accepts s workers vs ws (startWith workers vs (s .frames) ws)
+pub with-cases : (s : State) (workers : ℕ) (vs ws : List ℕ) → Fits s → Refuses (s .frames) ws (startWith workers vs (s .frames) ws) ⊎ Accepts s workers vs ws (startWith workers vs (s .frames) ws)
 unfolding startWith
 with-cases s workers vs ws L = elim (decided (eqb (length vs) 0 || ltb 256 (length vs))) [
   | inl a ↦ rw a (inl (record { refusal = Values; result = refl; positive = omega arith; low = omega arith }))

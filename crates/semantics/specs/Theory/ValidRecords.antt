@@ -18,12 +18,7 @@ use Rattle.model.specs.Theory.RunSteps.{accepted-at, accepted-or-refused}
 use Rattle.semantics.specs.Calls.{PoolAt, saysAccepted, Exchange, traceFrom, recordsIn, answersIn}
 use Rattle.semantics.specs.Demands.{Plain, fromStart, answersBy, machineBy, allAccepted}
 use Rattle.semantics.specs.Theory.Words.{refusal-low, turn-same}
-
--- the records that are steps
-abbrev pub valids : List Decoded → List Step
-valids [] = []
-valids (Valid st ∷ ds) = st ∷ valids ds
-valids (Invalid ∷ ds) = valids ds
+pub use Rattle.semantics.specs.ReportDemands.{valids}
 
 pub trace-same : (P : Plain) (es : List Exchange) (ks : List PoolAt) → length ks ≡ length (recordsIn es) → answersIn es ≡ answersBy fromStart P (recordsIn es) ks
     → traceFrom (P .machine) es ≡ trace (P .machine) (valids (recordsIn es))
@@ -69,6 +64,14 @@ returned-plain (Valid st ∷ ds) (k ∷ ks) P l (here e) = here e
 returned-plain (Valid st ∷ ds) (k ∷ ks) P l (there i) = there (returned-plain ds ks (fromStart .after P (Valid st) k) (omega arith) i)
 returned-plain (Invalid ∷ ds) (k ∷ ks) P l (here e) = absurd (omega (arith, ap (λ (w : ℕ × ℕ). w .0) e))
 returned-plain (Invalid ∷ ds) (k ∷ ks) P l (there i) = returned-plain ds ks P (omega arith) i
+
+-- and the other way round
+pub plain-returned : (ds : List Decoded) (ks : List PoolAt) (P : Plain) → length ks ≡ length ds → Returned (P .machine) (valids ds) → In (102, 3) (answersBy fromStart P ds ks)
+plain-returned [] ks P l i = i
+plain-returned (d ∷ ds) [] P l i = absurd (omega arith)
+plain-returned (Valid st ∷ ds) (k ∷ ks) P l (here e) = here e
+plain-returned (Valid st ∷ ds) (k ∷ ks) P l (there i) = there (plain-returned ds ks (fromStart .after P (Valid st) k) (omega arith) i)
+plain-returned (Invalid ∷ ds) (k ∷ ks) P l i = there (plain-returned ds ks P (omega arith) i)
 
 -- ---- steps only
 

@@ -17,7 +17,7 @@ use Rattle.semantics.specs.Theory.ViewedEnd.{viewed-end}
 use Rattle.semantics.specs.Theory.EndsInTurn.{EndsInTurn, stops, ends-then}
 
 -- the frames afterwards lived before
-turns-named : {P : Trees} {M M′ : Machine} {c c′ : Core} {r : Relates P M c} {r′ : Relates P M′ c′} → EndsInTurn r r′ → NamedIn (live M) (live M′)
+pub turns-named : {P : Trees} {M M′ : Machine} {c c′ : Core} {r : Relates P M c} {r′ : Relates P M′ c′} → EndsInTurn r r′ → NamedIn (live M) (live M′)
 turns-named (stops K) = K .from
 turns-named (ends-then g R tree h E T) = λ f m. (let x = turns-named T f m in (x .0, In-perm (Permᴰ·symm (E .before)) (there (In-perm (E .after) (x .1))), x .2))
 
