@@ -56,7 +56,6 @@ pub mod step_record
 pub mod put_answer
 pub mod numbers_in
 pub mod head_of
-pub mod run_tape
 pub mod put_free
 pub mod whole_nodes
 pub mod start_refusal
@@ -103,3 +102,17 @@ pub mod check_rest
 pub mod decode
 pub mod fields_of
 pub mod take_step
+pub mod run_records
+pub mod bottom_of
+pub mod rise_of
+pub mod time_first
+pub mod time_data
+pub mod turn_end
+pub mod run_turn
+pub mod clear_clocks
+pub mod run_timed
+pub mod put_report
+pub mod report_refusal
+pub mod report_run
+pub mod fit_report
+pub mod report_on

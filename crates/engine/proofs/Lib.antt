@@ -8,6 +8,8 @@ pub mod Passing
 pub mod Called
 pub mod Checks
 pub mod Taping
+pub mod Timing
+pub mod Reports
 pub mod Starts
 pub mod Fitting
 pub mod SaveLoad

@@ -86,6 +86,10 @@ module _ (workers : ℕ) (vs : List ℕ) (fs : List Frame) (ws : List ℕ) (node
     passes = none-refuses (eqb (length vs) 0 || ltb 256 (length vs)) (eqb workers 0 || ltb 8 workers) (eqb (length fs) 0 || ltb maxPlaces (length fs))
         (ltb (wholeNodes ws) (treeNodes (length vs)) || ltb 16384 (wholeNodes ws)) (sym z ∙ number-is)
 
+    pub start-taken : startWith workers vs fs ws .result ≡ 0
+    unfolding startWith
+    start-taken = rw (passes .0, passes .1, passes .2, passes .3)
+
     pub few-values : length vs ≤ 256
     few-values = few (length vs) (passes .0)
 

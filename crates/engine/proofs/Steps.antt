@@ -28,7 +28,7 @@ use Rattle.model.specs.declared.Step.the-variants.{Spawn, Return, Steal, Sync, 
 use Rattle.semantics.specs.declared.Head.{Head}
 use Rattle.semantics.specs.declared.Done.the-variants.{Spawned, Stolen, Waited, Value, Written, Folded}
 use Rattle.semantics.specs.declared.Refusal.{Refusal}
-use Rattle.semantics.specs.declared.Refusal.the-variants.{Values, Workers, Nodes, Tape, Work, Unsound, Record, NoWorker, MainReturned, WorkerIdle, ThiefBusy, NoVictim, FramesFull, NoSplitter, PoolFull, Blocks, BlockCheck, Target, NoReducer, Places, Lengths}
+use Rattle.semantics.specs.declared.Refusal.the-variants.{Values, Workers, Nodes, Tape, Work, Unsound, Record, NoWorker, MainReturned, WorkerIdle, ThiefBusy, NoVictim, FramesFull, NoSplitter, PoolFull, Blocks, BlockCheck, Target, NoReducer, Places, Span, Lengths}
 use Rattle.semantics.specs.Answers.{refusalNumber, answerWords}
 use Rattle.semantics.specs.declared.Answer.{Answer}
 use Rattle.semantics.specs.declared.Answer.the-variants.{Accepted, Refused}
@@ -66,6 +66,7 @@ refusal-some BlockCheck e = omega arith
 refusal-some Target e = omega arith
 refusal-some NoReducer e = omega arith
 refusal-some Places e = omega arith
+refusal-some Span e = omega arith
 refusal-some Lengths e = omega arith
 
 pub both-words : {a b c d : ℕ} → a ≡ b → c ≡ d → _≡_ {A = ℕ × ℕ} (a, c) (b, d)

@@ -2,7 +2,7 @@
 use mathlib.Core.Path.{_≡_, refl, sym, ap, _∙_}
 use mathlib.Core.Bool.{Bool, true, false, not}
 use mathlib.Core.List.{List, []}
-use Prim.Native.Nat.{ℕ, _*_, _/_, _%_, _≤_}
+use Prim.Native.Nat.{ℕ, _-_, _*_, _/_, _%_, _≤_}
 use native.Mathlib.Omega.{arith}
 use lib.Dec.{eqb, ltb}
 use lib.ListN.{length, set}
@@ -97,6 +97,12 @@ module _ (ns ds : List ℕ) (fs : List Frame) (ws ks bytes rs : List ℕ) (b : B
         by-result _ ns′ ds′ fs′ ws′ ks′ rs′ 0 (by-check _ (rw e (λ i. result (R .state i) (R .pool i) (ek .0 i) (R .answers i) 0)))
 
 -- ---- the records of a tape, from the lent parts
+
+-- all of them
+pub all-records : (r : RecordsResult) (bytes : List ℕ) (n : ℕ) → n ≡ length bytes / 8 → runOn r (2 * 0) (recordsFrom (n - 0) bytes (8 * 0)) ≡ runOn r 0 (recordsOf bytes)
+all-records r bytes n e =
+    let z : n - 0 ≡ length bytes / 8 = omega (arith, e) in
+    ap (λ (m : ℕ). runOn r 0 (recordsFrom m bytes 0)) z
 
 module _ (ns ds : List ℕ) (fs : List Frame) (ws : List ℕ) (n : Numbers) (head : Head) (free : ℕ) (en : n ≡ numbersIn ns) (eh : head ≡ headOf n free) where
   head-is : head ≡ headOf (numbersIn ns) free

@@ -42,10 +42,12 @@ module _ (tape : List ℕ) (n : ℕ) where
       let z : n - i ≡ 0 = omega arith in
       ap (λ (m : ℕ). runOn r k (recordsFrom m tape j)) z
 
-  pub begin : (r : RecordsResult) → runOn r 0 (recordsFrom (n - 0) tape 0) ≡ runOn r 0 (recordsFrom n tape 0)
-  begin r =
-      let z : n - 0 ≡ n = omega arith in
-      ap (λ (m : ℕ). runOn r 0 (recordsFrom m tape 0)) z
+  -- from the record at i on, up to the n-th
+  pub begin : (r : RecordsResult) (i : ℕ) → runOn r (i * 2) (recordsFrom (n - i) tape (i * 8)) ≡ runOn r (2 * i) (recordsFrom (n - i) tape (8 * i))
+  begin r i =
+      let e2 : i * 2 ≡ 2 * i = omega arith in
+      let e8 : i * 8 ≡ 8 * i = omega arith in
+      ap (λ (k : ℕ). runOn r k (recordsFrom (n - i) tape (i * 8))) e2 ∙ ap (λ (j : ℕ). runOn r (2 * i) (recordsFrom (n - i) tape j)) e8
 
   -- a record, from a sound core: what is left, and that the core is sound again
   pub turn-kept : (h head : Head) (o : Out) (ts ds : List ℕ) (fs : List Frame) (ws ts′ ds′ : List ℕ) (fs′ : List Frame) (ws′ a a′ : List ℕ) (node place count i : ℕ) → head ≡ renewed h node place count

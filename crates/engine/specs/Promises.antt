@@ -2,7 +2,7 @@
 use mathlib.Core.Path.{_≡_}
 use mathlib.Core.Logic.{_≢_}
 use mathlib.Core.Bool.{Bool, true, false, cond, _||_, _&&_}
-use mathlib.Core.List.{List, [], _∷_}
+use mathlib.Core.List.{List, [], _∷_, _++_}
 use Prim.Native.Nat.{ℕ, suc, _≤_, _<_}
 use lib.ListN.{length}
 use Rattle.words.specs.Basics.{none}
@@ -29,10 +29,10 @@ use Rattle.model.specs.declared.Step.{Step}
 use Rattle.model.specs.declared.Step.the-variants.{Spawn, Return, Steal, Sync, Read, Write, Fold}
 use Rattle.semantics.specs.declared.Head.{Head}
 use Rattle.semantics.specs.declared.Refusal.{Refusal}
-use Rattle.semantics.specs.declared.Refusal.the-variants.{Values, Workers, Places, Nodes, Work, Blocks, BlockCheck}
+use Rattle.semantics.specs.declared.Refusal.the-variants.{Values, Workers, Places, Nodes, Tape, Work, Blocks, BlockCheck}
 use Rattle.image.specs.declared.ImageCheck.{ImageCheck}
 use Rattle.image.specs.declared.ImageCheck.the-variants.{WrongLength, WrongCheck}
-use Rattle.semantics.specs.Entries.{State, numbersOf, stateOf, isSound, checkedState, RecordsResult}
+use Rattle.semantics.specs.Entries.{State, wholeNodes, unfitTape, numbersOf, stateOf, isSound, checkedState, RecordsResult}
 use Rattle.semantics.specs.Images.{LoadResult, recordsZero, nodesZero}
 use Rattle.semantics.specs.Promises.{parts}
 use Rattle.semantics.specs.Answers.{refusalNumber, answerWords}
@@ -153,6 +153,11 @@ abbrev pub startTests : ℕ → ℕ → ℕ → ℕ → List (Bool × Refusal)
 startTests workers n places nodes =
     (eqb n 0 || ltb 256 n, Values) ∷ (eqb workers 0 || ltb 8 workers, Workers) ∷ (eqb places 0 || ltb maxPlaces places, Places)
     ∷ (ltb nodes (treeNodes n) || ltb 16384 nodes, Nodes) ∷ []
+
+-- refusals 1, 2, 21, 3, 4 and 5 of a report
+abbrev pub reportTests : ℕ → List ℕ → ℕ → List ℕ → List ℕ → List ℕ → List ℕ → List (Bool × Refusal)
+reportTests workers vs places ws work tape answers =
+    startTests workers (length vs) places (wholeNodes ws) ++ ((unfitTape tape answers, Tape) ∷ (ltb (length work) (wholeNodes ws), Work) ∷ [])
 
 -- the check of numbers, deques and frames: Good, with one more than the last place where a frame lives, if they are sound
 abbrev pub tablesChecked : Numbers → List ℕ → List Frame → List ℕ → FramesChecked

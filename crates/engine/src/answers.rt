@@ -31,6 +31,7 @@ pub fn refusal_number(refusal: Refusal) -> u32
         Refusal::Target => 19,
         Refusal::NoReducer => 20,
         Refusal::Places => 21,
+        Refusal::Span => 22,
         Refusal::Lengths => 99,
     }
 }

@@ -1,18 +1,21 @@
-// The start, the tape, the save and the reading, on all inputs: a part of the state that has another length than it must have is refused first, by 99,
+// The start, the tape, the report, the save and the reading, on all inputs: a part of the state that has another length than it must have is refused first, by 99,
 // and nothing changes.
 ghost use mathlib.Core.Path.{_≡_};
 ghost use mathlib.Core.Bool.{_&&_};
+ghost use Prim.Native.Nat.{_*_};
 ghost use lib.Dec.{eqb};
 ghost use lib.ListN.{length};
 ghost use Rattle.frames.specs.Widths.{dequeWords};
 ghost use Rattle.soundness.specs.Numbers.{numberCount};
 ghost use Rattle.semantics.specs.Entries.{startOn, tapeOn};
 ghost use Rattle.semantics.specs.Images.{saveOn, loadOn};
-ghost use Rattle.semantics.specs.Promises.{parts, IsStart, IsTape, IsSave, IsLoad};
+ghost use Rattle.semantics.specs.Promises.{parts, lent, IsStart, IsTape, IsSave, IsLoad, IsReport};
+ghost use Rattle.semantics.specs.Report.{reportOn};
 use crate::answers::refusal_number;
 use crate::begin::start_on;
 use crate::images::load_on;
 use crate::images::save_on;
+use crate::reporting::report_on;
 use crate::tapes::tape_on;
 use frames::DEQUE_WORDS;
 use frames::Frame;
@@ -66,6 +69,52 @@ pub fn tape(
         return unfit();
     }
     tape_on(numbers, deques, frames, pool, work, bytes, answers)
+}
+
+// Have the clocks two words for each of so many places, and the report four?
+pub fn fit_report(places: usize, clocks: &[u64], report: &[u64]) -> bool
+    ensures { λ r. ⌜ r ≡ eqb (length (now (clocks .entry))) (2 * places) && eqb (length (now (report .entry))) 4 ⌝ }
+{
+    ((clocks.len() % 2 == 0) & (clocks.len() / 2 == places)) & (report.len() == 4)
+}
+
+// R-7: a start, a tape and a report of its work and span.
+pub fn report(
+    numbers: &mut [u32],
+    deques: &mut [u32],
+    frames: &mut [Frame],
+    workers: u32,
+    values: &[u32],
+    pool: &mut [u32],
+    work: &mut [u32],
+    bytes: &[u8],
+    answers: &mut [u32],
+    clocks: &mut [u64],
+    report: &mut [u64],
+) -> u32
+    ensures { λ r. ⌜ IsReport (reportOn (parts (now (numbers .entry)) (now (deques .entry)) (now (frames .entry))) workers (now (values .entry)) (now (pool .entry)) (now (bytes .entry))
+        (lent (now (work .entry)) (now (answers .entry)) (now (clocks .entry)) (now (report .entry))))
+        (now (numbers .exit)) (now (deques .exit)) (now (frames .exit)) (now (pool .exit)) (now (work .exit)) (now (answers .exit)) (now (clocks .exit)) (now (report .exit)) r ⌝ }
+{
+    if !fit(numbers, deques) {
+        return unfit();
+    }
+    if !fit_report(frames.len(), clocks, report) {
+        return unfit();
+    }
+    report_on(
+        numbers,
+        deques,
+        frames,
+        workers,
+        values,
+        pool,
+        work,
+        bytes,
+        answers,
+        clocks,
+        report,
+    )
 }
 
 pub fn save(

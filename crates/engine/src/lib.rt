@@ -1,4 +1,4 @@
-// The engine: a start, a tape, a save and a reading over the state's lent parts, which ask nothing of their callers, and below them the check, a step and a
+// The engine: a start, a tape, a report, a save and a reading over the state's lent parts, which ask nothing of their callers, and below them the check, a step and a
 // record over lent words. Each contract is an equation with a definition of the crate semantics. What is below the test of the lengths
 // requires them, and what is below the check a sound core, which the check shows.
 mod answers;
@@ -10,10 +10,12 @@ mod kinds;
 mod numbers;
 mod records;
 mod refusals;
+mod reporting;
 mod returns;
 mod tapes;
 
 pub use entries::load;
+pub use entries::report;
 pub use entries::save;
 pub use entries::start;
 pub use entries::tape;
@@ -28,6 +30,15 @@ pub struct Out {
     pub free_count: u32,
     pub first: u32,
     pub second: u32,
+}
+
+// What a turn of a report leaves of the numbers that change, and the work and the span after it.
+pub struct Turn {
+    pub free_node: u32,
+    pub free_place: u32,
+    pub free_count: u32,
+    pub work: u64,
+    pub span: u64,
 }
 
 // The place of the frame that a worker executes and how many frames the worker has, or the number of the refusal of its step.

@@ -1,12 +1,12 @@
 // A step of any kind, a record, and the tape.
 ghost use mathlib.Core.Path.{_≡_};
-ghost use Prim.Native.Nat.{_+_, _*_, _/_, _≤_, _<_};
+ghost use Prim.Native.Nat.{_+_, _-_, _*_, _/_, _≤_, _<_};
 ghost use lib.ListN.{length, set};
 ghost use mathlib.Core.Logic.{_≢_};
 ghost use Rattle.soundness.specs.Numbers.{numbersIn, totalsIn, numberCount};
 ghost use Rattle.model.specs.Record.{decodeAt};
 ghost use Rattle.semantics.specs.Core.{stepOn};
-ghost use Rattle.semantics.specs.Entries.{recordOn, recordsOf, recordsResult, runOn};
+ghost use Rattle.semantics.specs.Entries.{recordOn, recordsFrom, recordsResult, runOn};
 ghost use Rattle.semantics.specs.Ranges.{Kept, Ready};
 ghost use Rattle.engine.specs.Promises.{core, renewed, Leaves, stepBy};
 use crate::Fields;
@@ -166,8 +166,9 @@ pub fn record_count(tape: &[u8]) -> usize
     tape.len() / 8
 }
 
-// The tape's records in order, from a sound core. "A refused record gives its refusal and 0, and the tape goes on."
-pub fn run_tape(
+// The tape's records from the one at `from` up to the one at `to`, in order, from a sound core. "A refused record gives its refusal and 0, and the tape goes on."
+// A tape and a report call it, once each, so that the compiler keeps it as one function of its own.
+pub fn run_records(
     h: Head,
     numbers: &mut [u32],
     deques: &mut [u32],
@@ -175,19 +176,22 @@ pub fn run_tape(
     pool: &mut [u32],
     tape: &[u8],
     answers: &mut [u32],
+    from: usize,
+    to: usize,
 ) -> Head
-    requires { ⌜ (length (now numbers) ≡ numberCount) × Kept (core h (totalsIn (now numbers)) (now deques) (now frames) (now pool)) × (2 * (length (now tape) / 8) ≤ length (now answers)) ⌝ }
+    requires { ⌜ (length (now numbers) ≡ numberCount) × Kept (core h (totalsIn (now numbers)) (now deques) (now frames) (now pool)) × (2 * (length (now tape) / 8) ≤ length (now answers))
+        × (from ≤ to) × (to ≤ length (now tape) / 8) ⌝ }
     ensures { λ r. ⌜ (numbersIn (now (numbers .exit)) ≡ numbersIn (now (numbers .entry)))
         × (recordsResult (core r (totalsIn (now (numbers .exit))) (now (deques .exit)) (now (frames .exit)) (now (pool .exit))) (now (answers .exit))
-        ≡ runOn (recordsResult (core h (totalsIn (now (numbers .entry))) (now (deques .entry)) (now (frames .entry)) (now (pool .entry))) (now (answers .entry))) 0 (recordsOf (now (tape .entry))))
+        ≡ runOn (recordsResult (core h (totalsIn (now (numbers .entry))) (now (deques .entry)) (now (frames .entry)) (now (pool .entry))) (now (answers .entry))) (2 * from) (recordsFrom (to - from) (now (tape .entry)) (8 * from)))
         × (r ≡ renewed h (r .numbers .«free_node») (r .numbers .«free_place») (r .«free_count»)) ⌝ }
 {
-    let records = record_count(tape);
     let mut free_node = h.numbers.free_node;
     let mut free_place = h.numbers.free_place;
     let mut free_count = h.free_count;
-    let mut i: usize = 0;
-    while i < records {
+    let mut i = from;
+    let mut more = to - from;
+    while more > 0 {
         let head = head_with(h, free_node, free_place, free_count);
         let out = step_record(head, numbers, deques, frames, pool, tape, i * 8);
         put_answer(answers, i * 2, out.first, out.second);
@@ -195,6 +199,7 @@ pub fn run_tape(
         free_place = out.free_place;
         free_count = out.free_count;
         i += 1;
+        more -= 1;
     }
     head_with(h, free_node, free_place, free_count)
 }

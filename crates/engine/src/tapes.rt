@@ -10,7 +10,8 @@ use crate::answers::refusal_number;
 use crate::checking::check_state;
 use crate::numbers::numbers_in;
 use crate::numbers::put_free;
-use crate::records::run_tape;
+use crate::records::record_count;
+use crate::records::run_records;
 use frames::Frame;
 use semantics::Head;
 use semantics::Refusal;
@@ -75,7 +76,17 @@ pub fn run_on(
         (now (numbers .exit)) (now (deques .exit)) (now (frames .exit)) (now (pool .exit)) (now (answers .exit)) ⌝ }
 {
     let first = head_of(numbers_in(numbers), free_count);
-    let last = run_tape(first, numbers, deques, frames, pool, bytes, answers);
+    let last = run_records(
+        first,
+        numbers,
+        deques,
+        frames,
+        pool,
+        bytes,
+        answers,
+        0,
+        record_count(bytes),
+    );
     put_free(numbers, last.numbers.free_node, last.numbers.free_place);
 }
 

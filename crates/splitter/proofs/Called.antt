@@ -4,3 +4,4 @@ pub mod save
 pub mod load
 pub mod record_of
 pub mod result_words
+pub mod report

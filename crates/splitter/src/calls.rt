@@ -7,7 +7,8 @@ ghost use Rattle.model.specs.Record.{recordOf, decodeAt};
 ghost use Rattle.semantics.specs.Entries.{startOn, outsideOn, tapeOn};
 ghost use Rattle.image.specs.Image.{imageBytes};
 ghost use Rattle.semantics.specs.Images.{saveOn, loadOn};
-ghost use Rattle.semantics.specs.Promises.{parts, IsStart, IsOutside, IsTape, IsSave, IsLoad};
+ghost use Rattle.semantics.specs.Promises.{parts, lent, IsStart, IsOutside, IsTape, IsSave, IsLoad, IsReport};
+ghost use Rattle.semantics.specs.Report.{reportOn};
 ghost use Rattle.splitter.specs.OneRecord.{bytesOf, resultWords};
 use engine::load;
 use engine::save;
@@ -118,6 +119,40 @@ pub extern "C" fn splitter_tape(
         (now (numbers .exit)) (now (deques .exit)) (now (frames .exit)) (now (pool .exit)) (now (work .exit)) (now (answers .exit)) r ⌝ }
 {
     tape(numbers, deques, frames, pool, work, bytes, answers)
+}
+
+// R-7: a start, a tape and the report of its work and span.
+#[no_mangle]
+pub extern "C" fn splitter_report(
+    numbers: &mut [u32],
+    deques: &mut [u32],
+    frames: &mut [Frame],
+    workers: u32,
+    values: &[u32],
+    pool: &mut [u32],
+    work: &mut [u32],
+    bytes: &[u8],
+    answers: &mut [u32],
+    clocks: &mut [u64],
+    report: &mut [u64],
+) -> u32
+    ensures { λ r. ⌜ IsReport (reportOn (parts (now (numbers .entry)) (now (deques .entry)) (now (frames .entry))) workers (now (values .entry)) (now (pool .entry)) (now (bytes .entry))
+        (lent (now (work .entry)) (now (answers .entry)) (now (clocks .entry)) (now (report .entry))))
+        (now (numbers .exit)) (now (deques .exit)) (now (frames .exit)) (now (pool .exit)) (now (work .exit)) (now (answers .exit)) (now (clocks .exit)) (now (report .exit)) r ⌝ }
+{
+    engine::report(
+        numbers,
+        deques,
+        frames,
+        workers,
+        values,
+        pool,
+        work,
+        bytes,
+        answers,
+        clocks,
+        report,
+    )
 }
 
 // R-1: the state and its pool as an image in the front of the target.

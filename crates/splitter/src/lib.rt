@@ -5,6 +5,7 @@ mod queries;
 
 pub use calls::splitter_image_bytes;
 pub use calls::splitter_load;
+pub use calls::splitter_report;
 pub use calls::splitter_save;
 pub use calls::splitter_start;
 pub use calls::splitter_step;

@@ -18,7 +18,8 @@ use Rattle.engine.specs.Promises.{core, renewed}
 use Rattle.frames.specs.declared.Frame.{Frame}
 use Rattle.soundness.specs.declared.Numbers.{Numbers}
 use Rattle.semantics.specs.declared.Head.{Head}
-use Rattle.engine.proofs.Taping.{run-asks, run-done}
+use Rattle.engine.proofs.Taping.{run-asks, run-done, all-records}
+use Rattle.semantics.specs.Entries.{recordsFrom}
 
 module _
     (numbers : List ℕ) (deques : List ℕ) (frames : List Frame) (pool : List ℕ) (bytes : List ℕ) (answers : List ℕ) (free-count : ℕ) (numbers-fits : length numbers < 2 ^ 64) (deques-fits : length deques < 2 ^ 64) (frames-fits : length frames < 2 ^ 64) (pool-fits : length pool < 2 ^ 64) (bytes-fits : length bytes < 2 ^ 64) (answers-fits : length answers < 2 ^ 64) (free-count-fits : free-count < 2 ^ 32) (ok : Fits (parts numbers deques frames) × Kept (coreOf (parts numbers deques frames) pool free-count) × (2 * (length bytes / 8) ≤ length answers)) where
@@ -30,21 +31,23 @@ module _
       -- engine::numbers::numbers_in(numbers)
       (r-1 : Numbers) (r-1-is : r-1 ≡ numbersIn numbers)
       -- engine::tapes::head_of(r-1, free-count)
-      (first′ : Head) (first′-is : first′ ≡ headOf r-1 free-count) where
-    -- engine::records::run_tape asks
-    pub needs-3 : (length numbers ≡ numberCount) × Kept (core first′ (totalsIn numbers) deques frames pool) × (2 * (length bytes / 8) ≤ length answers)
-    needs-3 = (ok .0 .numbers, run-asks numbers deques frames pool r-1 first′ free-count r-1-is first′-is (ok .1), ok .2)
+      (first′ : Head) (first′-is : first′ ≡ headOf r-1 free-count)
+      -- engine::records::record_count(bytes)
+      (r-3 : ℕ) (r-3-fits : r-3 < 2 ^ 64) (r-3-is : r-3 ≡ length bytes / 8) where
+    -- engine::records::run_records asks
+    pub needs-4 : (length numbers ≡ numberCount) × Kept (core first′ (totalsIn numbers) deques frames pool) × (2 * (length bytes / 8) ≤ length answers) × (0 ≤ r-3) × (r-3 ≤ length bytes / 8)
+    needs-4 = (ok .0 .numbers, run-asks numbers deques frames pool r-1 first′ free-count r-1-is first′-is (ok .1), ok .2, omega arith, omega (arith, r-3-is))
 
     module _
-        -- engine::records::run_tape(first′, numbers, deques, frames, pool, bytes, answers)
-        (last : Head) (numbers-3 : List ℕ) (deques-3 : List ℕ) (frames-3 : List Frame) (pool-3 : List ℕ) (answers-3 : List ℕ) (last-is : (numbersIn numbers-3 ≡ numbersIn numbers) × (recordsResult (core last (totalsIn numbers-3) deques-3 frames-3 pool-3) answers-3 ≡ runOn (recordsResult (core first′ (totalsIn numbers) deques frames pool) answers) 0 (recordsOf bytes)) × (last ≡ renewed first′ (last .numbers .«free_node») (last .numbers .«free_place») (last .«free_count»))) (same-numbers-3 : length numbers-3 ≡ length numbers) (same-deques-3 : length deques-3 ≡ length deques) (same-frames-3 : length frames-3 ≡ length frames) (same-pool-3 : length pool-3 ≡ length pool) (same-answers-3 : length answers-3 ≡ length answers) where
+        -- engine::records::run_records(first′, numbers, deques, frames, pool, bytes, answers, 0, r-3)
+        (last : Head) (numbers-4 : List ℕ) (deques-4 : List ℕ) (frames-4 : List Frame) (pool-4 : List ℕ) (answers-4 : List ℕ) (last-is : (numbersIn numbers-4 ≡ numbersIn numbers) × (recordsResult (core last (totalsIn numbers-4) deques-4 frames-4 pool-4) answers-4 ≡ runOn (recordsResult (core first′ (totalsIn numbers) deques frames pool) answers) (2 * 0) (recordsFrom (r-3 - 0) bytes (8 * 0))) × (last ≡ renewed first′ (last .numbers .«free_node») (last .numbers .«free_place») (last .«free_count»))) (same-numbers-4 : length numbers-4 ≡ length numbers) (same-deques-4 : length deques-4 ≡ length deques) (same-frames-4 : length frames-4 ≡ length frames) (same-pool-4 : length pool-4 ≡ length pool) (same-answers-4 : length answers-4 ≡ length answers) where
       -- engine::numbers::put_free asks
-      pub needs-4 : length numbers-3 ≡ numberCount
-      needs-4 = same-numbers-3 ∙ ok .0 .numbers
+      pub needs-5 : length numbers-4 ≡ numberCount
+      needs-5 = same-numbers-4 ∙ ok .0 .numbers
 
       module _
           -- engine::numbers::put_free(numbers, ((last .numbers) .«free_node»), ((last .numbers) .«free_place»))
-          (numbers-4 : List ℕ) (done-4 : numbers-4 ≡ set (set numbers-3 3 ((last .numbers) .«free_node»)) 4 ((last .numbers) .«free_place»)) (same-numbers-4 : length numbers-4 ≡ length numbers-3) where
+          (numbers-5 : List ℕ) (done-5 : numbers-5 ≡ set (set numbers-4 3 ((last .numbers) .«free_node»)) 4 ((last .numbers) .«free_place»)) (same-numbers-5 : length numbers-5 ≡ length numbers-4) where
         -- a way out: what the function ensures
-        pub out-5 : IsRun (runOn (recordsResult (coreOf (parts numbers deques frames) pool free-count) answers) 0 (recordsOf bytes)) numbers-4 deques-3 frames-3 pool-3 answers-3
-        out-5 = run-done numbers deques frames pool r-1 first′ free-count r-1-is first′-is answers bytes numbers-3 deques-3 frames-3 pool-3 answers-3 numbers-4 last (same-numbers-3 ∙ ok .0 .numbers) last-is done-4
+        pub out-6 : IsRun (runOn (recordsResult (coreOf (parts numbers deques frames) pool free-count) answers) 0 (recordsOf bytes)) numbers-5 deques-4 frames-4 pool-4 answers-4
+        out-6 = run-done numbers deques frames pool r-1 first′ free-count r-1-is first′-is answers bytes numbers-4 deques-4 frames-4 pool-4 answers-4 numbers-5 last (same-numbers-4 ∙ ok .0 .numbers) (last-is .0, last-is .1 ∙ all-records (recordsResult (core first′ (totalsIn numbers) deques frames pool) answers) bytes r-3 r-3-is, last-is .2) done-5
