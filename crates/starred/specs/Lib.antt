@@ -11,3 +11,5 @@ pub mod Layout
 pub mod Demand3Example
 -- R-1, R-3, R-5 and R-6: images, saves and readings
 pub mod SavedImages
+-- R-7: reports
+pub mod Reports
