@@ -1,14 +1,15 @@
 /* Makes the calls of a recording again, as tests/host/sanitized.c does, without a C library: the recording is standard input
  * (tests/host/src/record.rs has its form). Results, and every word and byte of the slices, must be what they were. The slices of a call lie
- * side by side in one arena, the words at multiples of four and the bytes anywhere. Exit status 1 at a difference. */
+ * side by side in one arena, the words at multiples of four, those of 64 bits at multiples of eight, and the bytes anywhere. Exit status 1 at
+ * a difference. */
 #include "splitter.h"
 #include "system.h"
 #include <stdio.h>
 #include <stdlib.h>
 #include <string.h>
 
-enum { NUMBERS, DEQUES, FRAMES, POOL, WORK, ANSWERS, SLICES };
-enum { START = 1, STEP, TAPE, SAVE, LOAD };
+enum { NUMBERS, DEQUES, FRAMES, POOL, WORK, ANSWERS, CLOCKS, REPORT, SLICES };
+enum { START = 1, STEP, TAPE, SAVE, LOAD, REPORTED };
 
 static _Alignas(8) uint8_t arena[1 << 22];
 static size_t used;
@@ -48,9 +49,14 @@ static void *block(size_t size) {
     return at;
 }
 
-static uint32_t *words(uint32_t count) {
-    used = (used + 3) / 4 * 4;
+/* Words at a multiple of so many bytes. */
+static uint32_t *words_at(size_t multiple, uint32_t count) {
+    used = (used + multiple - 1) / multiple * multiple;
     return block((size_t)count * 4);
+}
+
+static uint32_t *words(uint32_t count) {
+    return words_at(4, count);
 }
 
 /* The words of a call, its entry already read. */
@@ -64,8 +70,9 @@ static void read_call(struct call *call) {
     call->byte = block(call->bytes);
     call->byte_after = block(call->bytes);
     for (int i = 0; i < SLICES; i++) {
+        const size_t multiple = i == CLOCKS || i == REPORT ? 8 : 4;
         call->length[i] = *words(1);
-        call->slice[i] = words(call->length[i]);
+        call->slice[i] = words_at(multiple, call->length[i]);
         call->after[i] = words(call->length[i]);
     }
 }
@@ -92,6 +99,11 @@ static uint64_t make_call(const struct call *call) {
     case LOAD:
         return splitter_load(slice[NUMBERS], length[NUMBERS], slice[DEQUES], length[DEQUES], frames, places,
                              slice[POOL], length[POOL], slice[WORK], length[WORK], call->byte, call->bytes);
+    case REPORTED:
+        return splitter_report(slice[NUMBERS], length[NUMBERS], slice[DEQUES], length[DEQUES], frames, places,
+                               argument[0], call->value, call->values, slice[POOL], length[POOL], slice[WORK], length[WORK],
+                               call->byte, call->bytes, slice[ANSWERS], length[ANSWERS], (uint64_t *)slice[CLOCKS], length[CLOCKS] / 2,
+                               (uint64_t *)slice[REPORT], length[REPORT] / 2);
     default:
         stop("no such entry");
     }

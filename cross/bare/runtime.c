@@ -54,6 +54,12 @@ uint64_t __udivdi3(uint64_t number, uint64_t by) {
     return divided(number, by, &rest);
 }
 
+uint64_t __umoddi3(uint64_t number, uint64_t by) {
+    uint64_t rest;
+    divided(number, by, &rest);
+    return rest;
+}
+
 #ifdef __arm__
 void __aeabi_memclr(void *to, size_t count) { memset(to, 0, count); }
 void __aeabi_memclr4(void *to, size_t count) { memset(to, 0, count); }

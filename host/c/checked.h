@@ -6,11 +6,13 @@
 #include "plain.h"
 
 /* A run: the memory lent to the library, and the plain machine beside it. A run read from an image may be alone: a plain machine in
- * another process knew it. */
+ * another process knew it. Its log, if there is one, gets a record for each step since the start. */
 struct checked {
     struct splitter_lent lent;
     struct plain plain;
     int alone;
+    uint8_t *log;
+    size_t log_len, log_room; /* in bytes */
 };
 
 /* Says what is wrong, and exits. */
@@ -33,5 +35,10 @@ struct splitter_totals checked_totals(const struct checked *run);
 
 /* A tape of whole records, with two answer words for each. */
 void checked_tape(struct checked *run, const uint8_t *tape, size_t tape_len, uint32_t *answers, size_t answers_len);
+
+/* The report of such a tape, run from a start, with a long enough work slice and two clock words for each place. */
+uint32_t checked_report(struct checked *run, unsigned workers, const uint32_t *values, size_t values_len,
+                        const uint8_t *tape, size_t tape_len, uint32_t *answers, size_t answers_len,
+                        uint64_t *clocks, struct splitter_parallelism *report);
 
 #endif

@@ -28,7 +28,7 @@ static void records(void) {
 
 /* Is this a number of the interface? 14 was one before R-3. */
 static unsigned is_number(uint32_t i) {
-    return (i <= SPLITTER_BAD_PLACE_COUNT && i != 14) || i == SPLITTER_BAD_STATE || (i >= SPLITTER_SPAWNED && i <= SPLITTER_FOLDED);
+    return (i <= SPLITTER_NO_SPAN && i != 14) || i == SPLITTER_BAD_STATE || (i >= SPLITTER_SPAWNED && i <= SPLITTER_FOLDED);
 }
 
 /* Each number of the interface has its own text, and no other number has one. */
@@ -42,7 +42,7 @@ static void names(void) {
             EXPECT(strcmp(splitter_name(i), splitter_name(j)) == 0, 0);
         }
     }
-    EXPECT(named, 29);
+    EXPECT(named, 30);
 }
 
 /* Below 100 all but SPLITTER_OK is a refusal, alone and as the first half of a step's result. */
@@ -72,6 +72,19 @@ static void layout(void) {
     EXPECT(SPLITTER_REDUCERS, SPLITTER_REDUCER_AFFINE + 1);
     EXPECT(SPLITTER_NONE, UINT32_MAX);
     EXPECT(sizeof(splitter_len), 8);
+}
+
+/* The four words of a report one after the other, with nothing between them: the struct can be lent as the slice. */
+static void report_layout(void) {
+    const size_t word = sizeof(uint64_t);
+    EXPECT(sizeof(struct splitter_parallelism), SPLITTER_REPORT_WORDS * word);
+    EXPECT(offsetof(struct splitter_parallelism, work), 0);
+    EXPECT(offsetof(struct splitter_parallelism, span), word);
+    EXPECT(offsetof(struct splitter_parallelism, quotient), 2 * word);
+    EXPECT(offsetof(struct splitter_parallelism, remainder), 3 * word);
+    EXPECT(SPLITTER_CLOCKS_WORDS(0), 0);
+    EXPECT(SPLITTER_CLOCKS_WORDS(1), 2);
+    EXPECT(SPLITTER_CLOCKS_WORDS(SPLITTER_MAX_PLACES) * word, 4096);
 }
 
 /* A frame record is its words in the order of an image, with nothing between them; an array of them has nothing between the records. */
@@ -287,6 +300,86 @@ static void nulls_that_clear(const struct splitter_lent *lent) {
     }
 }
 
+/* The words of a report; then it holds others again. */
+static void parallelism(struct splitter_parallelism *report, uint64_t work, uint64_t span, uint64_t quotient, uint64_t remainder) {
+    EXPECT(report->work, work);
+    EXPECT(report->span, span);
+    EXPECT(report->quotient, quotient);
+    EXPECT(report->remainder, remainder);
+    report->work = report->span = report->quotient = report->remainder = 7;
+}
+
+/* Main spawns; it syncs while its child reads twice, reads and returns. Work 5, span 1 + 2 + 1 + 1. */
+static void write_tape(uint8_t *at) {
+    at = splitter_put_record(at, SPLITTER_STEP_SPAWN, 0, 0, 0);
+    at = splitter_put_record(at, SPLITTER_STEP_STEAL, 1, 0, 0);
+    at = splitter_put_record(at, SPLITTER_STEP_SYNC, 1, 0, 0);
+    at = splitter_put_record(at, SPLITTER_STEP_READ, 0, 0, 0);
+    at = splitter_put_record(at, SPLITTER_STEP_READ, 0, 1, 0);
+    at = splitter_put_record(at, SPLITTER_STEP_RETURN, 0, 0, 0);
+    at = splitter_put_record(at, SPLITTER_STEP_READ, 0, 1, 0);
+    splitter_put_record(at, SPLITTER_STEP_RETURN, 0, 0, 0);
+}
+
+/* Its report: over lent memory, over a state, and with the struct lent as the slice. Then some that are refused. */
+static void reports(const struct splitter_lent *lent) {
+    static const uint32_t values[2] = {10, 20};
+    const splitter_len len = SPLITTER_CLOCKS_WORDS(PLACES);
+    uint8_t tape[8 * SPLITTER_RECORD_BYTES];
+    uint32_t answers[16];
+    uint64_t clocks[SPLITTER_CLOCKS_WORDS(PLACES)];
+    struct splitter_parallelism report = {7, 7, 7, 7};
+    write_tape(tape);
+    EXPECT(splitter_lent_report(lent, 2, values, 2, tape, sizeof tape, answers, 16, clocks, len, &report), SPLITTER_OK);
+    parallelism(&report, 5, 5, 1, 0);
+    EXPECT(splitter_lent_main_returned(lent), 1);
+    EXPECT(clocks[0] == 5 && clocks[1] == 3 && clocks[2] == 3 && clocks[3] == 0 && clocks[4] == 0, 1);
+    EXPECT(splitter_state_report(lent->state, lent->frames, lent->places, 2, values, 2, lent->pool, lent->pool_len,
+                                 lent->work, lent->work_len, tape, sizeof tape, answers, 16, clocks, len, &report), SPLITTER_OK);
+    parallelism(&report, 5, 5, 1, 0);
+    EXPECT(splitter_report(lent->state->numbers, SPLITTER_NUMBERS_WORDS, lent->state->deques, SPLITTER_DEQUES_WORDS,
+                           lent->frames, lent->places, 2, values, 2, lent->pool, lent->pool_len, lent->work, lent->work_len,
+                           tape, sizeof tape, answers, 16, clocks, len, (uint64_t *)&report, SPLITTER_REPORT_WORDS), SPLITTER_OK);
+    parallelism(&report, 5, 5, 1, 0);
+    EXPECT(splitter_lent_report(lent, 2, values, 2, tape, sizeof tape, answers, 16, clocks, len - 1, &report), SPLITTER_BAD_STATE);
+    EXPECT(splitter_lent_report(lent, 2, values, 2, tape, sizeof tape, answers, 16, clocks, len + 1, &report), SPLITTER_BAD_STATE);
+    EXPECT(splitter_lent_workers(lent), 2); /* as it was */
+    EXPECT(splitter_lent_report(lent, 2, values, 2, tape, sizeof tape, answers, 15, clocks, len, &report), SPLITTER_BAD_TAPE);
+    EXPECT(splitter_lent_workers(lent), 0);
+    EXPECT(splitter_lent_report(lent, 2, values, 2, tape, 8, answers, 16, clocks, len, &report), SPLITTER_NO_SPAN);
+    parallelism(&report, 7, 7, 7, 7);
+    EXPECT(splitter_lent_workers(lent) == 2 && splitter_lent_live_frames(lent) == 2, 1);
+    ANSWER(splitter_steal(lent, 1, 0), SPLITTER_STOLEN, 0); /* the run goes on */
+}
+
+/* NULL for each slice of a report, with lengths 0 and not 0; the conditions before are looked for first, and the state is cleared. */
+static void nulls_of_reports(const struct splitter_lent *lent) {
+    static const uint32_t values[2] = {10, 20};
+    const uint8_t tape[SPLITTER_RECORD_BYTES] = {SPLITTER_STEP_READ, 0, 1};
+    const splitter_len clocks_len = SPLITTER_CLOCKS_WORDS(PLACES);
+    uint32_t answers[2] = {7, 7};
+    uint64_t clocks[SPLITTER_CLOCKS_WORDS(PLACES)];
+    struct splitter_parallelism report = {7, 7, 7, 7};
+    for (splitter_len len = 0; len <= 24; len += 24) {
+        const struct splitter_lent no_table = {lent->state, NULL, len, lent->pool, lent->pool_len, lent->work, lent->work_len};
+        const struct splitter_lent no_pool = {lent->state, lent->frames, lent->places, NULL, len, lent->work, lent->work_len};
+        const struct splitter_lent no_work = {lent->state, lent->frames, lent->places, lent->pool, lent->pool_len, NULL, len};
+        EXPECT(splitter_lent_report(lent, 2, values, 2, tape, 8, answers, 2, NULL, len, &report), SPLITTER_BAD_STATE);
+        EXPECT(splitter_lent_report(lent, 2, NULL, len, tape, 8, answers, 2, clocks, clocks_len, &report), SPLITTER_BAD_VALUE_COUNT);
+        EXPECT(splitter_lent_report(&no_table, 2, values, 2, tape, 8, answers, 2, clocks, clocks_len, &report), SPLITTER_BAD_PLACE_COUNT);
+        EXPECT(splitter_lent_report(&no_table, 2, values, 2, tape, 8, answers, 2, NULL, len, &report), SPLITTER_BAD_PLACE_COUNT);
+        EXPECT(splitter_lent_report(&no_pool, 2, values, 2, tape, 8, answers, 2, clocks, clocks_len, &report), SPLITTER_BAD_NODE_COUNT);
+        EXPECT(splitter_lent_report(&no_pool, 2, values, 2, NULL, 8, answers, 2, clocks, clocks_len, &report), SPLITTER_BAD_NODE_COUNT);
+        EXPECT(splitter_lent_report(&no_work, 2, values, 2, NULL, 8, answers, 2, clocks, clocks_len, &report), SPLITTER_BAD_TAPE);
+        EXPECT(splitter_lent_report(&no_work, 2, values, 2, tape, 8, NULL, len, clocks, clocks_len, &report), SPLITTER_BAD_TAPE);
+        EXPECT(splitter_lent_report(&no_work, 2, values, 2, tape, 8, answers, 2, clocks, clocks_len, &report), SPLITTER_SHORT_WORK);
+        EXPECT(splitter_lent_workers(lent), 0);
+        EXPECT(splitter_lent_report(lent, 2, values, 2, NULL, 0, NULL, len, clocks, clocks_len, &report), SPLITTER_NO_SPAN);
+        EXPECT(splitter_lent_workers(lent), 2);
+    }
+    EXPECT(answers[0] == 7 && answers[1] == 7 && report.work == 7 && report.remainder == 7, 1);
+}
+
 int main(void) {
     static const uint32_t values[2] = {10, 20};
     static struct splitter_state state;
@@ -298,6 +391,7 @@ int main(void) {
     refused();
     layout();
     frame_layout();
+    report_layout();
     sizes();
     EXPECT(splitter_lent_start(&lent, 2, values, 0), SPLITTER_BAD_VALUE_COUNT);
     EXPECT(splitter_state_start(&state, table, PLACES, 2, values, 2, pool, 6 * SPLITTER_NODE_WORDS), SPLITTER_OK);
@@ -315,5 +409,7 @@ int main(void) {
     totals(&state, true, 0, SPLITTER_NONE, 1, 0);
     EXPECT(splitter_lent_start(&lent, 2, values, 2), SPLITTER_OK);
     folds(&lent);
+    reports(&lent);
+    nulls_of_reports(&lent);
     return failures == 0 ? 0 : 1;
 }

@@ -143,14 +143,26 @@ static uint32_t refusal(const struct plain *machine, uint32_t kind, uint32_t wor
     return name_refusal(machine, kind, field);
 }
 
-/* "The child inherits, the continuation begins with the identity." */
+/* "Each accepted spawn, sync, read, write and fold costs 1": the frame's clock and the work. */
+static void cost_one(struct plain *machine, struct plain_frame *frame) {
+    frame->clock += 1;
+    machine->work += 1;
+}
+
+static uint64_t later(uint64_t one, uint64_t other) {
+    return one > other ? one : other;
+}
+
+/* "The child inherits, the continuation begins with the identity." "A child's clock begins at its parent's after the spawn." */
 static uint64_t spawn(struct plain *machine, unsigned worker) {
     unsigned parent = bottom(machine, worker), child = 0;
     while (machine->frames[child].live) {
         child += 1;
     }
     struct plain_frame *frame = &machine->frames[child];
+    cost_one(machine, &machine->frames[parent]);
     *frame = machine->frames[parent];
+    frame->latest = 0;
     frame->parent = parent;
     frame->depth += 1;
     frame->children = 0;
@@ -196,6 +208,22 @@ static void join_next(struct plain *machine, const struct plain_frame *frame) {
     }
 }
 
+/* "A return likewise waits but adds nothing": the frame's clock at its end, for its parent. "Span is Main's clock at its return." */
+static void tell_clock(struct plain *machine, const struct plain_frame *frame, struct plain_frame *parent) {
+    uint64_t clock = later(frame->clock, frame->latest);
+    if (frame == parent) {
+        machine->span = clock;
+    } else {
+        parent->latest = later(parent->latest, clock);
+    }
+}
+
+/* "A sync moves the clock to the latest of its own and its ended children's, counted when it passes, then adds 1." Its cost is in the work
+ * since it was accepted. */
+static void pass_sync(struct plain_frame *frame) {
+    frame->clock = later(frame->clock, frame->latest) + 1;
+}
+
 /* The frame, in no deque any more, ends. If it was the last child of a parent that waits as returning, the parent ends too (document 02,
  * R-3), and so on upward. The outcome tells where that stopped. */
 static uint32_t end(struct plain *machine, unsigned worker, unsigned place) {
@@ -203,6 +231,7 @@ static uint32_t end(struct plain *machine, unsigned worker, unsigned place) {
     frame->live = 0;
     machine->live -= 1;
     join_next(machine, frame);
+    tell_clock(machine, frame, parent);
     if (frame == parent) {
         return SPLITTER_FINISHED;
     }
@@ -217,6 +246,7 @@ static uint32_t end(struct plain *machine, unsigned worker, unsigned place) {
         return end(machine, worker, frame->parent);
     }
     parent->suspended = 0;
+    pass_sync(parent);
     push(machine, worker, frame->parent);
     return SPLITTER_RESUMED;
 }
@@ -246,12 +276,20 @@ static uint64_t steal(struct plain *machine, unsigned thief, unsigned victim) {
 
 static uint64_t sync(struct plain *machine, unsigned worker) {
     struct plain_frame *frame = &machine->frames[bottom(machine, worker)];
+    machine->work += 1;
     if (frame->children == 0) {
+        pass_sync(frame);
         return splitter_answer(SPLITTER_SYNCED, SPLITTER_PASSED);
     }
     frame->suspended = 1;
     machine->lengths[worker] -= 1;
     return splitter_answer(SPLITTER_SYNCED, SPLITTER_SUSPENDED);
+}
+
+static uint64_t read(struct plain *machine, unsigned worker, unsigned splitter) {
+    struct plain_frame *frame = &machine->frames[bottom(machine, worker)];
+    cost_one(machine, frame);
+    return splitter_answer(SPLITTER_VALUE, frame->values[splitter]);
 }
 
 /* Refused where more nodes would be in use than the pool has (document 02, R-2); then nothing has changed. */
@@ -265,6 +303,7 @@ static uint64_t write(struct plain *machine, unsigned worker, unsigned splitter,
         return splitter_answer(SPLITTER_POOL_FULL, 0);
     }
     machine->writes += 1;
+    cost_one(machine, frame);
     frame->values[splitter] = value;
     return splitter_answer(SPLITTER_WRITTEN, machine->nodes - used);
 }
@@ -282,6 +321,7 @@ static uint64_t fold(struct plain *machine, unsigned worker, unsigned reducer, u
         folded.addend = value % 65536;
     }
     frame->view = join(frame->view, folded);
+    cost_one(machine, frame);
     return splitter_answer(SPLITTER_FOLDED, 0);
 }
 
@@ -295,7 +335,7 @@ uint64_t plain_step(struct plain *machine, uint32_t kind, uint32_t worker, uint3
     case SPLITTER_STEP_RETURN: return return_from(machine, worker);
     case SPLITTER_STEP_STEAL: return steal(machine, worker, field);
     case SPLITTER_STEP_SYNC: return sync(machine, worker);
-    case SPLITTER_STEP_READ: return splitter_answer(SPLITTER_VALUE, machine->frames[bottom(machine, worker)].values[field]);
+    case SPLITTER_STEP_READ: return read(machine, worker, field);
     case SPLITTER_STEP_WRITE: return write(machine, worker, field, value);
     default: return fold(machine, worker, field, value);
     }

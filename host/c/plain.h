@@ -1,5 +1,6 @@
-/* The plain machine of documents 01 and 02 (R-2, R-3, R-5, R-6): a full list of values for each frame, free nodes by counting the distinct
- * triples, views in the order of the live frames. The worked hosts compare the library's answers with it. A product needs no such thing. */
+/* The plain machine of documents 01 and 02 (R-2, R-3, R-5, R-6, R-7): a full list of values for each frame, free nodes by counting the
+ * distinct triples, views in the order of the live frames, a clock for each frame. The worked hosts compare the library's answers and
+ * reports with it. A product needs no such thing. */
 #ifndef PLAIN_H
 #define PLAIN_H
 
@@ -15,6 +16,7 @@ struct plain_frame {
     unsigned parent, depth, children;         /* Main is its own parent */
     unsigned born;                            /* which spawn made it; Main is 0 */
     struct plain_view view;
+    uint64_t clock, latest;                   /* its own clock, and the latest of its ended children's */
     uint32_t values[SPLITTER_MAX_SPLITTERS];
     unsigned written[SPLITTER_MAX_SPLITTERS]; /* which write was the last to each splitter; the start is write 0 */
 };
@@ -22,6 +24,7 @@ struct plain_frame {
 struct plain {
     unsigned workers, splitters, places, nodes, writes, spawns, live;
     struct plain_view totals; /* zeros while Main lives */
+    uint64_t work, span;      /* the span is 0 while Main lives */
     struct plain_frame frames[SPLITTER_MAX_PLACES];
     unsigned deques[SPLITTER_MAX_WORKERS][SPLITTER_MAX_PLACES]; /* from the top */
     unsigned lengths[SPLITTER_MAX_WORKERS];

@@ -158,6 +158,24 @@ static void waiting_main(void) {
     show(checked_spawn(&run, 0), SPLITTER_RUN_IS_OVER, "the child has ended, and Main with it");
 }
 
+/* Refused by 22 a report has run its tape: the run is there and goes on, only the report is withheld. */
+static void refused_reports(void) {
+    static uint64_t clocks[SPLITTER_CLOCKS_WORDS(PLACES)];
+    const uint8_t tape[SPLITTER_RECORD_BYTES] = {SPLITTER_STEP_RETURN};
+    const uint32_t *marks = factory_marks(&small_card);
+    struct splitter_parallelism report;
+    uint32_t answers[2];
+    const splitter_len len = SPLITTER_CLOCKS_WORDS(PLACES);
+    show(splitter_lent_report(&run.lent, 2, marks, BLOCKS, tape, sizeof tape, answers, 2, clocks, len - 1, &report), SPLITTER_BAD_STATE,
+         "a report's clocks with a word too few");
+    show(checked_report(&run, 2, marks, BLOCKS, tape, sizeof tape, answers, 2, clocks, &report), SPLITTER_NO_SPAN,
+         "a report of a tape that is Main's return");
+    same("return", splitter_answer(answers[0], answers[1]), splitter_answer(SPLITTER_RETURNED, SPLITTER_FINISHED));
+    show(checked_report(&run, 2, marks, BLOCKS, tape, 0, answers, 0, clocks, &report), SPLITTER_NO_SPAN,
+         "a report of a tape without records");
+    printf("    the run goes on, block 3 reads %u\n", splitter_answer_number(checked_read(&run, 0, 3)));
+}
+
 void show_refusals(void) {
     printf("\nRefusals\n");
     refused_starts();
@@ -171,4 +189,5 @@ void show_refusals(void) {
     full_pool();
     full_frames();
     waiting_main();
+    refused_reports();
 }

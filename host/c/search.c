@@ -68,6 +68,7 @@ static void show_all(void) {
     show_smaller_pools();
     show_without_syncs();
     show_larger_card();
+    show_cores();
     show_tape();
     show_refusals();
 }

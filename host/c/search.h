@@ -54,6 +54,9 @@ void get_search(const uint32_t *words, bool told);
 /* One shift: goes on from the newest image in the folder that can be read, into a pool of so many nodes more; saves every third turn. */
 void work_a_shift(const char *folder, unsigned turns, unsigned more);
 
+/* How many cores the searches can keep busy, from reports of their tapes. */
+void show_cores(void);
+
 /* Document 01's example, run as a tape. */
 void show_tape(void);
 

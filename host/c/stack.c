@@ -17,7 +17,8 @@ static const struct splitter_lent lent = {&state, table, FRAMES, pool, NODES * S
 static uint8_t tape[RECORDS * SPLITTER_RECORD_BYTES];
 static uint32_t answers[2 * RECORDS];
 static uint8_t image[SPLITTER_IMAGE_BYTES(FRAMES, NODES)];
-static uint32_t saved, loaded; /* what the calls answered */
+static uint64_t clocks[SPLITTER_CLOCKS_WORDS(FRAMES)];
+static uint32_t saved, loaded, reported; /* what the calls answered */
 static unsigned char stack[1 << 17];
 
 static void start(void) {
@@ -81,7 +82,13 @@ static void tapes(void) {
     splitter_lent_tape(&lent, tape, sizeof tape, answers, 2 * RECORDS);
 }
 
-/* The same steps as records. The rest of the tape stays zero: refused records. */
+static void reports(void) {
+    struct splitter_parallelism report;
+    reported = splitter_lent_report(&lent, 2, values, SPLITTER_MAX_SPLITTERS, tape, sizeof tape, answers, 2 * RECORDS,
+                                    clocks, SPLITTER_CLOCKS_WORDS(FRAMES), &report);
+}
+
+/* The steps down and up as records. The rest of the tape stays zero: refused records. */
 static void write_tape(void) {
     uint8_t *at = tape;
     for (unsigned i = 1; i < FRAMES; i++) {
@@ -95,6 +102,18 @@ static void write_tape(void) {
     for (unsigned i = 0; i < FRAMES; i++) {
         at = splitter_put_record(at, SPLITTER_STEP_RETURN, 0, 0, 0);
     }
+}
+
+/* The chain as records. */
+static void write_chain(void) {
+    uint8_t *at = memset(tape, 0, sizeof tape);
+    for (unsigned i = 1; i < FRAMES; i++) {
+        at = splitter_put_record(at, SPLITTER_STEP_SPAWN, 0, 0, 0);
+        at = splitter_put_record(at, SPLITTER_STEP_WRITE, 0, (uint16_t)(SPLITTER_MAX_SPLITTERS - i), i);
+        at = splitter_put_record(at, SPLITTER_STEP_STEAL, 1, 0, 0);
+        at = splitter_put_record(at, SPLITTER_STEP_RETURN, 1, 0, 0);
+    }
+    splitter_put_record(at, SPLITTER_STEP_RETURN, 0, 0, 0);
 }
 
 /* The bytes of the stack that the function wrote to. */
@@ -134,6 +153,20 @@ static void check_image(void) {
     }
 }
 
+/* Both tapes have a report. */
+static size_t stack_of_reports(void) {
+    size_t most = stack_of(reports);
+    if (reported == SPLITTER_OK) {
+        write_chain();
+        most = larger(most, stack_of(reports));
+    }
+    if (reported != SPLITTER_OK) {
+        printf("surprise: the report answered %u\n", reported);
+        exit(1);
+    }
+    return most;
+}
+
 int main(void) {
     write_tape();
     size_t starts = stack_of(start), stepped = stack_of(steps_down);
@@ -149,8 +182,11 @@ int main(void) {
     start();
     size_t taped = stack_of(tapes);
     check_end();
-    printf("stack: a start takes %zu bytes, a step %zu, a tape %zu, a save %zu, a load %zu\n", starts, stepped, taped, saves, loads);
-    if (larger(larger(starts, stepped), larger(taped, larger(saves, loads))) > SPLITTER_STACK_BYTES) {
+    size_t reporting = stack_of_reports();
+    check_end();
+    printf("stack: a start takes %zu bytes, a step %zu, a tape %zu, a report %zu, a save %zu, a load %zu\n", starts, stepped, taped,
+           reporting, saves, loads);
+    if (larger(larger(starts, stepped), larger(larger(taped, reporting), larger(saves, loads))) > SPLITTER_STACK_BYTES) {
         printf("surprise: splitter.h promises at most %u\n", SPLITTER_STACK_BYTES);
         return 1;
     }

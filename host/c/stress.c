@@ -4,14 +4,15 @@
  * after each call; a refused call or step leaves state, table and pool as they were; a wrong count of holders, a wrong link to a sibling,
  * a total while Main lives and another table length are refused, and so is a part of the state with another length. The views of the
  * frames in deques and the totals are the plain machine's. Runs in tables of any length begin in garbage; they are saved and read back
- * into garbage, and go on as the plain machine of that moment does. */
+ * into garbage, and go on as the plain machine of that moment does. Half of them begin with the report of a tape: its words and the clocks
+ * of all live frames are the plain machine's, and the run goes on. */
 #include <stdio.h>
 #include <stdlib.h>
 #include <string.h>
 
 #include "checked.h"
 
-enum { NODES = 1024, PLACES = SPLITTER_MAX_PLACES, GUARD = 3, STEPS = 300, RECORDS = 20 };
+enum { NODES = 1024, PLACES = SPLITTER_MAX_PLACES, GUARD = 3, STEPS = 300, RECORDS = 20, REPORTED = 600 };
 #define GUARD_WORD 0xdeadbeefu
 
 static struct {
@@ -23,7 +24,8 @@ static struct splitter_state *const state = &guarded.state;
 static struct splitter_state old_state;
 static struct splitter_frame table[PLACES + 1], old_table[PLACES + 1]; /* a record past the longest table stands guard */
 static uint32_t pool[NODES * SPLITTER_NODE_WORDS + GUARD], old_pool[NODES * SPLITTER_NODE_WORDS];
-static uint32_t work[NODES + GUARD], answers[2 * RECORDS + GUARD], values[SPLITTER_MAX_SPLITTERS];
+static uint32_t work[NODES + GUARD], answers[2 * REPORTED + GUARD], values[SPLITTER_MAX_SPLITTERS];
+static uint64_t clocks[SPLITTER_CLOCKS_WORDS(PLACES) + GUARD];
 static struct checked run;
 static uint8_t image[SPLITTER_IMAGE_BYTES(PLACES, NODES) + GUARD], spare[SPLITTER_IMAGE_BYTES(PLACES, NODES)];
 static size_t image_len;         /* of the run's last save, or 0 */
@@ -34,6 +36,7 @@ static unsigned long chains[SPLITTER_WAITS + 1];   /* of those by which more tha
 static unsigned long siblings; /* runs in which a frame had three live children or more at some time */
 static unsigned long totals;   /* runs whose totals were compared */
 static unsigned long full;     /* runs with a full table of more than 64 places */
+static unsigned long reports;  /* tapes that Main's return ended, with a report */
 
 static uint32_t seed;
 
@@ -395,6 +398,69 @@ static void fill_table(void) {
     full += run.plain.places > 64;
 }
 
+/* The clocks of a live frame and of all above it, in the library's places and in the plain machine's. */
+static void check_clocks_upward(unsigned place, unsigned plain_place) {
+    for (;;) {
+        const struct plain_frame *wanted = &run.plain.frames[plain_place];
+        same("clock", clocks[2 * place], wanted->clock);
+        same("latest of the ended children's", clocks[2 * place + 1], wanted->latest);
+        if (wanted->depth == 0) {
+            return;
+        }
+        place = table[place].parent;
+        plain_place = wanted->parent;
+    }
+}
+
+/* Every live frame is the bottom of a deque, or above one. */
+static void check_clocks(void) {
+    for (unsigned worker = 0; worker < run.plain.workers; worker++) {
+        if (run.plain.lengths[worker] > 0) {
+            unsigned bottom = run.plain.lengths[worker];
+            check_clocks_upward(state->deques[worker * (1 + SPLITTER_DEQUE_PLACES) + bottom], run.plain.deques[worker][bottom - 1]);
+        }
+    }
+    for (unsigned i = 0; i < GUARD; i++) {
+        same("word past the clocks", clocks[2 * run.lent.places + i], GUARD_WORD);
+    }
+}
+
+/* Steps that suit the plain machine, up to Main's return in half of the tapes; the bytes of their records. */
+static size_t any_long_tape(uint8_t *tape) {
+    const unsigned steps = any(REPORTED / 2), homeward = any(2);
+    uint8_t *at = tape;
+    for (unsigned i = 0; i < REPORTED && run.plain.live > 0 && (i < steps || homeward); i++) {
+        struct step s = any_step(), home = {SPLITTER_STEP_RETURN, i % run.plain.workers, 0, 0};
+        s = i < steps ? s : home;
+        plain_step(&run.plain, s.kind, s.worker, s.field, s.value);
+        at = splitter_put_record(at, (uint8_t)s.kind, (uint8_t)s.worker, (uint16_t)s.field, s.value);
+    }
+    return (size_t)(at - tape);
+}
+
+/* The run begins with a report, and goes on from what that left. */
+static void stress_report(unsigned workers, unsigned n) {
+    static uint8_t tape[REPORTED * SPLITTER_RECORD_BYTES];
+    struct splitter_parallelism report;
+    same("start", plain_start(&run.plain, workers, values, n, run.lent.places, run.lent.pool_len / SPLITTER_NODE_WORDS), SPLITTER_OK);
+    const size_t len = any_long_tape(tape), words = 2 * len / SPLITTER_RECORD_BYTES;
+    soil_work();
+    guard(answers + words);
+    for (size_t i = 0; i < sizeof clocks / sizeof clocks[0]; i++) {
+        clocks[i] = GUARD_WORD;
+    }
+    uint32_t result = checked_report(&run, workers, values, n, tape, len, answers, words, clocks, &report);
+    check_guard(answers + words, "words past the answers changed");
+    check_memory();
+    check_clocks();
+    check_views();
+    counts[SPLITTER_NO_SPAN] += result == SPLITTER_NO_SPAN;
+    reports += result == SPLITTER_OK;
+    for (size_t i = 0; i < words; i += 2) {
+        counts[answers[i]] += 1;
+    }
+}
+
 static void stress_run(void) {
     unsigned n = 1 + any(any(4) == 0 ? SPLITTER_MAX_SPLITTERS : 20);
     unsigned tree = (unsigned)splitter_tree_nodes(n);
@@ -414,9 +480,13 @@ static void stress_run(void) {
     guard(pool + nodes * SPLITTER_NODE_WORDS);
     guard(work + lent.work_len);
     stress_refused_start(n);
-    same("start", checked_start(&run, 1 + any(SPLITTER_MAX_WORKERS), values, n), SPLITTER_OK);
-    if (any(8) == 0) {
-        fill_table();
+    if (any(2) == 0) {
+        stress_report(1 + any(SPLITTER_MAX_WORKERS), n);
+    } else {
+        same("start", checked_start(&run, 1 + any(SPLITTER_MAX_WORKERS), values, n), SPLITTER_OK);
+        if (any(4) == 0) {
+            fill_table();
+        }
     }
     unsigned most = 0;
     for (unsigned i = 0; i < STEPS && run.plain.live > 0; i++) {
@@ -447,8 +517,8 @@ static void check_outcomes(void) {
             exit(1);
         }
     }
-    if (siblings == 0 || totals == 0 || full == 0) {
-        surprise("no run had three live siblings, more than 64 frames or an end");
+    if (siblings == 0 || totals == 0 || full == 0 || reports == 0) {
+        surprise("no run had three live siblings, more than 64 frames, an end or a report");
     }
 }
 
@@ -456,7 +526,7 @@ static void check_outcomes(void) {
 static unsigned long count_answers(void) {
     unsigned long sum = 0;
     for (uint32_t kind = SPLITTER_SHORT_WORK; kind <= SPLITTER_FOLDED; kind++) {
-        int comes = (kind <= SPLITTER_BAD_PLACE_COUNT && kind != 14) || kind == SPLITTER_BAD_STATE || kind >= SPLITTER_SPAWNED;
+        int comes = (kind <= SPLITTER_NO_SPAN && kind != 14) || kind == SPLITTER_BAD_STATE || kind >= SPLITTER_SPAWNED;
         if (comes && counts[kind] == 0) {
             printf("never answered: %u (%s)\n", kind, splitter_name(kind));
             exit(1);
@@ -473,7 +543,7 @@ int main(int argc, char **argv) {
         stress_run();
     }
     printf("stress: %lu random runs, %lu answers, each as the plain machine gives it; three live siblings in %lu runs, totals of %lu, full "
-           "tables of more than 64 places in %lu\n", runs, count_answers(), siblings, totals, full);
+           "tables of more than 64 places in %lu, reports of %lu\n", runs, count_answers(), siblings, totals, full, reports);
     check_outcomes();
     return 0;
 }

@@ -2,12 +2,13 @@
  * docs/FORMATS.md has the bytes of tapes and images, the state's words, and every refusal with its condition, in order.
  *
  * The library keeps nothing between calls, allocates nothing and calls no system function: all it reads and writes is the memory
- * that a call lends. A slice is a pointer and its length in elements (words of 32 bits, frame records, or bytes). The slices of one call
- * must not overlap. One call at a time may use a state, its table and its pool: locking is the host's.
+ * that a call lends. A slice is a pointer and its length in elements (words of 32 bits, frame records, bytes, or the words of 64 bits of
+ * clocks and report). The slices of one call must not overlap. One call at a time may use a state, its table and its pool: locking is the
+ * host's.
  *
  * NULL: the exported functions take none, also not with length 0, and a pointer is aligned for its elements. The calls over struct
  * splitter_state and struct splitter_lent take NULL for an empty slice: a call that needs more is refused, whatever length was given
- * (values 1, table 21 or 6, pool 3 or 6, answers and tape 4, work 5, image 17, target 19). State and struct must be there.
+ * (values 1, table 21 or 6, pool 3 or 6, answers and tape 4, work 5, image 17, target 19, clocks 99). State and structs must be there.
  *
  * Memory to lend, and its owner is always the host:
  *   state     two slices, the members of struct splitter_state: numbers, deques; 8,264 bytes. A call changes them in place; what they hold
@@ -22,11 +23,15 @@
  *   answers   two words for each record of a tape.
  *   target    the bytes of an image, to save a run in: splitter_image_bytes(places, nodes), SPLITTER_IMAGE_BYTES(places, nodes) for an
  *             array.
+ *   clocks    for splitter_report only: two words of 64 bits for each place of the table, SPLITTER_CLOCKS_WORDS(places) for an array.
+ *             16 bytes a place, 1 KiB for 64, 4 KiB for 256. It takes them whatever they hold; no other call needs them.
+ *   report    for splitter_report only: four words of 64 bits, or a struct splitter_parallelism. Clocks and report must have just their
+ *             length, as the parts of the state.
  *
- * Order of calls: splitter_start or splitter_load, then any of splitter_step, splitter_tape and splitter_save, each with the state, the
- * table and the pool as the call before left them. Every call checks what it is handed: what is not sound is refused (SPLITTER_UNSOUND),
- * not used, and so is a table of another length than recorded. A foreign change that leaves all sound, such as another value in a leaf,
- * cannot be seen.
+ * Order of calls: splitter_start, splitter_load or splitter_report, then any of splitter_step, splitter_tape and splitter_save, each with
+ * the state, the table and the pool as the call before left them. Every call but the first three checks what it is handed: what is not
+ * sound is refused (SPLITTER_UNSOUND), not used, and so is a table of another length than recorded. A foreign change that leaves all
+ * sound, such as another value in a leaf, cannot be seen.
  *
  * A return with a live child is no mistake: the frame waits for its children and ends when the last of them ends (SPLITTER_WAITS). So a
  * frame that has nothing to do after its children needs no sync.
@@ -34,6 +39,13 @@
  * Three reducers add up what all frames find: a sum, a minimum, and an affine map (SPLITTER_REDUCER_SUM to SPLITTER_REDUCER_AFFINE). A
  * fold takes a value into one of them. Nobody reads a reducer while Main lives. Once Main has returned, splitter_get_totals gives the
  * totals: the values folded by all frames, in the order in which one worker would have folded them, whatever was stolen.
+ *
+ * How parallel was a search? splitter_report runs its tape from a start and tells work and span. Each accepted spawn, sync, read, write
+ * and fold costs 1, returns and steals cost 0. The work is the sum of these costs: the time of one core. The span is Main's clock at its
+ * return: the time with as many cores as can be of use. A child's clock begins at its parent's after the spawn. A sync takes its frame's
+ * clock to the latest of its own and its ended children's, when it passes, and adds 1; a return waits likewise and adds nothing. Work
+ * divided by span is how many cores the search can keep busy, on average. Two tapes in which the frames take the same steps give the
+ * same pair, however many workers there were and whatever was stolen.
  *
  * An image is a whole run between two calls: its state, its table and its pool's nodes, the same bytes on every machine. splitter_load goes
  * on from it, in another process or on another day, as at the save, in a table of as many places; what came after the save is forgotten.
@@ -43,7 +55,7 @@
  * (docs/INTEGRATION.md, host/c/kept.c). A save writes version 3: the workers plus 768 in the first word, and as many records and deque
  * places as the table has. A reading takes no other: images from before, of versions 0 to 2, are refused by SPLITTER_BAD_BLOCKS.
  *
- * The eight functions are the library. Below them are inline helpers: the same calls over struct splitter_state and over struct
+ * The nine functions are the library. Below them are inline helpers: the same calls over struct splitter_state and over struct
  * splitter_lent, a call for each kind of step, queries, records, texts. A host needs no others than those over struct splitter_lent.
  */
 #ifndef SPLITTER_H
@@ -61,7 +73,7 @@ extern "C" {
  * something is added; while the major number is 0, nothing is released and any of them may change anything. The archive has no number:
  * link the one that came with this header. The form of images is counted apart, by SPLITTER_IMAGE_VERSION. */
 #define SPLITTER_VERSION_MAJOR 0u
-#define SPLITTER_VERSION_MINOR 1u
+#define SPLITTER_VERSION_MINOR 2u
 #define SPLITTER_VERSION (SPLITTER_VERSION_MAJOR * 1000u + SPLITTER_VERSION_MINOR)
 
 /* The length of a slice: 64 bits on every machine, also where size_t has 32. */
@@ -91,6 +103,7 @@ typedef uint64_t splitter_len;
 #define SPLITTER_BLOCK_BYTES 512u       /* of an image: data, then a check of 4 bytes */
 #define SPLITTER_BLOCK_WORDS 127u       /* of a block's data */
 #define SPLITTER_IMAGE_VERSION 768u     /* added to the workers in an image's first word */
+#define SPLITTER_REPORT_WORDS 4u        /* of 64 bits: struct splitter_parallelism */
 #define SPLITTER_STACK_BYTES 2048u      /* a call takes at most this much stack; measured (host/c/stack.c, make cross-test) */
 
 /* splitter_image_bytes as a constant, to size an array: for 0 to SPLITTER_MAX_PLACES places and 0 to SPLITTER_MAX_NODES nodes. */
@@ -99,6 +112,9 @@ typedef uint64_t splitter_len;
      + SPLITTER_NODE_WORDS * (size_t)(nodes))
 #define SPLITTER_IMAGE_BYTES(places, nodes) \
     ((SPLITTER_IMAGE_WORDS(places, nodes) + SPLITTER_BLOCK_WORDS - 1u) / SPLITTER_BLOCK_WORDS * SPLITTER_BLOCK_BYTES)
+
+/* The words of 64 bits that a report's clocks have, as a constant: two for each place of the table. */
+#define SPLITTER_CLOCKS_WORDS(places) ((size_t)2u * (size_t)(places))
 
 /* The state of a run. The calls write it; a host may read and copy it, together with its table and its pool. */
 struct splitter_state {
@@ -120,6 +136,14 @@ struct splitter_frame {
     uint32_t view_multiplier;
     uint32_t view_addend;
     uint32_t younger;         /* the place of the next younger live child of the same parent, or none */
+};
+
+/* What a report tells, in the order of its words. (In C++ a struct splitter_report would be hidden by the function.) */
+struct splitter_parallelism {
+    uint64_t work;      /* the accepted spawns, syncs, reads, writes and folds of the tape */
+    uint64_t span;      /* Main's clock at its return; not 0, and at most the work */
+    uint64_t quotient;  /* work divided by span, rounded down */
+    uint64_t remainder; /* work less quotient times span, below the span */
 };
 
 /* The places of the numbers. None is SPLITTER_NONE. */
@@ -184,15 +208,16 @@ enum {
 };
 
 /* Refusals, all below 100. Of a whole call: nothing has changed but the work slice's words (zero), the state after a start refused by 1, 2,
- * 21 or 3 and after a reading refused by 17, 18, 5 or 6 (zeros), and every record of the lent table and the pool's whole nodes after a
- * reading refused by 6 (zeros). */
+ * 21 or 3, after a report refused by 1, 2, 21, 3, 4 or 5 and after a reading refused by 17, 18, 5 or 6 (zeros), and every record of the
+ * lent table and the pool's whole nodes after a reading refused by 6 (zeros). But by 22 the tape of a report has run. */
 enum {
-    SPLITTER_BAD_VALUE_COUNT = 1,      /* start: 0 or more than 256 initial values */
-    SPLITTER_BAD_WORKER_COUNT = 2,     /* start: 0 or more than 8 workers */
-    SPLITTER_BAD_PLACE_COUNT = 21,     /* start: the table has 0 or more than 256 places; after 2 */
-    SPLITTER_BAD_NODE_COUNT = 3,       /* start: the pool has fewer than T(n) or more than 16,384 nodes */
-    SPLITTER_BAD_TAPE = 4,             /* tape: not a multiple of 8 bytes, or fewer than two answer words for each record */
-    SPLITTER_SHORT_WORK = 5,           /* the work slice has fewer words than the state's nodes, or than the image's */
+    SPLITTER_BAD_VALUE_COUNT = 1,      /* start, report: 0 or more than 256 initial values */
+    SPLITTER_BAD_WORKER_COUNT = 2,     /* start, report: 0 or more than 8 workers */
+    SPLITTER_BAD_PLACE_COUNT = 21,     /* start, report: the table has 0 or more than 256 places; after 2 */
+    SPLITTER_BAD_NODE_COUNT = 3,       /* start, report: the pool has fewer than T(n) or more than 16,384 nodes */
+    SPLITTER_BAD_TAPE = 4,             /* tape, report: not a multiple of 8 bytes, or fewer than two answer words for each record */
+    SPLITTER_SHORT_WORK = 5,           /* the work slice has fewer words than the state's nodes; a report: than the pool's; a reading: than
+                                        * the image's */
     SPLITTER_UNSOUND = 6,              /* state, table and pool are not sound, or the image's are not; the table has another length than
                                         * recorded; a reading: the pool has fewer nodes than the image */
     /* Of one step or record: state, table and pool are as they were. */
@@ -212,7 +237,10 @@ enum {
                                         * its first word is not 768 to 1,023: a version that this library does not read */
     SPLITTER_BAD_CHECK = 18,           /* a check is wrong or the rest of the last block is not zero */
     SPLITTER_SHORT_TARGET = 19,        /* the target is too short */
-    /* Of the interface, before all others: a part of the state has another length than it must have; nothing at all has changed. */
+    /* Of a report, known when its tape has run: only the report is withheld. State, table, pool, work, answers and clocks are the run's. */
+    SPLITTER_NO_SPAN = 22,             /* Main has not returned, or the span is 0 */
+    /* Of the interface, before all others: a part of the state, the clocks or the report have another length than they must have; nothing
+     * at all has changed. */
     SPLITTER_BAD_STATE = 99
 };
 
@@ -244,6 +272,25 @@ uint32_t splitter_tape(uint32_t *SPLITTER_RESTRICT numbers, splitter_len numbers
                        uint32_t *SPLITTER_RESTRICT work, splitter_len work_len,
                        const uint8_t *SPLITTER_RESTRICT tape, splitter_len tape_len,
                        uint32_t *SPLITTER_RESTRICT answers, splitter_len answers_len);
+
+/* A start, one tape from it, and the report of this run: what splitter_start and then splitter_tape leave and answer, whatever state,
+ * table and pool hold; then work, span, quotient and remainder in the report. clocks has just SPLITTER_CLOCKS_WORDS(places) words, report
+ * just SPLITTER_REPORT_WORDS. SPLITTER_OK, or a refusal: 99, 1, 2, 21, 3, 4, 5, 22. Refused by 99 nothing has changed. Refused by 1 to 5 or
+ * 21 no step was taken: the state is zero, all else is as it was. Refused by 22 the tape has run, and only the report's words are as they
+ * were; the run may go on, but no later call reports it. After a run, with 0 or 22, the clocks have two words for each place: of the frame
+ * that has it, or was the last to have it, its clock and the latest of its ended children's (of one that has ended, as they were before the
+ * return that ended it); zeros where no frame ever was. */
+uint32_t splitter_report(uint32_t *SPLITTER_RESTRICT numbers, splitter_len numbers_len,
+                         uint32_t *SPLITTER_RESTRICT deques, splitter_len deques_len,
+                         struct splitter_frame *SPLITTER_RESTRICT frames, splitter_len places,
+                         uint32_t workers,
+                         const uint32_t *SPLITTER_RESTRICT values, splitter_len values_len,
+                         uint32_t *SPLITTER_RESTRICT pool, splitter_len pool_len,
+                         uint32_t *SPLITTER_RESTRICT work, splitter_len work_len,
+                         const uint8_t *SPLITTER_RESTRICT tape, splitter_len tape_len,
+                         uint32_t *SPLITTER_RESTRICT answers, splitter_len answers_len,
+                         uint64_t *SPLITTER_RESTRICT clocks, splitter_len clocks_len,
+                         uint64_t *SPLITTER_RESTRICT report, splitter_len report_len);
 
 /* Saves the run: its image, of version 3, in the front of the target. State, table and pool are only read. SPLITTER_OK, or a refusal: 99,
  * 5, 6, 19; then nothing has changed but the work slice. Target bytes past the image never change. */
@@ -292,7 +339,7 @@ static inline uint64_t splitter_answer(uint32_t kind, uint32_t number) {
     return (uint64_t)number << 32 | kind;
 }
 
-/* Is this number a refusal? For the result of a start, a tape, a save or a reading, and for a first answer word. */
+/* Is this number a refusal? For the result of a start, a tape, a report, a save or a reading, and for a first answer word. */
 static inline bool splitter_refused(uint32_t number) {
     return number != SPLITTER_OK && number < 100;
 }
@@ -307,7 +354,7 @@ static inline splitter_len splitter_slice_len(const void *slice, splitter_len le
     return slice != NULL ? len : 0;
 }
 
-/* The calls over a whole state: SPLITTER_BAD_STATE never comes. The library is handed an address also of an empty slice. */
+/* The calls over a whole state: SPLITTER_BAD_STATE never comes, but for clocks. The library is handed an address also of an empty slice. */
 static inline uint32_t splitter_state_start(struct splitter_state *state, struct splitter_frame *frames, splitter_len places,
                                             uint32_t workers, const uint32_t *values, splitter_len values_len,
                                             uint32_t *pool, splitter_len pool_len) {
@@ -347,6 +394,35 @@ static inline uint32_t splitter_state_tape(struct splitter_state *state, struct 
                          work != NULL ? work : &word, splitter_slice_len(work, work_len),
                          tape != NULL ? tape : &byte, splitter_slice_len(tape, tape_len),
                          answers != NULL ? answers : &word, splitter_slice_len(answers, answers_len));
+}
+
+/* Writes the report only if it is SPLITTER_OK. Without a table there are no clocks to count: it is refused by 21, after 1 and 2. */
+static inline uint32_t splitter_state_report(struct splitter_state *state, struct splitter_frame *frames, splitter_len places,
+                                             uint32_t workers, const uint32_t *values, splitter_len values_len,
+                                             uint32_t *pool, splitter_len pool_len,
+                                             uint32_t *work, splitter_len work_len,
+                                             const uint8_t *tape, splitter_len tape_len, uint32_t *answers, splitter_len answers_len,
+                                             uint64_t *clocks, splitter_len clocks_len, struct splitter_parallelism *report) {
+    struct splitter_frame record = {0, 0, 0, 0, 0, 0, 0, 0, 0, 0, 0, 0};
+    uint64_t words[SPLITTER_REPORT_WORDS] = {0, 0, 0, 0}, clock = 0;
+    uint32_t word = 0, result;
+    uint8_t byte = 0;
+    result = splitter_report(state->numbers, SPLITTER_NUMBERS_WORDS, state->deques, SPLITTER_DEQUES_WORDS,
+                             frames != NULL ? frames : &record, splitter_slice_len(frames, places), workers,
+                             values != NULL ? values : &word, splitter_slice_len(values, values_len),
+                             pool != NULL ? pool : &word, splitter_slice_len(pool, pool_len),
+                             work != NULL ? work : &word, splitter_slice_len(work, work_len),
+                             tape != NULL ? tape : &byte, tape != NULL || tape_len == 0 ? tape_len : 1, /* a byte is no record: 4 */
+                             answers != NULL ? answers : &word, splitter_slice_len(answers, answers_len),
+                             clocks != NULL ? clocks : &clock, frames != NULL ? splitter_slice_len(clocks, clocks_len) : 0,
+                             words, SPLITTER_REPORT_WORDS);
+    if (result == SPLITTER_OK) {
+        report->work = words[0];
+        report->span = words[1];
+        report->quotient = words[2];
+        report->remainder = words[3];
+    }
+    return result;
 }
 
 static inline uint32_t splitter_state_save(const struct splitter_state *state, const struct splitter_frame *frames, splitter_len places,
@@ -407,6 +483,14 @@ static inline uint32_t splitter_lent_tape(const struct splitter_lent *lent, cons
                                           uint32_t *answers, splitter_len answers_len) {
     return splitter_state_tape(lent->state, lent->frames, lent->places, lent->pool, lent->pool_len, lent->work, lent->work_len,
                                tape, tape_len, answers, answers_len);
+}
+
+static inline uint32_t splitter_lent_report(const struct splitter_lent *lent, uint32_t workers,
+                                            const uint32_t *values, splitter_len values_len,
+                                            const uint8_t *tape, splitter_len tape_len, uint32_t *answers, splitter_len answers_len,
+                                            uint64_t *clocks, splitter_len clocks_len, struct splitter_parallelism *report) {
+    return splitter_state_report(lent->state, lent->frames, lent->places, workers, values, values_len, lent->pool, lent->pool_len,
+                                 lent->work, lent->work_len, tape, tape_len, answers, answers_len, clocks, clocks_len, report);
 }
 
 static inline uint32_t splitter_lent_save(const struct splitter_lent *lent, uint8_t *target, splitter_len target_len) {
@@ -613,7 +697,8 @@ static inline const char *splitter_name(uint32_t number) {
     case SPLITTER_BAD_BLOCKS: return "the image is not just as many whole blocks as it calls for, or of no readable form";
     case SPLITTER_BAD_CHECK: return "a check is wrong or the rest of the last block is not zero";
     case SPLITTER_SHORT_TARGET: return "the target is too short";
-    case SPLITTER_BAD_STATE: return "a part of the state has another length than it must have";
+    case SPLITTER_NO_SPAN: return "Main has not returned, or the span is 0";
+    case SPLITTER_BAD_STATE: return "state, clocks or report have another length than they must have";
     default: return "unknown number";
     }
 }

@@ -52,7 +52,7 @@ pub enum Refusal {
     BadPlaceCount,
     /// At a start, a pool of fewer than T(n) or more than 16,384 nodes.
     BadNodeCount,
-    /// A tape that is not a multiple of 8 bytes, or fewer than two answer words for each record.
+    /// A tape, or that of a report, that is not a multiple of 8 bytes, or fewer than two answer words for each record.
     BadTape,
     /// Fewer words in the work slice than nodes in the state or the image.
     ShortWork,
@@ -88,8 +88,11 @@ pub enum Refusal {
     BadCheck,
     /// A target shorter than the image.
     ShortTarget,
-    /// A part of the state has another length than it must have. No [`State`](crate::State) has such
-    /// a part.
+    /// A report whose Main has not returned, or whose span is 0. The tape has run, and the run is there; only the
+    /// report is withheld.
+    NoSpan,
+    /// A part of the state, or the clocks of a report, have another length than they must have. No
+    /// [`State`](crate::State) has such a part.
     BadState,
     /// An answer that this binding does not know, with its first word: the archive is of another version.
     Unknown(u32),
@@ -99,7 +102,7 @@ pub enum Refusal {
 pub type Answer = Result<Done, Refusal>;
 
 /// The known refusals, with their numbers and texts.
-const REFUSALS: [(Refusal, u32, &str); 21] = [
+const REFUSALS: [(Refusal, u32, &str); 22] = [
     (Refusal::BadValueCount, 1, "0 or more than 256 initial values"),
     (Refusal::BadWorkerCount, 2, "0 or more than 8 workers"),
     (Refusal::BadNodeCount, 3, "too few or too many nodes in the pool"),
@@ -120,7 +123,8 @@ const REFUSALS: [(Refusal, u32, &str); 21] = [
     (Refusal::ShortTarget, 19, "the target is too short"),
     (Refusal::UnknownReducer, 20, "no such reducer"),
     (Refusal::BadPlaceCount, 21, "0 or more than 256 places in the frame table"),
-    (Refusal::BadState, 99, "a part of the state has another length than it must have"),
+    (Refusal::NoSpan, 22, "Main has not returned, or the span is 0"),
+    (Refusal::BadState, 99, "state, clocks or report have another length than they must have"),
 ];
 
 impl Refusal {

@@ -80,6 +80,29 @@
 //! # Ok::<(), splitter::Refusal>(())
 //! ```
 //!
+//! A report of a tape tells how many cores the search can keep busy:
+//!
+//! ```
+//! use splitter::{clocks_words, Engine, Frame, Report, State, Step, NODE_WORDS};
+//!
+//! let (mut state, mut table) = (State::ZERO, [Frame::ZERO; 64]);
+//! let (mut pool, mut work) = ([0; 20 * NODE_WORDS], [0; 20]);
+//! let mut engine = Engine { state: &mut state, frames: &mut table, pool: &mut pool, work: &mut work };
+//! let steps = [
+//!     Step::Spawn { worker: 0 },
+//!     Step::Read { worker: 0, splitter: 4 }, // the child
+//!     Step::Return { worker: 0 },
+//!     Step::Read { worker: 0, splitter: 4 }, // Main, which does not wait for it
+//!     Step::Read { worker: 0, splitter: 3 },
+//!     Step::Return { worker: 0 },
+//! ];
+//! let (mut answers, mut clocks) = ([0; 2 * 6], [0; clocks_words(64)]);
+//! let tape = steps.map(Step::to_bytes).concat();
+//! let report = engine.report(1, &[10, 20, 30, 40, 50], &tape, &mut answers, &mut clocks)?;
+//! assert_eq!(report, Report { work: 4, span: 3, quotient: 1, remainder: 1 }); // 1 and 1/3 cores
+//! # Ok::<(), splitter::Refusal>(())
+//! ```
+//!
 //! A run can be saved as an image and read back, in another process too:
 //!
 //! ```
@@ -106,18 +129,20 @@
 mod answer;
 mod frame;
 pub mod raw;
+mod report;
 mod state;
 mod step;
 
 pub use answer::{answer, answers, Answer, Done, Refusal, Returned, Synced};
 pub use frame::Frame;
+pub use report::Report;
 pub use state::{State, Totals};
 pub use step::{affine, Reducer, Step};
 
 /// The version of splitter.h that this binding follows; the package has the same.
 pub const VERSION_MAJOR: u32 = 0;
 /// Its minor number.
-pub const VERSION_MINOR: u32 = 1;
+pub const VERSION_MINOR: u32 = 2;
 /// Both, to compare.
 pub const VERSION: u32 = VERSION_MAJOR * 1000 + VERSION_MINOR;
 
@@ -158,6 +183,11 @@ pub fn image_bytes(places: u32, nodes: u32) -> u64 {
 pub const fn image_array_bytes(places: usize, nodes: usize) -> usize {
     let words = NUMBERS_WORDS + MAX_WORKERS * (1 + places) + Frame::WORDS * places + NODE_WORDS * nodes;
     words.div_ceil(BLOCK_WORDS) * BLOCK_BYTES
+}
+
+/// The words, 64 bits each, that the clocks of a report have: two for each place of the table.
+pub const fn clocks_words(places: usize) -> usize {
+    2 * places
 }
 
 /// T(n): the nodes that one full view of n splitters takes, the least that a pool can have.
@@ -268,6 +298,25 @@ impl Engine<'_> {
     /// refused record does not stop the tape.
     pub fn tape(&mut self, tape: &[u8], answers: &mut [u32]) -> Result<(), Refusal> {
         call(raw::tape(self.state.parts(), self.frames, self.pool, self.work, tape, answers))
+    }
+
+    /// Begins a run as [`Engine::start`] does, runs a tape as [`Engine::tape`] does, and reports its work and span.
+    /// The clocks are just [`clocks_words`] of the table's places, whatever they hold. Refused by
+    /// [`Refusal::NoSpan`] the tape has run, and the run may go on. Refused by another, no step was taken, and the
+    /// state is [`State::ZERO`], or, by [`Refusal::BadState`], as it was.
+    pub fn report(
+        &mut self,
+        workers: u32,
+        values: &[u32],
+        tape: &[u8],
+        answers: &mut [u32],
+        clocks: &mut [u64],
+    ) -> Result<Report, Refusal> {
+        let mut words = [0; Report::WORDS];
+        let asked = raw::Asked { workers, values, tape };
+        let told = raw::Told { answers, clocks, report: &mut words };
+        call(raw::report(self.state.parts(), self.frames, self.pool, self.work, asked, told))?;
+        Ok(Report::from_words(words))
     }
 
     /// Saves the run: its image, [`image_bytes`] of its places and nodes, in the front of the target. The bytes past

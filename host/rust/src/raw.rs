@@ -1,4 +1,4 @@
-//! The library's eight functions, over slices of any length and with their numbers: for tests and
+//! The library's nine functions, over slices of any length and with their numbers: for tests and
 //! measurements. A product needs only [`Engine`](crate::Engine). The C functions are declared here and
 //! nowhere else in Rust.
 //!
@@ -61,6 +61,30 @@ mod c {
             tape_len: Len,
             answers: *mut u32,
             answers_len: Len,
+        ) -> u32;
+
+        pub fn splitter_report(
+            numbers: *mut u32,
+            numbers_len: Len,
+            deques: *mut u32,
+            deques_len: Len,
+            frames: *mut Frame,
+            places: Len,
+            workers: u32,
+            values: *const u32,
+            values_len: Len,
+            pool: *mut u32,
+            pool_len: Len,
+            work: *mut u32,
+            work_len: Len,
+            tape: *const u8,
+            tape_len: Len,
+            answers: *mut u32,
+            answers_len: Len,
+            clocks: *mut u64,
+            clocks_len: Len,
+            report: *mut u64,
+            report_len: Len,
         ) -> u32;
 
         pub fn splitter_save(
@@ -183,6 +207,52 @@ pub fn tape(
             len(tape),
             answers.as_mut_ptr(),
             len(answers),
+        )
+    }
+}
+
+/// What a report is asked: a start's workers and values, and the tape.
+#[derive(Clone, Copy)]
+pub struct Asked<'a> {
+    pub workers: u32,
+    pub values: &'a [u32],
+    pub tape: &'a [u8],
+}
+
+/// What a report writes beside state, table, pool and work. Clocks of another length than two words for each place, and
+/// a report of another length than four, are refused by 99.
+pub struct Told<'a> {
+    pub answers: &'a mut [u32],
+    pub clocks: &'a mut [u64],
+    pub report: &'a mut [u64],
+}
+
+/// 0, with work, span, quotient and remainder in the report, or a refusal; by 22 the tape has run.
+pub fn report(state: Parts, frames: &mut [Frame], pool: &mut [u32], work: &mut [u32], asked: Asked, told: Told) -> u32 {
+    // SAFETY: each pointer and length is a borrowed slice's.
+    unsafe {
+        c::splitter_report(
+            state.numbers.as_mut_ptr(),
+            len(state.numbers),
+            state.deques.as_mut_ptr(),
+            len(state.deques),
+            frames.as_mut_ptr(),
+            len(frames),
+            asked.workers,
+            asked.values.as_ptr(),
+            len(asked.values),
+            pool.as_mut_ptr(),
+            len(pool),
+            work.as_mut_ptr(),
+            len(work),
+            asked.tape.as_ptr(),
+            len(asked.tape),
+            told.answers.as_mut_ptr(),
+            len(told.answers),
+            told.clocks.as_mut_ptr(),
+            len(told.clocks),
+            told.report.as_mut_ptr(),
+            len(told.report),
         )
     }
 }

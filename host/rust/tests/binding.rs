@@ -1,17 +1,17 @@
 //! The binding's numbers, and document 01's example through it.
 
 use splitter::{
-    affine, answer, answers, raw, tree_nodes, Done, Engine, Frame, Reducer, Refusal, Returned, State, Step, Synced,
-    Totals,
+    affine, answer, answers, raw, tree_nodes, Done, Engine, Frame, Reducer, Refusal, Report, Returned, State, Step,
+    Synced, Totals,
 };
-use splitter::{image_array_bytes, image_bytes, BLOCK_BYTES, BLOCK_WORDS, IMAGE_VERSION, NONE};
+use splitter::{clocks_words, image_array_bytes, image_bytes, BLOCK_BYTES, BLOCK_WORDS, IMAGE_VERSION, NONE};
 use splitter::{DEQUES_WORDS, DEQUE_PLACES, NODE_WORDS, NUMBERS_WORDS};
 use splitter::{MAX_NODES, MAX_PLACES, MAX_SPLITTERS, MAX_WORKERS, REDUCERS};
 use splitter::{VERSION, VERSION_MAJOR, VERSION_MINOR};
 use std::mem::{offset_of, size_of};
 
 /// The numbers of the refusals; 14 was one before R-3.
-const REFUSALS: [u32; 21] = [1, 2, 3, 4, 5, 6, 7, 8, 9, 10, 11, 12, 13, 15, 16, 17, 18, 19, 20, 21, 99];
+const REFUSALS: [u32; 22] = [1, 2, 3, 4, 5, 6, 7, 8, 9, 10, 11, 12, 13, 15, 16, 17, 18, 19, 20, 21, 22, 99];
 
 #[test]
 fn refusals_keep_their_numbers() {
@@ -96,6 +96,7 @@ fn the_header_has_the_same_sizes() {
         ("MAX_PLACES", MAX_PLACES),
         ("REDUCERS", REDUCERS),
         ("RECORD_BYTES", Step::RECORD_BYTES),
+        ("REPORT_WORDS", Report::WORDS),
         ("BLOCK_BYTES", BLOCK_BYTES),
         ("BLOCK_WORDS", BLOCK_WORDS),
         ("IMAGE_VERSION", IMAGE_VERSION as usize),
@@ -112,7 +113,7 @@ fn the_package_has_the_same_version() {
     assert_eq!(env!("CARGO_PKG_VERSION_MAJOR"), VERSION_MAJOR.to_string());
     assert_eq!(env!("CARGO_PKG_VERSION_MINOR"), VERSION_MINOR.to_string());
     assert!(HEADER.contains("#define SPLITTER_VERSION (SPLITTER_VERSION_MAJOR * 1000u + SPLITTER_VERSION_MINOR)"));
-    assert_eq!(VERSION, 1);
+    assert_eq!(VERSION, 2);
 }
 
 /// As in the header, the parts lie one after the other.
@@ -123,11 +124,11 @@ fn the_state_is_laid_out_as_in_c() {
     assert_eq!(size_of::<State>(), 4 * (NUMBERS_WORDS + DEQUES_WORDS));
 }
 
-/// The fields of `struct splitter_frame`, in the header's order.
-fn header_fields() -> Vec<&'static str> {
-    let body = HEADER.split_once("struct splitter_frame {").and_then(|(_, after)| after.split_once("};"));
+/// The fields of a struct, all of one type, in the header's order.
+fn header_fields(name: &str, of_type: &str) -> Vec<&'static str> {
+    let body = HEADER.split_once(&format!("struct {name} {{")).and_then(|(_, after)| after.split_once("};"));
     let lines = body.expect("a struct of the header").0.lines();
-    lines.filter_map(|line| line.trim().strip_prefix("uint32_t ")?.split_once(';').map(|(name, _)| name)).collect()
+    lines.filter_map(|line| line.trim().strip_prefix(of_type)?.trim().split_once(';').map(|(name, _)| name)).collect()
 }
 
 #[test]
@@ -136,12 +137,24 @@ fn a_frame_is_laid_out_as_in_c() {
     let frame = Frame::from_words(words);
     assert_eq!((frame.to_words(), size_of::<Frame>()), (words, 4 * Frame::WORDS));
     let told = format!("{frame:?}");
-    let fields = header_fields();
+    let fields = header_fields("splitter_frame", "uint32_t");
     assert_eq!(fields.len(), Frame::WORDS);
     for (word, field) in fields.into_iter().enumerate() {
         assert!(told.contains(&format!(" {field}: {word}")), "{field}");
     }
     assert_eq!((offset_of!(Frame, root), offset_of!(Frame, younger)), (4 * 5, 4 * 11));
+}
+
+#[test]
+fn a_report_has_the_words_of_the_header() {
+    let told = format!("{:?}", Report::from_words([0, 1, 2, 3]));
+    let fields = header_fields("splitter_parallelism", "uint64_t");
+    assert_eq!(fields.len(), Report::WORDS);
+    for (word, field) in fields.into_iter().enumerate() {
+        assert!(told.contains(&format!(" {field}: {word}")), "{field}");
+    }
+    assert!(HEADER.contains("#define SPLITTER_CLOCKS_WORDS(places) ((size_t)2u * (size_t)(places))"));
+    assert_eq!([0, 1, MAX_PLACES].map(clocks_words), [0, 2, 512]);
 }
 
 #[test]
@@ -179,6 +192,11 @@ const EXAMPLE: [(Step, Result<Done, Refusal>); 9] = [
     (Step::Return { worker: 0 }, Ok(Done::Returned(Returned::Finished))),
 ];
 
+/// Its records.
+fn example_tape() -> Vec<u8> {
+    EXAMPLE.map(|(step, _)| step.to_bytes()).concat()
+}
+
 /// What a table may hold before a start or a reading.
 const GARBAGE: Frame = Frame::from_words([0xA5A5_A5A5; Frame::WORDS]);
 
@@ -196,9 +214,8 @@ fn with_example(test: impl FnOnce(&mut Engine)) {
 #[test]
 fn the_example_as_a_tape() {
     with_example(|engine| {
-        let tape = EXAMPLE.map(|(step, _)| step.to_bytes()).concat();
         let mut words = [0; 2 * EXAMPLE.len()];
-        engine.tape(&tape, &mut words).expect("a tape of whole records");
+        engine.tape(&example_tape(), &mut words).expect("a tape of whole records");
         assert!(answers(&words).eq(EXAMPLE.map(|(_, answer)| answer)));
     });
 }
@@ -607,5 +624,95 @@ fn a_part_of_another_length_is_refused() {
             assert_eq!(*engine.state, old);
         }
         assert_eq!(engine.spawn(0), Ok(1));
+    });
+}
+
+/// Document 02's R-7: of the example's nine records five cost 1. Main's sync is counted when it passes, at 3.
+#[test]
+fn the_report_of_the_example() {
+    with_example(|engine| {
+        let (mut words, mut clocks) = ([7; 2 * EXAMPLE.len() + 1], [7; clocks_words(PLACES)]);
+        let report = engine.report(2, &[10, 20, 30, 40, 50], &example_tape(), &mut words, &mut clocks);
+        assert_eq!(report, Ok(Report { work: 5, span: 4, quotient: 1, remainder: 1 }));
+        assert!(answers(&words).eq(EXAMPLE.map(|(_, answer)| answer)));
+        assert_eq!((words[2 * EXAMPLE.len()], &clocks[..6]), (7, &[4, 2, 2, 0, 0, 0][..]));
+        assert!(engine.state.main_returned() && clocks[6..].iter().all(|clock| *clock == 0));
+    });
+}
+
+/// 22: the run is there, whatever the memory held, and goes on to the report's end by steps.
+#[test]
+fn a_withheld_report_leaves_the_run() {
+    with_example(|engine| {
+        let values = [10, 20, 30, 40, 50];
+        let tape = example_tape();
+        let mut clocks = [7; clocks_words(PLACES)];
+        for records in 0..EXAMPLE.len() {
+            engine.frames.fill(GARBAGE);
+            engine.pool.fill(7);
+            let mut words = vec![7; 2 * records];
+            let report = engine.report(2, &values, &tape[..8 * records], &mut words, &mut clocks);
+            assert_eq!(report, Err(Refusal::NoSpan));
+            for (step, answer) in &EXAMPLE[records..] {
+                assert_eq!(engine.step(*step), *answer);
+            }
+        }
+        let main_returns = Step::Return { worker: 0 }.to_bytes();
+        assert_eq!(engine.report(2, &values, &main_returns, &mut [7; 2], &mut clocks), Err(Refusal::NoSpan));
+        assert!(engine.state.main_returned());
+    });
+}
+
+#[test]
+fn what_refused_reports_leave() {
+    with_example(|engine| {
+        let (old, frames, pool) = (engine.state.clone(), engine.frames.to_vec(), engine.pool.to_vec());
+        let (tape, values) = (example_tape(), [10, 20, 30, 40, 50]);
+        let (mut words, mut clocks) = ([7; 2 * EXAMPLE.len()], [7; clocks_words(PLACES) + 1]);
+        let right = clocks_words(PLACES);
+        for wrong in [0, right - 1, right + 1] {
+            let report = engine.report(2, &values, &tape, &mut words, &mut clocks[..wrong]);
+            assert_eq!((report, &*engine.state), (Err(Refusal::BadState), &old));
+        }
+        let clocks = &mut clocks[..right];
+        let mut refused = |workers, values: &[u32], tape: &[u8], len: usize| {
+            *engine.state = old.clone();
+            let report = engine.report(workers, values, tape, &mut words[..len], clocks);
+            assert_eq!(*engine.state, State::ZERO);
+            report.expect_err("a refusal")
+        };
+        let all = words_of(&tape);
+        assert_eq!(refused(0, &[], &tape, all), Refusal::BadValueCount);
+        assert_eq!(refused(9, &values, &tape, all), Refusal::BadWorkerCount);
+        assert_eq!(refused(2, &[1; 11], &tape, all), Refusal::BadNodeCount);
+        assert_eq!(refused(2, &values, &tape[1..], all), Refusal::BadTape);
+        assert_eq!(refused(2, &values, &tape, all - 1), Refusal::BadTape);
+        let mut short = Engine { state: engine.state, frames: engine.frames, pool: engine.pool, work: &mut [] };
+        assert_eq!(short.report(2, &values, &tape, &mut words, clocks), Err(Refusal::ShortWork));
+        let mut none = Engine { state: engine.state, frames: &mut [], pool: engine.pool, work: engine.work };
+        assert_eq!(none.report(2, &values, &tape, &mut words, &mut []), Err(Refusal::BadPlaceCount));
+        assert!(engine.frames == frames && engine.pool == pool);
+        assert!(words == [7; 2 * EXAMPLE.len()] && clocks.iter().all(|clock| *clock == 7));
+    });
+}
+
+/// The answer words of a tape.
+fn words_of(tape: &[u8]) -> usize {
+    2 * tape.len() / Step::RECORD_BYTES
+}
+
+/// A report of another length than four words is refused by 99; no safe call makes one.
+#[test]
+fn a_report_of_another_length_is_refused() {
+    with_example(|engine| {
+        let old = engine.state.clone();
+        for len in [0, 3, 5] {
+            let asked = raw::Asked { workers: 2, values: &[10], tape: &[] };
+            let (mut clocks, mut report) = ([7; clocks_words(PLACES)], [7; 5]);
+            let told = raw::Told { answers: &mut [], clocks: &mut clocks, report: &mut report[..len] };
+            let parts = engine.state.parts();
+            assert_eq!(raw::report(parts, engine.frames, engine.pool, engine.work, asked, told), 99);
+            assert!(*engine.state == old && report == [7; 5] && clocks == [7; clocks_words(PLACES)]);
+        }
     });
 }

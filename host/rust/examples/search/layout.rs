@@ -2,7 +2,7 @@
 //! the layouts are folded: their sum, the least of them, and a digest of them in the order of a search by one
 //! worker.
 
-use splitter::{affine, tree_nodes, Engine, Frame, Reducer, Refusal, Returned, State, Synced, Totals};
+use splitter::{affine, tree_nodes, Engine, Frame, Reducer, Refusal, Returned, State, Step, Synced, Totals};
 use splitter::{MAX_PLACES, NODE_WORDS};
 
 pub const PLACES: usize = MAX_PLACES;
@@ -158,7 +158,9 @@ fn branch_of(word: u32) -> Option<usize> {
 /// A search, and its result so far.
 pub struct Search<'a> {
     pub engine: Engine<'a>,
-    card: &'static Card,
+    /// The steps since the start, as a tape.
+    pub log: Vec<u8>,
+    pub card: &'static Card,
     branches: Vec<Branch>,
     /// The branch that each worker runs.
     runs: [Option<usize>; MAX_WORKERS],
@@ -195,6 +197,7 @@ impl<'a> Search<'a> {
         let nodes = (engine.pool.len() / NODE_WORDS) as u32;
         Ok(Search {
             engine,
+            log: Vec::new(),
             card,
             branches: vec![main],
             runs: [Some(0), None, None],
@@ -246,6 +249,7 @@ impl<'a> Search<'a> {
         let (runs, branches) = rest.split_at(MAX_WORKERS);
         Search {
             engine,
+            log: Vec::new(),
             card: &SMALL_CARD,
             branches: branches.chunks_exact(6).take(numbers[0] as usize).map(branch).collect(),
             runs: [0, 1, 2].map(|worker| branch_of(runs[worker])),
@@ -298,8 +302,18 @@ impl<'a> Search<'a> {
         }
     }
 
+    fn keep(&mut self, step: Step) {
+        self.log.extend(step.to_bytes());
+    }
+
+    fn read(&mut self, worker: u8, splitter: u16) -> Result<u32, Refusal> {
+        self.keep(Step::Read { worker, splitter });
+        self.engine.read(worker, splitter)
+    }
+
     /// False where the pool has no room; then nothing has changed.
     fn write(&mut self, worker: u8, block: u16, value: u32) -> Result<bool, Refusal> {
+        self.keep(Step::Write { worker, splitter: block, value });
         match self.engine.write(worker, block, value) {
             Ok(free) => {
                 self.least_free = self.least_free.min(free);
@@ -354,6 +368,7 @@ impl<'a> Search<'a> {
     /// deque is a child of the one above.
     fn steal(&mut self, thief: u8) -> Result<bool, Refusal> {
         for victim in 0..MAX_WORKERS {
+            self.keep(Step::Steal { worker: thief, victim: victim as u16 });
             let depth = match self.engine.steal(thief, victim as u16) {
                 Ok(depth) => depth as usize,
                 Err(Refusal::NothingToSteal) => continue,
@@ -402,7 +417,7 @@ impl<'a> Search<'a> {
         if self.branches[branch].next == self.card.first_spare(self.branches[branch].depth) + self.card.spares {
             self.branches[branch].stage = if self.must_sync(branch) { Stage::Wait } else { Stage::End };
         }
-        match self.engine.read(worker, spare)? {
+        match self.read(worker, spare)? {
             SPARE if self.card.passes_erase_test(spare) => self.spawn(worker, branch, spare),
             SPARE => self.mark_failed(worker, branch, spare),
             BAD => {
@@ -418,6 +433,7 @@ impl<'a> Search<'a> {
 
     /// Where the table has no place, the search goes on without this branch and all below it.
     fn spawn(&mut self, worker: u8, parent: usize, spare: u16) -> Result<(), Refusal> {
+        self.keep(Step::Spawn { worker });
         let depth = match self.engine.spawn(worker) {
             Ok(depth) => depth as usize,
             Err(Refusal::FramesFull) => {
@@ -449,6 +465,7 @@ impl<'a> Search<'a> {
     }
 
     fn wait(&mut self, worker: u8, branch: usize) -> Result<(), Refusal> {
+        self.keep(Step::Sync { worker });
         let outcome = self.engine.sync(worker)?;
         self.branches[branch].stage = Stage::End;
         match outcome {
@@ -466,7 +483,7 @@ impl<'a> Search<'a> {
     fn score(&mut self, worker: u8, branch: usize) -> Result<(), Refusal> {
         let mut cost = 0;
         for spare in self.card.first_spare..self.card.blocks {
-            let is = self.engine.read(worker, spare)?;
+            let is = self.read(worker, spare)?;
             if is >= STANDS_FOR {
                 let moved = u32::from(spare) - (is - STANDS_FOR);
                 cost += moved * moved;
@@ -484,17 +501,21 @@ impl<'a> Search<'a> {
 
     /// Takes a cost into the reducers. Which worker does so, and when, makes no difference to the totals.
     fn fold(&mut self, worker: u8, cost: u32) -> Result<(), Refusal> {
-        self.engine.fold(worker, Reducer::Sum, cost)?;
-        self.engine.fold(worker, Reducer::Min, cost)?;
-        self.engine.fold(worker, Reducer::Affine, affine(DIGEST, cost as u16))
+        let folds = [(Reducer::Sum, cost), (Reducer::Min, cost), (Reducer::Affine, affine(DIGEST, cost as u16))];
+        for (reducer, value) in folds {
+            self.keep(Step::Fold { worker, reducer, value });
+            self.engine.fold(worker, reducer, value)?;
+        }
+        Ok(())
     }
 
     fn end(&mut self, worker: u8, branch: usize) -> Result<(), Refusal> {
         if let Some(failed) = self.branches[branch].failed {
-            let is = self.engine.read(worker, failed)?;
+            let is = self.read(worker, failed)?;
             assert_eq!(is, BAD, "a branch must read its own mark");
             self.tell(worker, branch, &format!("{failed} still reads bad"));
         }
+        self.keep(Step::Return { worker });
         let outcome = self.engine.ret(worker)?;
         self.branches[branch].stage = Stage::Returned;
         let (parent, above) = (self.branches[branch].parent, self.above(branch));

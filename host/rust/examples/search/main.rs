@@ -7,6 +7,7 @@
 //! With the arguments `shift FOLDER TURNS MORE` one shift of the search, with images kept in the
 //! folder (`shift.rs`).
 
+mod cores;
 mod kept;
 mod layout;
 mod refusals;
@@ -91,6 +92,7 @@ fn show_all() -> Result<(), Box<dyn Error>> {
     smaller_pools()?;
     without_syncs()?;
     larger_card()?;
+    cores::show()?;
     refusals::tape()?;
     refusals::refusals()
 }

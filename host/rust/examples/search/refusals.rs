@@ -2,7 +2,8 @@
 
 use crate::layout::{print_totals, Memory, PLACES, SMALL_CARD};
 use splitter::{
-    answer, answers, image_bytes, raw, tree_nodes, Engine, Frame, Refusal, Returned, State, Step, NODE_WORDS,
+    answer, answers, clocks_words, image_bytes, raw, tree_nodes, Done, Engine, Frame, Refusal, Returned, State, Step,
+    NODE_WORDS,
 };
 use std::error::Error;
 use std::fmt::Debug;
@@ -183,6 +184,22 @@ fn waiting_main(engine: &mut Engine) -> Outcome {
     show(engine.spawn(0), Refusal::RunIsOver, "the child has ended, and Main with it")
 }
 
+/// Refused by 22 a report has run its tape: the run is there and goes on, only the report is withheld.
+fn refused_reports(engine: &mut Engine) -> Outcome {
+    let (marks, tape) = (SMALL_CARD.factory_marks(), Step::Return { worker: 0 }.to_bytes());
+    let (mut words, mut clocks) = ([0; 2], [0; clocks_words(PLACES)]);
+    let short = &mut clocks[1..];
+    let report = engine.report(2, &marks, &tape, &mut words, short);
+    show(report, Refusal::BadState, "a report's clocks with a word too few")?;
+    let report = engine.report(2, &marks, &tape, &mut words, &mut clocks);
+    show(report, Refusal::NoSpan, "a report of a tape that is Main's return")?;
+    assert_eq!(answer(words)?, Done::Returned(Returned::Finished));
+    let report = engine.report(2, &marks, &[], &mut [], &mut clocks);
+    show(report, Refusal::NoSpan, "a report of a tape without records")?;
+    println!("    the run goes on, block 3 reads {}", engine.read(0, 3)?);
+    Ok(())
+}
+
 /// Each refusal once, and what a host does about some.
 pub fn refusals() -> Outcome {
     println!("\nRefusals");
@@ -197,5 +214,6 @@ pub fn refusals() -> Outcome {
     move_main(engine)?;
     full_pool(engine)?;
     full_frames(engine)?;
-    waiting_main(engine)
+    waiting_main(engine)?;
+    refused_reports(engine)
 }
