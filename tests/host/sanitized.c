@@ -5,7 +5,7 @@
 #include <stdlib.h>
 #include <string.h>
 
-enum { NUMBERS, DEQUES, FRAMES, POOL, WORK, ANSWERS, SLICES };
+enum { NUMBERS, DEQUES, FRAMES, POOL, WORK, ANSWERS, CLOCKS, REPORT, SLICES };
 
 static void stop(const char *why, unsigned long call)
 {
@@ -63,6 +63,11 @@ static void call(FILE *file, uint32_t entry, unsigned long number)
     else if (entry == 5)
         got = splitter_load(slice[NUMBERS], length[NUMBERS], slice[DEQUES], length[DEQUES], frames, places,
                             slice[POOL], length[POOL], slice[WORK], length[WORK], byte, bytes);
+    else if (entry == 6)
+        got = splitter_report(slice[NUMBERS], length[NUMBERS], slice[DEQUES], length[DEQUES], frames, places,
+                              argument[0], value, values, slice[POOL], length[POOL], slice[WORK], length[WORK], byte, bytes,
+                              slice[ANSWERS], length[ANSWERS], (uint64_t *)slice[CLOCKS], length[CLOCKS] / 2,
+                              (uint64_t *)slice[REPORT], length[REPORT] / 2);
     else
         stop("no such entry", number);
     if ((uint32_t)got != result[0] || (uint32_t)(got >> 32) != result[1])

@@ -7,16 +7,31 @@ use crate::plain::{self, FRAME_WORDS};
 use splitter::{raw, Frame};
 use std::fmt;
 
-/// The interface's own refusal: numbers or deques have another length than they must have.
+/// The interface's own refusal: numbers or deques, or a report's clocks or words, have another length than they must have.
 pub const BAD_STATE: u32 = 99;
+/// The clock words for each place, and the words of a report.
+pub const CLOCK_WORDS: usize = 2;
+pub const REPORT_WORDS: usize = 4;
 
 #[derive(Clone)]
 pub enum Entry {
     Start { workers: u32, values: Vec<u32> },
     Step([u32; 4]),
     Tape { bytes: Vec<u8>, answers: Vec<u32> },
+    Report(Reporting),
     Save { target: Vec<u8> },
     Load { image: Vec<u8> },
+}
+
+/// What a report takes and is lent, beside state, table, pool and work.
+#[derive(Clone)]
+pub struct Reporting {
+    pub workers: u32,
+    pub values: Vec<u32>,
+    pub bytes: Vec<u8>,
+    pub answers: Vec<u32>,
+    pub clocks: Vec<u64>,
+    pub report: Vec<u64>,
 }
 
 #[derive(Clone)]
@@ -37,6 +52,9 @@ pub struct Outcome {
     pub answers: Vec<u32>,
     pub values: Vec<u32>,
     pub bytes: Vec<u8>,
+    /// A report's.
+    pub clocks: Vec<u64>,
+    pub report: Vec<u64>,
 }
 
 impl Call {
@@ -50,19 +68,35 @@ impl Call {
             answers: self.answers().to_vec(),
             values: self.values().to_vec(),
             bytes: self.bytes().to_vec(),
+            clocks: self.clocks().to_vec(),
+            report: self.report().to_vec(),
         }
     }
 
     pub fn answers(&self) -> &[u32] {
         match &self.entry {
-            Entry::Tape { answers, .. } => answers,
+            Entry::Tape { answers, .. } | Entry::Report(Reporting { answers, .. }) => answers,
             _ => &[],
         }
     }
 
     pub fn values(&self) -> &[u32] {
         match &self.entry {
-            Entry::Start { values, .. } => values,
+            Entry::Start { values, .. } | Entry::Report(Reporting { values, .. }) => values,
+            _ => &[],
+        }
+    }
+
+    pub fn clocks(&self) -> &[u64] {
+        match &self.entry {
+            Entry::Report(asked) => &asked.clocks,
+            _ => &[],
+        }
+    }
+
+    pub fn report(&self) -> &[u64] {
+        match &self.entry {
+            Entry::Report(asked) => &asked.report,
             _ => &[],
         }
     }
@@ -70,7 +104,7 @@ impl Call {
     pub fn bytes(&self) -> &[u8] {
         match &self.entry {
             Entry::Start { .. } | Entry::Step(_) => &[],
-            Entry::Tape { bytes, .. } => bytes,
+            Entry::Tape { bytes, .. } | Entry::Report(Reporting { bytes, .. }) => bytes,
             Entry::Save { target } => target,
             Entry::Load { image } => image,
         }
@@ -93,6 +127,24 @@ impl Call {
             }
             Entry::Tape { bytes, .. } => {
                 after.result[0] = plain::tape(&mut state, pool, work, bytes, &mut after.answers);
+            }
+            Entry::Report(asked) => {
+                let report = after.report.as_mut_slice().try_into().ok();
+                let fits = after.clocks.len() == CLOCK_WORDS * state.frames.len();
+                let Some(report) = report.filter(|_| fits) else {
+                    after.result[0] = BAD_STATE;
+                    return after;
+                };
+                let (workers, values, bytes) = (asked.workers, &asked.values, &asked.bytes);
+                let lent = plain::Reporting {
+                    pool,
+                    work,
+                    answers: &mut after.answers,
+                    clocks: &mut after.clocks,
+                    report,
+                };
+                (state, after.result[0]) =
+                    plain::report(workers, values, state.frames, bytes, lent);
             }
             Entry::Save { .. } => {
                 after.result[0] = image::save(&self.state, pool, work, &mut after.bytes);
@@ -117,6 +169,8 @@ impl Call {
         let mut answers = lend(self.answers());
         let mut values = lend(self.values());
         let mut bytes = Lent::new(self.bytes(), guard, 0xC5);
+        let lend = |words: &[u64]| Lent::new(words, guard, 0x5AFE_C0DE_5AFE_C0DE);
+        let (mut clocks, mut report) = (lend(self.clocks()), lend(self.report()));
         let result = self.enter(
             raw::Parts {
                 numbers: numbers.slice(),
@@ -126,6 +180,7 @@ impl Call {
             [pool.slice(), work.slice(), answers.slice()],
             values.slice(),
             bytes.slice(),
+            [clocks.slice(), report.slice()],
         );
         Some(Outcome {
             result,
@@ -143,6 +198,8 @@ impl Call {
             answers: answers.back()?,
             values: values.back()?,
             bytes: bytes.back()?,
+            clocks: clocks.back()?,
+            report: report.back()?,
         })
     }
 
@@ -154,11 +211,25 @@ impl Call {
         [pool, work, answers]: [&mut [u32]; 3],
         values: &[u32],
         bytes: &mut [u8],
+        [clocks, report]: [&mut [u64]; 2],
     ) -> [u32; 2] {
         match &self.entry {
             Entry::Start { workers, .. } => [raw::start(state, frames, *workers, values, pool), 0],
             Entry::Step(step) => raw::step(state, frames, pool, work, *step),
             Entry::Tape { .. } => [raw::tape(state, frames, pool, work, bytes, answers), 0],
+            &Entry::Report(Reporting { workers, .. }) => {
+                let asked = raw::Asked {
+                    workers,
+                    values,
+                    tape: bytes,
+                };
+                let told = raw::Told {
+                    answers,
+                    clocks,
+                    report,
+                };
+                [raw::report(state, frames, pool, work, asked, told), 0]
+            }
             Entry::Save { .. } => [raw::save(state, frames, pool, work, bytes), 0],
             Entry::Load { .. } => [raw::load(state, frames, pool, work, bytes), 0],
         }
@@ -188,6 +259,8 @@ impl Outcome {
             .into_iter()
             .find_map(|(name, mine, its)| first_difference(name, mine, its))
             .or_else(|| first_difference("bytes", &self.bytes, &other.bytes))
+            .or_else(|| first_difference("clocks", &self.clocks, &other.clocks))
+            .or_else(|| first_difference("report", &self.report, &other.report))
     }
 }
 
@@ -218,6 +291,16 @@ impl fmt::Display for Call {
                 "tape of {} bytes, {} answer words",
                 bytes.len(),
                 answers.len()
+            )?,
+            Entry::Report(asked) => write!(
+                f,
+                "report, {} workers, {} values, tape of {} bytes, {} answer, {} clock, {} report words",
+                asked.workers,
+                asked.values.len(),
+                asked.bytes.len(),
+                asked.answers.len(),
+                asked.clocks.len(),
+                asked.report.len()
             )?,
             Entry::Save { target } => write!(f, "save, {} target bytes", target.len())?,
             Entry::Load { image } => write!(f, "load, {} image bytes", image.len())?,

@@ -2,6 +2,7 @@
 
 pub mod base;
 pub mod call;
+pub mod clocks;
 pub mod corrupt;
 pub mod damage;
 pub mod family;
@@ -14,6 +15,7 @@ pub mod plain;
 pub mod random;
 pub mod record;
 pub mod replay;
+pub mod reports;
 pub mod runs;
 pub mod sentences;
 pub mod session;

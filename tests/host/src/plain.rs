@@ -1,10 +1,13 @@
-//! Document 01's engine, with of document 02, in plain, fast, safe Rust: copying of what is shared of a path, reference
-//! counts, free lists, recursive release, returns that wait, views that join, a lent frame table. Written from the documents alone. It is what the library is compared with,
+//! Document 01's engine, with of document 02, in plain, fast, safe Rust: copying of what is shared of a path, reference
+//! counts, free lists, recursive release, returns that wait, views that join, a lent frame table, clocks. Written from the documents alone. It is what the library is compared with,
 //! and the peer it is timed against: what a tape and a single step share is inlined in both, so that each is as fast as if the other
 //! were not there.
 
+mod timing;
+
 use std::ops::{Deref, DerefMut};
 use std::{array, mem};
+use timing::{Beside, Clocks, Untimed};
 
 pub const NONE: u32 = u32::MAX;
 pub const MAX_WORKERS: usize = 8;
@@ -59,6 +62,7 @@ pub enum Refusal {
     PoolFull,
     UnknownReducer = 20,
     BadPlaceCount,
+    NoSpan,
 }
 
 /// What was folded, of each reducer: the sum, the minimum, and the affine map, multiply then add. A view of zeros stands in free places.
@@ -442,7 +446,8 @@ pub fn step(
 ) -> (u32, u32) {
     match admit(state, pool, work) {
         Ok(free_nodes) => {
-            Engine::new(state, free_nodes, pool).answer(Step::decode(kind, worker, field, value))
+            let step = Step::decode(kind, worker, field, value);
+            Engine::new(state, free_nodes, pool, Untimed).answer(step)
         }
         Err(refusal) => (refusal as u32, 0),
     }
@@ -456,8 +461,7 @@ pub fn tape(
     bytes: &[u8],
     answers: &mut [u32],
 ) -> u32 {
-    let ragged = !bytes.len().is_multiple_of(RECORD_BYTES);
-    if ragged || answers.len() / 2 < bytes.len() / RECORD_BYTES {
+    if !is_tape(bytes, answers) {
         return Refusal::BadTape as u32;
     }
     match admit(state, pool, work) {
@@ -469,6 +473,12 @@ pub fn tape(
     }
 }
 
+/// Whole records, with two answer words for each.
+fn is_tape(bytes: &[u8], answers: &[u32]) -> bool {
+    let whole = bytes.len().is_multiple_of(RECORD_BYTES);
+    whole && answers.len() / 2 >= bytes.len() / RECORD_BYTES
+}
+
 /// Runs the whole records of `bytes` on a sound state with that many free nodes; the free nodes left.
 pub fn run_tape(
     state: &mut State,
@@ -477,16 +487,56 @@ pub fn run_tape(
     bytes: &[u8],
     answers: &mut [u32],
 ) -> u32 {
-    let mut engine = Engine::new(state, free_nodes, pool);
-    let (records, _) = bytes.as_chunks::<RECORD_BYTES>();
-    let (answers, _) = answers.as_chunks_mut::<2>();
-    for (&[kind, worker, f0, f1, v0, v1, v2, v3], answer) in records.iter().zip(answers) {
-        let field = u16::from_le_bytes([f0, f1]);
-        let value = u32::from_le_bytes([v0, v1, v2, v3]);
-        let step = Step::decode(kind.into(), worker.into(), field.into(), value);
-        *answer = engine.answer(step).into();
-    }
+    let mut engine = Engine::new(state, free_nodes, pool, Untimed);
+    engine.run(bytes, answers);
     engine.free_nodes
+}
+
+/// What a report is lent beside the table.
+pub struct Reporting<'a> {
+    pub pool: &'a mut [u32],
+    pub work: &'a mut [u32],
+    pub answers: &'a mut [u32],
+    /// Two words for each place.
+    pub clocks: &'a mut [u64],
+    /// Work, span, quotient and remainder.
+    pub report: &'a mut [u64; 4],
+}
+
+/// A start, a tape and its report: the state and 0, or 22 if Main has not returned or the span is 0, with what the tape left; or a state of
+/// zeros, with all that is lent as it was, and another refusal.
+pub fn report(
+    workers: u32,
+    values: &[u32],
+    frames: Vec<Frame>,
+    bytes: &[u8],
+    lent: Reporting,
+) -> (State, u32) {
+    let Reporting {
+        pool,
+        work,
+        answers,
+        clocks,
+        report,
+    } = lent;
+    let nodes = pool.len() / 4;
+    let refusal = refuse_start(workers, values.len(), frames.len(), nodes)
+        .or((!is_tape(bytes, answers)).then_some(Refusal::BadTape))
+        .or((work.len() < nodes).then_some(Refusal::ShortWork));
+    if let Some(refusal) = refusal {
+        return (State::zero(frames), refusal as u32);
+    }
+    let (mut state, _) = start(workers, values, frames, pool);
+    work[..nodes].fill(0);
+    let free_nodes = state.nodes - tree_nodes(state.splitters);
+    let mut engine = Engine::new(&mut state, free_nodes, pool, Clocks::begin(clocks));
+    engine.run(bytes, answers);
+    let Clocks { work, span, .. } = engine.beside;
+    if span == 0 {
+        return (state, Refusal::NoSpan as u32);
+    }
+    *report = [work, span, work / span, work % span];
+    (state, 0)
 }
 
 /// Refusals 5 and 6; else the number of free nodes.
@@ -525,18 +575,19 @@ impl Step {
     }
 }
 
-/// A sound state, its table and its nodes, with what need not be found again at each step.
-struct Engine<'a> {
+/// A sound state, its table and its nodes, with what need not be found again at each step; and clocks, if there are any.
+struct Engine<'a, B> {
     head: &'a mut Head,
     frames: &'a mut [Frame],
     nodes: &'a mut [Node],
     free_nodes: u32,
     height: u32,
     main_lives: bool,
+    beside: B,
 }
 
-impl<'a> Engine<'a> {
-    fn new(state: &'a mut State, free_nodes: u32, pool: &'a mut [u32]) -> Engine<'a> {
+impl<'a, B: Beside> Engine<'a, B> {
+    fn new(state: &'a mut State, free_nodes: u32, pool: &'a mut [u32], beside: B) -> Engine<'a, B> {
         let (nodes, _) = pool.as_chunks_mut::<4>();
         Engine {
             nodes: &mut nodes[..state.nodes as usize],
@@ -545,6 +596,20 @@ impl<'a> Engine<'a> {
             free_nodes,
             frames: &mut state.frames,
             head: &mut state.head,
+            beside,
+        }
+    }
+
+    /// The whole records of a tape.
+    #[inline(always)]
+    fn run(&mut self, bytes: &[u8], answers: &mut [u32]) {
+        let (records, _) = bytes.as_chunks::<RECORD_BYTES>();
+        let (answers, _) = answers.as_chunks_mut::<2>();
+        for (&[kind, worker, f0, f1, v0, v1, v2, v3], answer) in records.iter().zip(answers) {
+            let field = u16::from_le_bytes([f0, f1]);
+            let value = u32::from_le_bytes([v0, v1, v2, v3]);
+            let step = Step::decode(kind.into(), worker.into(), field.into(), value);
+            *answer = self.answer(step).into();
         }
     }
 
@@ -609,6 +674,7 @@ impl<'a> Engine<'a> {
         self.head.vacant = self.frames[place as usize].parent;
         self.frames[place as usize] = child;
         self.head.deques[worker as usize].push(place);
+        self.beside.spawns(bottom, place);
         Ok(child.depth)
     }
 
@@ -623,23 +689,29 @@ impl<'a> Engine<'a> {
             frame.returning = 1;
             return Ok(4);
         }
+        let time = self.beside.ends(bottom);
         let parent = self.vacate(bottom as u32);
         if parent == NONE {
+            self.beside.finishes(time);
             return Ok(3);
         }
         let deque = &mut self.head.deques[worker as usize];
         if deque.length > 0 {
+            self.beside.hears(parent, time);
             return Ok(0);
         }
         let above = &mut self.frames[parent as usize];
         if above.suspended == 0 || above.outstanding > 0 {
+            self.beside.hears(parent, time);
             return Ok(1);
         }
         if above.returning == 1 {
-            return Ok(self.end_waiting(worker, parent));
+            return Ok(self.end_waiting(worker, parent, time));
         }
         above.suspended = 0;
         deque.push(parent);
+        self.beside.hears(parent, time);
+        self.beside.passes(parent as usize);
         Ok(2)
     }
 
@@ -721,19 +793,24 @@ impl<'a> Engine<'a> {
     /// Ends frames that wait as returning, from this one upward, each after its last child; the worker's deque is empty.
     #[cold]
     #[inline(never)]
-    fn end_waiting(&mut self, worker: u32, mut ending: u32) -> u32 {
+    fn end_waiting(&mut self, worker: u32, mut ending: u32, mut time: B::Time) -> u32 {
         loop {
+            time = self.beside.ends_too(ending as usize, time);
             let parent = self.vacate(ending);
             if parent == NONE {
+                self.beside.finishes(time);
                 return 3;
             }
             let above = &mut self.frames[parent as usize];
             if above.suspended == 0 || above.outstanding > 0 {
+                self.beside.hears(parent, time);
                 return 1;
             }
             if above.returning == 0 {
                 above.suspended = 0;
                 self.head.deques[worker as usize].push(parent);
+                self.beside.hears(parent, time);
+                self.beside.passes(parent as usize);
                 return 2;
             }
             ending = parent;
@@ -760,8 +837,10 @@ impl<'a> Engine<'a> {
     #[inline(always)]
     fn sync(&mut self, worker: u32) -> Result<u32, Refusal> {
         let bottom = self.bottom(worker)?;
+        self.beside.syncs();
         let frame = &mut self.frames[bottom];
         if frame.outstanding == 0 {
+            self.beside.passes(bottom);
             return Ok(0);
         }
         frame.suspended = 1;
@@ -775,6 +854,7 @@ impl<'a> Engine<'a> {
         if splitter >= self.head.splitters {
             return Err(Refusal::UnknownSplitter);
         }
+        self.beside.costs(bottom);
         let mut node = self.frames[bottom].root;
         for level in (0..self.height).rev() {
             let side = LEFT + (splitter >> level & 1) as usize;
@@ -801,6 +881,7 @@ impl<'a> Engine<'a> {
         }
         if self.nodes[node as usize][HOLDERS] == 1 {
             self.nodes[node as usize][VALUE] = value;
+            self.beside.costs(bottom);
             return Ok(self.free_nodes);
         }
         if self.free_nodes <= level {
@@ -813,6 +894,7 @@ impl<'a> Engine<'a> {
         } else {
             self.nodes[above as usize][LEFT + (splitter >> level & 1) as usize] = new;
         }
+        self.beside.costs(bottom);
         Ok(self.free_nodes)
     }
 
@@ -827,6 +909,7 @@ impl<'a> Engine<'a> {
             AFFINE => *view = view.then(value >> 16, value & 0xFFFF),
             _ => return Err(Refusal::UnknownReducer),
         }
+        self.beside.costs(bottom);
         Ok(0)
     }
 

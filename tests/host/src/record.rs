@@ -1,7 +1,8 @@
 //! Calls and their outcomes written to a file, for sanitized.c to make them again. All but the bytes is little-endian words: the entry
-//! (1 start, 2 step, 3 tape, 4 save, 5 load), four words (a start's workers or a step's entry), the two words of the result, the values,
-//! the bytes (tape, target or image), then numbers, deques, frames, pool, work and answers. Each of these has its length in words first; all
-//! but the values are followed by what the call left there. Calls with large pools are left out, for the file's size.
+//! (1 start, 2 step, 3 tape, 4 save, 5 load, 6 report), four words (the workers of a start or a report, or a step's entry), the two words of
+//! the result, the values, the bytes (tape, target or image), then numbers, deques, frames, pool, work, answers, clocks and report, the last two of
+//! 64 bits, as two words each. Each of these has its length in words of 32 bits first; all but the values are followed by what the call left
+//! there. Calls with large pools are left out, for the file's size.
 
 use crate::call::{Call, Entry, Outcome};
 use std::fs::File;
@@ -26,6 +27,7 @@ impl Recorder {
             Entry::Tape { .. } => (3, [0; 4]),
             Entry::Save { .. } => (4, [0; 4]),
             Entry::Load { .. } => (5, [0; 4]),
+            Entry::Report(ref asked) => (6, [asked.workers, 0, 0, 0]),
         };
         self.words(&[entry])?;
         self.words(&arguments)?;
@@ -41,6 +43,8 @@ impl Recorder {
             (&call.pool, &after.pool),
             (&call.work, &after.work),
             (call.answers(), &after.answers),
+            (&halves(call.clocks()), &halves(&after.clocks)),
+            (&halves(call.report()), &halves(&after.report)),
         ];
         for (before, after) in slices {
             self.slice(before)?;
@@ -63,4 +67,10 @@ impl Recorder {
     pub fn finish(mut self) -> Result<()> {
         self.0.flush()
     }
+}
+
+/// Words of 64 bits, as words of 32.
+fn halves(words: &[u64]) -> Vec<u32> {
+    let both = |&word: &u64| [word as u32, (word >> 32) as u32];
+    words.iter().flat_map(both).collect()
 }

@@ -115,7 +115,7 @@ fn families(random: Random, session: &mut Session) -> Result<(), Failure> {
 }
 
 /// A start with two workers or more and room for a path in each frame, or in some.
-fn starting_wide(random: &Random) -> Call {
+pub fn starting_wide(random: &Random) -> Call {
     let splitters = random.pick(&SIZES);
     let places = wide_places(random);
     let path = plain::height(splitters as u32) as usize + 1;
@@ -142,7 +142,7 @@ fn wide_places(random: &Random) -> usize {
 }
 
 /// A start with the tree and a few paths in the pool, or with just room for a few large trees.
-fn starting_tight(large: bool, random: &Random) -> Call {
+pub fn starting_tight(large: bool, random: &Random) -> Call {
     let (splitters, nodes) = if large {
         let splitters = random.pick(&[129, 200, 255, 255, 256, 256]);
         (splitters, MAX_NODES - random.below(3))
@@ -166,7 +166,7 @@ fn starting_tight(large: bool, random: &Random) -> Call {
     }
 }
 
-fn starting(random: &Random) -> Call {
+pub fn starting(random: &Random) -> Call {
     let splitters = match random.below(40) {
         0 => 0,
         1 => 257 + random.below(40),
@@ -414,7 +414,7 @@ impl Run {
 }
 
 /// Brings Main's return, with some steps after it.
-fn go_home(steps: usize, sketch: &mut Sketch, driver: &mut Driver, random: &Random) {
+pub fn go_home(steps: usize, sketch: &mut Sketch, driver: &mut Driver, random: &Random) {
     for _ in 0..steps {
         let step = if sketch.state.main_lives() {
             steps::homeward(&sketch.state)

@@ -2,12 +2,14 @@
 
 use crate::call::{Call, Entry, Outcome};
 use crate::family;
-use crate::plain::RECORD_BYTES;
+use crate::plain::{Refusal, RECORD_BYTES};
 use crate::record::Recorder;
 use crate::sharing::Sharing;
 use crate::tables::Tables;
 use crate::tally::Tally;
 use crate::waits::Waits;
+
+const NO_SPAN: u32 = Refusal::NoSpan as u32;
 
 /// Why a comparison stopped.
 pub type Failure = String;
@@ -61,14 +63,17 @@ impl Session {
     fn count(&mut self, call: &Call, after: &Outcome) {
         self.calls += 1;
         self.tally.count(after.result);
-        if let Entry::Tape { bytes, .. } = &call.entry {
-            if after.result[0] == 0 {
-                let records = bytes.len() / RECORD_BYTES;
-                self.records += records as u64;
-                let (answers, _) = after.answers.as_chunks::<2>();
-                for &answer in &answers[..records] {
-                    self.tally.count(answer);
-                }
+        let ran = match call.entry {
+            Entry::Tape { .. } => after.result[0] == 0,
+            Entry::Report(_) => matches!(after.result[0], 0 | NO_SPAN),
+            _ => false,
+        };
+        if ran {
+            let records = call.bytes().len() / RECORD_BYTES;
+            self.records += records as u64;
+            let (answers, _) = after.answers.as_chunks::<2>();
+            for &answer in &answers[..records] {
+                self.tally.count(answer);
             }
         }
     }

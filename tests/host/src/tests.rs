@@ -1,7 +1,8 @@
-//! Document 01's example and edges, as change them, through plain.rs and the library, and the sentences on states
-//! corrupted by hand.
+//! Document 01's example and edges, as change them, and R-7's, through plain.rs and the library, and the sentences on
+//! states corrupted by hand.
 
 mod reducers;
+mod report;
 mod tables;
 mod waiting;
 

@@ -1,8 +1,9 @@
-//! The library beside plain.rs, call by call and word for word: seeded runs, then corrupted states, then images.
+//! The library beside plain.rs, call by call and word for word: seeded runs, reports, corrupted states, images.
 
 use host_tests::corrupt::KINDS;
 use host_tests::images;
 use host_tests::record::Recorder;
+use host_tests::reports;
 use host_tests::runs;
 use host_tests::sentences::SENTENCES;
 use host_tests::session::{Failure, Session};
@@ -11,7 +12,7 @@ use splitter::raw;
 use std::process::ExitCode;
 use std::time::Instant;
 
-const USAGE: &str = "usage: compare [--runs N] [--corrupt N] [--images N] [--damaged N] [--seed S] [--quick] [--record FILE]
+const USAGE: &str = "usage: compare [--runs N] [--reports N] [--corrupt N] [--images N] [--damaged N] [--seed S] [--quick] [--record FILE]
 --quick: few runs, and each slice a heap block of its own, for memcheck
 --record: writes all calls and what they left to FILE, for sanitized.c";
 
@@ -21,12 +22,14 @@ const GUARD: usize = 7;
 const ENOUGH_RUNS: u64 = 1_000;
 /// And from so many runs on, every case of a write at every n.
 const ENOUGH_WRITES: u64 = 4_000;
+const ENOUGH_REPORTS: u64 = 5_000;
 const ENOUGH_PAIRS: usize = 150_000;
 const ENOUGH_IMAGES: u64 = 10_000;
 const ENOUGH_DAMAGED: usize = 50_000;
 
 struct Options {
     runs: u64,
+    reports: u64,
     corrupt: usize,
     images: u64,
     damaged: usize,
@@ -38,6 +41,7 @@ struct Options {
 fn options() -> Option<Options> {
     let mut options = Options {
         runs: 5_000,
+        reports: 5_000,
         corrupt: 150_000,
         images: 20_000,
         damaged: 120_000,
@@ -51,8 +55,10 @@ fn options() -> Option<Options> {
             "--quick" => {
                 (options.runs, options.corrupt, options.guard) = (150, 3_000, 0);
                 (options.images, options.damaged) = (100, 1_500);
+                options.reports = 150;
             }
             "--runs" => options.runs = arguments.next()?.parse().ok()?,
+            "--reports" => options.reports = arguments.next()?.parse().ok()?,
             "--corrupt" => options.corrupt = arguments.next()?.parse().ok()?,
             "--images" => options.images = arguments.next()?.parse().ok()?,
             "--damaged" => options.damaged = arguments.next()?.parse().ok()?,
@@ -90,6 +96,7 @@ fn compare(options: &Options) -> Result<(), Failure> {
     let mut session = Session::new(options.guard, recorder.transpose().map_err(say)?);
     compare_sizes()?;
     compare_runs(options, &mut session)?;
+    compare_reports(options, &mut session)?;
     compare_corrupted(options, &mut session)?;
     compare_images(options, &mut session)?;
     match session.recorder {
@@ -113,7 +120,7 @@ fn compare_runs(options: &Options, session: &mut Session) -> Result<(), Failure>
     for run in 0..options.runs {
         let seed = options.seed.wrapping_add(run);
         runs::run(seed, session).map_err(|failure| {
-            format!("{failure}\n(--runs 1 --corrupt 0 --images 0 --damaged 0 --seed {seed})")
+            format!("{failure}\n(--runs 1 --reports 0 --corrupt 0 --images 0 --damaged 0 --seed {seed})")
         })?;
     }
     println!(
@@ -154,6 +161,26 @@ fn compare_runs(options: &Options, session: &mut Session) -> Result<(), Failure>
     Ok(())
 }
 
+fn compare_reports(options: &Options, session: &mut Session) -> Result<(), Failure> {
+    let began = Instant::now();
+    let mut counts = reports::Counts::default();
+    for report in 0..options.reports {
+        let seed = options.seed.wrapping_add(report);
+        reports::report(seed, session, &mut counts).map_err(|failure| {
+            format!("{failure}\n(--runs 0 --reports 1 --corrupt 0 --images 0 --damaged 0 --seed {seed})")
+        })?;
+    }
+    if options.reports > 0 {
+        let seconds = began.elapsed().as_secs_f64();
+        println!("{} seeds of reports: {seconds:.1} s", options.reports);
+        counts.lines().iter().for_each(|line| println!("{line}"));
+    }
+    match counts.missing() {
+        Some(missing) if options.reports >= ENOUGH_REPORTS => Err(missing),
+        _ => Ok(()),
+    }
+}
+
 fn compare_corrupted(options: &Options, session: &mut Session) -> Result<(), Failure> {
     let mut counts = Counts::default();
     let mut left = options.corrupt;
@@ -161,7 +188,7 @@ fn compare_corrupted(options: &Options, session: &mut Session) -> Result<(), Fai
     while left > 0 {
         soundness::group(seed, left, session, &mut counts).map_err(|failure| {
             format!(
-                "{failure}\n(--runs 0 --corrupt {PER_SEED} --images 0 --damaged 0 --seed {seed})"
+                "{failure}\n(--runs 0 --reports 0 --corrupt {PER_SEED} --images 0 --damaged 0 --seed {seed})"
             )
         })?;
         left -= left.min(PER_SEED);
@@ -205,7 +232,7 @@ fn saved_images(
     for image in 0..options.images {
         let seed = options.seed.wrapping_add(image);
         images::image(seed, session, counts).map_err(|failure| {
-            format!("{failure}\n(--runs 0 --corrupt 0 --images 1 --damaged 0 --seed {seed})")
+            format!("{failure}\n(--runs 0 --reports 0 --corrupt 0 --images 1 --damaged 0 --seed {seed})")
         })?;
     }
     Ok(())
@@ -221,7 +248,7 @@ fn damaged_images(
     while left > 0 {
         images::group(seed, left, session, counts).map_err(|failure| {
             let most = images::PER_SEED;
-            format!("{failure}\n(--runs 0 --corrupt 0 --images 0 --damaged {most} --seed {seed})")
+            format!("{failure}\n(--runs 0 --reports 0 --corrupt 0 --images 0 --damaged {most} --seed {seed})")
         })?;
         left -= left.min(images::PER_SEED);
         seed = seed.wrapping_add(1);
