@@ -241,6 +241,12 @@ impl Case {
         self
     }
 
+    /// The same as one tape from the start, as a report takes it.
+    pub fn from_start(mut self) -> Self {
+        self.tape.splice(0..0, self.prelude.drain(..));
+        self
+    }
+
     /// The same in a table of so many places.
     pub fn in_table(mut self, places: usize) -> Self {
         self.places = places;

@@ -7,6 +7,7 @@ use crate::job::FULL_CALLS;
 use crate::kind::{Kind, CONTROLS, FOLDS};
 use crate::measure::{answers, step_answers};
 use crate::peer::{Peer, PEERS};
+use crate::reports;
 use crate::runs;
 use crate::steps;
 
@@ -145,11 +146,13 @@ fn assert_kind(kind: Kind) {
 /// Random runs with folds.
 const RUNS: u64 = 300;
 
-/// Every workload at every size, the kinds of records, the single steps, the filled pools, the images, and the totals of random runs.
+/// Every workload at every size, the kinds of records, the single steps, the filled pools, the images, the reports, and the totals and pairs of
+/// random runs.
 pub fn all(workloads: &[Workload], sizes: &[usize]) {
     runs::compare(&PEERS, RUNS);
     FOLDS.into_iter().chain(CONTROLS).for_each(assert_kind);
     images::compare();
+    reports::compare();
     assert_filled();
     assert_full_steps();
     for (workload, n, nodes) in steps::all() {

@@ -13,6 +13,7 @@ use crate::pictures;
 use crate::places::{self, PlacesCost, SearchCost};
 use crate::records::{self, Cost};
 use crate::report;
+use crate::reports::{self, ReportCost};
 use crate::stack::{self, Stack};
 use crate::steps::{self, StepCost};
 use crate::tables::SIZES;
@@ -49,6 +50,8 @@ pub struct Figures {
     pub full_steps: Vec<FullStepCost>,
     /// Single steps.
     pub steps: Vec<StepCost>,
+    /// Tapes through the report.
+    pub reports: Vec<ReportCost>,
     /// Saving and reading.
     pub images: Vec<ImageCost>,
     /// Folds, spawns and returns.
@@ -108,6 +111,7 @@ fn measure() -> Figures {
     eprintln!("bench: instructions of records");
     let costs = records::count(&PEERS, &WORKLOADS, &GROWTH, PLACES);
     let kinds = kinds::count(&kind::all(), PLACES);
+    let reports = reports::count(&costs);
     eprintln!("bench: instructions of records, by the table's places");
     let places = places::count(&costs, &kinds);
     let searches = places::count_searches();
@@ -127,6 +131,7 @@ fn measure() -> Figures {
         filled_times,
         full_steps,
         steps,
+        reports,
         images,
         kinds,
         places,

@@ -11,7 +11,7 @@ struct Frame {
     suspended: bool,
     /// Ends with its last child.
     returning: bool,
-    /// Its folds and children, in order.
+    /// Its steps but for its return, in order.
     items: Vec<Item>,
 }
 
@@ -27,10 +27,13 @@ impl Frame {
     }
 }
 
-/// What matters of a frame's step to the totals.
+/// What matters of a frame's step to the totals, and to work and span.
 enum Item {
     Fold(usize, u32),
     Child(usize),
+    Sync,
+    /// A read or a write.
+    Other,
 }
 
 pub struct Generator {
@@ -89,6 +92,7 @@ impl Generator {
 
     pub fn read(&mut self, worker: usize) {
         let splitter = self.random.below(self.splitters);
+        self.note(worker, Item::Other);
         self.push(READ, worker, splitter, 0);
     }
 
@@ -99,6 +103,7 @@ impl Generator {
 
     pub fn write_to(&mut self, worker: usize, splitter: usize) {
         let value = self.random.word();
+        self.note(worker, Item::Other);
         self.push(WRITE, worker, splitter, value);
     }
 
@@ -111,13 +116,14 @@ impl Generator {
     /// A map's multiplier is odd, so that no earlier map is lost and the order of all shows in the total.
     pub fn fold_into(&mut self, worker: usize, reducer: usize) {
         let odd = if reducer == AFFINE { 65_536 } else { 0 };
-        let (frame, value) = (self.bottom(worker), self.random.word() | odd);
-        self.frames[frame].items.push(Item::Fold(reducer, value));
+        let value = self.random.word() | odd;
+        self.note(worker, Item::Fold(reducer, value));
         self.push(FOLD, worker, reducer, value);
     }
 
     pub fn sync(&mut self, worker: usize) {
         let frame = self.bottom(worker);
+        self.note(worker, Item::Sync);
         if self.frames[frame].outstanding > 0 {
             self.frames[frame].suspended = true;
             self.deques[worker].pop();
@@ -189,8 +195,37 @@ impl Generator {
                     total.fold(reducer, value).expect("a reducer");
                 }
                 Item::Child(child) => self.fold_all(child, total),
+                Item::Sync | Item::Other => {}
             }
         }
+    }
+
+    /// R-7's work and span, once Main has returned, from the frames' steps alone: a sync passes, and a frame ends, after all its children so
+    /// far.
+    pub fn pair(&self) -> [u64; 2] {
+        let work = self.frames.iter().map(|frame| frame.items.len() as u64);
+        [work.sum(), self.end_of(0, 0)]
+    }
+
+    /// The clock at its end of a frame whose clock begins so.
+    fn end_of(&self, frame: usize, begins: u64) -> u64 {
+        let (mut clock, mut children) = (begins, 0);
+        for item in &self.frames[frame].items {
+            if matches!(item, Item::Sync) {
+                clock = clock.max(children);
+            }
+            clock += 1;
+            if let Item::Child(child) = *item {
+                children = children.max(self.end_of(child, clock));
+            }
+        }
+        clock.max(children)
+    }
+
+    /// A step of the worker's bottom frame.
+    fn note(&mut self, worker: usize, item: Item) {
+        let frame = self.bottom(worker);
+        self.frames[frame].items.push(item);
     }
 
     fn bottom(&self, worker: usize) -> usize {

@@ -9,6 +9,7 @@ use crate::kinds::{self, KindCost};
 use crate::peer::Peer;
 use crate::places::PlacesCost;
 use crate::records::{self, Cost};
+use crate::reports::{self, ReportCost};
 use crate::stack::Stack;
 use crate::table::grouped;
 use crate::tables::{IMAGE_CALLS, SIZES};
@@ -34,6 +35,8 @@ const WITHOUT_SIBLINGS: [Kind; 5] = [
 ];
 /// How much more the check of the longest table may cost than a line through those of 1 and 64 places lets expect.
 const LINEAR_LIMIT: f64 = 1.02;
+/// How much more than in a tape a record may cost in a report.
+const REPORT_LIMIT: f64 = 1.3;
 /// How many times more the checks of the blocks must have cost before R-4.
 const BEFORE_LIMIT: f64 = 3.0;
 
@@ -86,6 +89,8 @@ pub fn list(figures: &Figures, checks: &[f64]) -> String {
         folds_goal(kinds),
         more_goal(kinds),
         places_goal(&figures.places),
+        report_goal(&figures.reports),
+        plain_report_goal(&figures.reports),
         check_goal(checks),
         linear_goal(&figures.empty_tables, &figures.full_tables),
         images_goal(images),
@@ -177,6 +182,26 @@ fn places_goal(costs: &[PlacesCost]) -> Goal {
         what: "records that search for no sibling: no more instructions in a table of 256 places than in one of 64",
         met: dearer.is_empty(),
         figures,
+    }
+}
+
+fn report_goal(costs: &[ReportCost]) -> Goal {
+    let ratios = SIZES.map(|n| (n, reports::find(costs, Workload::Mix, n).ratio()));
+    let figures = ratios.map(|(n, ratio)| format!("n = {n}: {ratio:.3}"));
+    Goal {
+        what: "mix through the report: at most 1.3 times the instructions per further record of the same tape without a report",
+        met: ratios.into_iter().all(|(_, ratio)| ratio <= REPORT_LIMIT),
+        figures: format!("report / tape: {}", figures.join(", ")),
+    }
+}
+
+fn plain_report_goal(costs: &[ReportCost]) -> Goal {
+    let ratios = SIZES.map(|n| (n, reports::find(costs, Workload::Mix, n).against_plain()));
+    let figures = ratios.map(|(n, ratio)| format!("n = {n}: {ratio:.3}"));
+    Goal {
+        what: "mix through the report: no more instructions per further record than plain Rust's report",
+        met: ratios.into_iter().all(|(_, ratio)| ratio <= 1.0),
+        figures: format!("library / plain: {}", figures.join(", ")),
     }
 }
 

@@ -26,6 +26,10 @@ pub enum Job {
     Kind(Kind, usize),
     /// The read alone.
     KindRest(Kind, usize),
+    /// A workload's prelude and its records in a report; n.
+    Report(Workload, usize),
+    /// The prelude alone.
+    ReportRest(Workload, usize),
 }
 
 /// Single steps in a full pool.
@@ -84,6 +88,8 @@ impl Job {
             Job::FullTape(step) => step.case(RECORDS),
             Job::Kind(kind, places) => kind.case().in_table(places),
             Job::KindRest(kind, places) => kind.rest().in_table(places),
+            Job::Report(workload, n) => Case::records(workload, n).from_start(),
+            Job::ReportRest(workload, n) => Case::records(workload, n).rest(workload).from_start(),
         }
     }
 
@@ -110,6 +116,10 @@ impl Job {
                 vec!["kind".into(), kind.name().into(), places.to_string()]
             }
             Job::KindRest(kind, places) => with_rest(Job::Kind(kind, places)),
+            Job::Report(workload, n) => {
+                vec!["report".into(), workload.name().into(), n.to_string()]
+            }
+            Job::ReportRest(workload, n) => with_rest(Job::Report(workload, n)),
         }
     }
 
@@ -141,6 +151,10 @@ impl Job {
             ["kind", kind, places] => Some(Job::Kind(Kind::named(kind)?, number(places)?)),
             ["kind", kind, places, "rest"] => {
                 Some(Job::KindRest(Kind::named(kind)?, number(places)?))
+            }
+            ["report", workload, n] => Some(Job::Report(Workload::named(workload)?, number(n)?)),
+            ["report", workload, n, "rest"] => {
+                Some(Job::ReportRest(Workload::named(workload)?, number(n)?))
             }
             [workload, n, places] => Some(Job::Records(
                 Workload::named(workload)?,

@@ -27,6 +27,7 @@ pub mod quick;
 mod random;
 mod records;
 mod report;
+mod reports;
 mod runs;
 mod scale;
 mod sizing;

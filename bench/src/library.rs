@@ -1,7 +1,7 @@
 //! libsplitter.a through its C interface, as the binding declares it.
 
 use crate::work::Work;
-use splitter::{raw, Frame, State, NODE_WORDS};
+use splitter::{clocks_words, raw, Frame, Report, State, NODE_WORDS};
 
 /// The memory that the calls are lent.
 pub struct Library {
@@ -53,6 +53,47 @@ impl Library {
     pub fn load(&mut self, image: &[u8]) -> u32 {
         let (state, work) = (self.state.parts(), self.work.words());
         raw::load(state, &mut self.table, &mut self.pool, work, image)
+    }
+}
+
+/// The memory that a report is lent, and what it is asked.
+pub struct LibraryReport {
+    library: Library,
+    workers: u32,
+    values: Vec<u32>,
+    clocks: Vec<u64>,
+    pub words: [u64; Report::WORDS],
+}
+
+impl LibraryReport {
+    pub fn new(workers: usize, values: &[u32], places: usize, nodes: usize) -> Self {
+        LibraryReport {
+            library: Library::start(workers, values, places, nodes),
+            workers: workers as u32,
+            values: values.to_vec(),
+            clocks: vec![0; clocks_words(places)],
+            words: [0; Report::WORDS],
+        }
+    }
+
+    pub fn report(&mut self, tape: &[u8], answers: &mut [u32]) -> u32 {
+        let Library {
+            state,
+            table,
+            pool,
+            work,
+        } = &mut self.library;
+        let asked = raw::Asked {
+            workers: self.workers,
+            values: &self.values,
+            tape,
+        };
+        let told = raw::Told {
+            answers,
+            clocks: &mut self.clocks,
+            report: &mut self.words,
+        };
+        raw::report(state.parts(), table, pool, work.words(), asked, told)
     }
 }
 

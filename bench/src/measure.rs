@@ -1,10 +1,11 @@
-//! What is measured: one call with a tape, single steps, or one call with an image.
+//! What is measured: one call with a tape, single steps, a report, or one call with an image.
 
 use crate::case::Case;
 use crate::images;
 use crate::job::{ImageCall, Job};
-use crate::peer::{Images, Peer, Run};
+use crate::peer::{Images, Peer, Reporter, Run};
 use crate::plain_image::WRONG_CHECK;
+use crate::reports::{self, NO_SPAN};
 use crate::tape::fields;
 
 /// The function that callgrind counts in; by its symbol, so it must stay a function of its own.
@@ -21,6 +22,13 @@ pub fn bench_measured_steps(run: &mut dyn Run, steps: &[[u32; 4]], answers: &mut
     for (&step, answer) in steps.iter().zip(answers) {
         *answer = run.step(step);
     }
+}
+
+/// The same for a report.
+#[no_mangle]
+#[inline(never)]
+pub fn bench_measured_report(reporter: &mut dyn Reporter, tape: &[u8], answers: &mut [u32]) -> u32 {
+    reporter.report(tape, answers)
 }
 
 /// The same for a save.
@@ -72,6 +80,12 @@ pub fn once(peer: Peer, job: Job) {
             let again = images::read_and_saved(peer, &case, &image);
             assert!(again == image, "{}: reads something else", peer.name());
             image_call(peer, &case, call, &image);
+        }
+        Job::Report(..) | Job::ReportRest(..) => {
+            let (_, mut answers, _) = reports::given(peer, &case);
+            let mut reporter = peer.reporter(&case).expect("it reports");
+            let refusal = bench_measured_report(reporter.as_mut(), &case.tape, &mut answers);
+            assert_eq!(refusal, NO_SPAN, "{}: the report's answer", peer.name());
         }
         _ => {
             let mut answers = answers(peer, &case);

@@ -1,7 +1,7 @@
 //! The peers: the same tapes go in, the same answer words come out.
 
 use crate::case::Case;
-use crate::library::Library;
+use crate::library::{Library, LibraryReport};
 use crate::machine::Machine;
 use crate::plain_image::{self, Sum};
 use crate::tape::record;
@@ -66,6 +66,15 @@ pub trait Images {
     }
 }
 
+/// R-7's call, which makes a start of its own.
+pub trait Reporter {
+    /// The refusal, or 0.
+    fn report(&mut self, tape: &[u8], answers: &mut [u32]) -> u32;
+
+    /// Work, span, quotient and remainder, if there was a report, else zeros.
+    fn words(&self) -> [u64; 4];
+}
+
 impl Peer {
     pub fn name(self) -> &'static str {
         match self {
@@ -96,6 +105,26 @@ impl Peer {
         let accepted = refusal == 0 && answers.chunks(2).all(|pair| pair[0] > 100);
         assert!(accepted, "{}: the prelude is refused", self.name());
         run
+    }
+
+    /// Reports of the case's start, if it makes them.
+    pub fn reporter(self, case: &Case) -> Option<Box<dyn Reporter>> {
+        let Case {
+            workers,
+            values,
+            nodes,
+            places,
+            ..
+        } = case;
+        match self {
+            Peer::Library => Some(Box::new(LibraryReport::new(
+                *workers, values, *places, *nodes,
+            ))),
+            Peer::Plain => Some(Box::new(PlainReport::new(
+                *workers, values, *places, *nodes,
+            ))),
+            _ => None,
+        }
     }
 
     fn start(self, case: &Case) -> Box<dyn Run> {
@@ -148,6 +177,16 @@ impl Images for Library {
 
     fn load(&mut self, image: &[u8]) -> u32 {
         Library::load(self, image)
+    }
+}
+
+impl Reporter for LibraryReport {
+    fn report(&mut self, tape: &[u8], answers: &mut [u32]) -> u32 {
+        LibraryReport::report(self, tape, answers)
+    }
+
+    fn words(&self) -> [u64; 4] {
+        self.words
     }
 }
 
@@ -239,5 +278,50 @@ impl Images for Plain {
 
     fn bare_load(&mut self, image: &[u8]) -> u32 {
         self.load_image::<false>(image)
+    }
+}
+
+/// The same algorithm's report, with the memory that it is lent.
+struct PlainReport {
+    workers: u32,
+    values: Vec<u32>,
+    table: Vec<plain::Frame>,
+    pool: Vec<u32>,
+    work: Work,
+    clocks: Vec<u64>,
+    words: [u64; 4],
+}
+
+impl PlainReport {
+    fn new(workers: usize, values: &[u32], places: usize, nodes: usize) -> Self {
+        PlainReport {
+            workers: workers as u32,
+            values: values.to_vec(),
+            table: vec![plain::Frame::default(); places],
+            pool: vec![0; 4 * nodes],
+            work: Work::of(nodes),
+            clocks: vec![0; 2 * places],
+            words: [0; 4],
+        }
+    }
+}
+
+impl Reporter for PlainReport {
+    fn report(&mut self, tape: &[u8], answers: &mut [u32]) -> u32 {
+        let lent = plain::Reporting {
+            pool: &mut self.pool,
+            work: self.work.words(),
+            answers,
+            clocks: &mut self.clocks,
+            report: &mut self.words,
+        };
+        let table = std::mem::take(&mut self.table);
+        let (state, refusal) = plain::report(self.workers, &self.values, table, tape, lent);
+        self.table = state.frames;
+        refusal
+    }
+
+    fn words(&self) -> [u64; 4] {
+        self.words
     }
 }

@@ -10,6 +10,7 @@ use crate::kinds;
 use crate::peer::Peer;
 use crate::places;
 use crate::records::{self, Cost};
+use crate::reports;
 use crate::steps;
 use crate::tables::{self, SIZES};
 
@@ -23,6 +24,8 @@ pub fn run() {
         "{}",
         tables::instructions(&costs, &WORKLOADS, &PEERS, Cost::marginal).markdown()
     );
+    println!("The same in a report:\n");
+    println!("{}", tables::reports(&reports::count(&costs)).markdown());
     println!("Instructions of folds, spawns and returns:\n");
     let kinds = kinds::count(&kind::all(), PLACES);
     println!("{}", tables::kinds(&kinds).markdown());

@@ -32,7 +32,7 @@ const PEERS_TEXT: &str = "\
 
 All are fed the same tapes and give the same answer words, which the bench compares before it measures.
 
-- library: `splitter_tape` of libsplitter.a through its C interface, and `splitter_step` for single steps.
+- library: `splitter_tape` of libsplitter.a through its C interface, `splitter_step` for single steps, and `splitter_report`.
 - plain: the same algorithm in plain Rust on `&mut` state and a slice of frame records (`tests/host/src/plain.rs`), with the same
   soundness check in each call. A write alters the nodes that one holder has where they are and copies the rest of the path from the
   first node with more (R-2); a return waits for the frame's children, and the last child's end ends the waiting frames above it in a
@@ -47,8 +47,9 @@ All are fed the same tapes and give the same answer words, which the bench compa
 Copying and im-rc have neither nodes nor a soundness check: a write's second answer word, the free nodes, is 0 and not compared, and
 refusal 16 does not exist. They make the tests of refusals 7 to 15 and 20. Before anything is measured, all peers also take random runs
 with folds, steals and waiting returns to Main's return: their totals must be the values folded in the order of Main's child-first list,
-which the bench computes from the records alone. The Rust peers are built with opt-level 3, fat LTO and one codegen
-unit, for x86-64 without further features; libsplitter.a is linked as it is.
+and the reports of library and plain must have the work and the span that the frames' steps give (R-7); the bench computes both from the
+records alone. The Rust peers are built with opt-level 3, fat LTO and one codegen unit, for x86-64 without further features;
+libsplitter.a is linked as it is.
 
 ";
 
@@ -73,6 +74,7 @@ pub fn text(figures: &Figures) -> String {
         how(),
         section("What the tapes hold (n = 16)", "", contents::table(16)),
         records(figures),
+        reports(figures),
         kinds(figures),
         places(figures),
         rates(figures),
@@ -146,6 +148,21 @@ fn records(figures: &Figures) -> String {
         "Instructions per record, with the check",
         ratio,
         tables::instructions(costs, &LONG_WORKLOADS, &PEERS, Cost::with_check),
+    )
+}
+
+fn reports(figures: &Figures) -> String {
+    let intro = "\
+R-7: `splitter_report` makes a start, runs one tape and makes the report. Here its tape is the workload's prelude and then its records; the
+figure is this call less a report of the prelude alone, divided by 8,192. \"Tape\" is the figure from above, of the same records in
+`splitter_tape`. Main does not return in these tapes: both peers answer 22, and the division is not in the figures.
+
+The library takes a tape in turns, a record and then the reads, writes and folds after it, and moves the clocks of a turn by its answers
+when it has run. In control each record is a turn of its own. Plain moves the clocks in each step (`tests/host/src/plain/timing.rs`).";
+    section(
+        "A tape through the report",
+        intro,
+        tables::reports(&figures.reports),
     )
 }
 

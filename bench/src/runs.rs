@@ -1,10 +1,11 @@
-//! Random runs with folds, steals and waiting returns, to Main's return: all peers answer alike, and their totals are the values folded in
-//! the order of Main's child-first list.
+//! Random runs with folds, steals and waiting returns, to Main's return: all peers answer alike, their totals are the values folded in
+//! the order of Main's child-first list, and their reports have the work and the span that the frames' steps give.
 
 use crate::case::{tree_nodes, values, Case, MAX_PLACES};
 use crate::generate::Generator;
 use crate::peer::Peer;
 use crate::random::Random;
+use crate::reports;
 use crate::tape::{record, FOLD, REDUCERS};
 
 const RECORDS: usize = 400;
@@ -15,10 +16,11 @@ const TABLES: [usize; 6] = [2, 63, 64, 65, 255, 256];
 /// A write's second word is the free nodes, which not every peer has.
 const WRITTEN: u32 = 106;
 
-/// A run and its totals.
+/// A run, its totals, and its work and span.
 struct Finished {
     case: Case,
     totals: [u32; 4],
+    pair: [u64; 2],
 }
 
 impl Finished {
@@ -50,6 +52,7 @@ impl Finished {
         Finished {
             case,
             totals: generator.totals(),
+            pair: generator.pair(),
         }
     }
 }
@@ -83,15 +86,31 @@ fn given(peer: Peer, case: &Case) -> (Vec<[u32; 2]>, Option<[u32; 4]>) {
 /// So many runs on these peers.
 pub fn compare(peers: &[Peer], runs: u64) {
     for seed in 0..runs {
-        let Finished { case, totals } = Finished::seeded(seed);
+        let Finished { case, totals, pair } = Finished::seeded(seed);
         let (expected, _) = given(peers[0], &case);
         for &peer in peers {
             let (answers, given) = given(peer, &case);
             let name = peer.name();
             assert!(answers == expected, "run {seed}: {name} answers otherwise");
             assert_eq!(given, Some(totals), "run {seed}: the totals of {name}");
+            assert_report(
+                peer,
+                &case,
+                pair,
+                &format!("run {seed}: the report of {name}"),
+            );
         }
     }
+}
+
+/// If it reports.
+fn assert_report(peer: Peer, case: &Case, [work, span]: [u64; 2], what: &str) {
+    if !reports::REPORT_PEERS.contains(&peer) {
+        return;
+    }
+    let (refusal, _, words) = reports::given(peer, case);
+    assert_eq!(refusal, 0, "{what}");
+    assert_eq!(words, [work, span, work / span, work % span], "{what}");
 }
 
 #[cfg(test)]

@@ -9,6 +9,7 @@ use crate::kinds::{KindCost, KIND_PEERS};
 use crate::peer::{Peer, PEERS};
 use crate::places::{per_place, PlacesCost, SearchCost, SEARCH_TABLES};
 use crate::records::{self, Cost};
+use crate::reports::ReportCost;
 use crate::steps::StepCost;
 use crate::table::{grouped, Table};
 use crate::timing::{self, Time};
@@ -63,6 +64,41 @@ pub fn rates(times: &[Time], of: fn(&Time) -> f64) -> Table {
     by_peer(&LONG_WORKLOADS, &PEERS, |peer, workload, n| {
         of(timing::find(times, peer, workload, n)) / 1e6
     })
+}
+
+/// Tapes through the report and without it: library and plain Rust, and the library's report against plain Rust's.
+pub fn reports(costs: &[ReportCost]) -> Table {
+    let header = [
+        "workload",
+        "n",
+        "library, tape",
+        "library, report",
+        "report / tape",
+        "plain, tape",
+        "plain, report",
+        "report / tape",
+        "library / plain, report",
+    ];
+    let mut table = Table::new(header.map(String::from).into());
+    for cost in costs {
+        let [library, plain] = [0, 1].map(|peer: usize| {
+            [cost.taped[peer], cost.reported[peer]].map(|count| format!("{count:.1}"))
+        });
+        let first = [cost.workload.name().to_string(), cost.n.to_string()];
+        let ratios = [cost.ratio(), cost.plain_ratio(), cost.against_plain()];
+        let [ratio, plain_ratio, against] = ratios.map(|ratio| format!("{ratio:.2}"));
+        table.row(
+            [
+                &first[..],
+                &library,
+                &[ratio],
+                &plain,
+                &[plain_ratio, against],
+            ]
+            .concat(),
+        );
+    }
+    table
 }
 
 pub fn steps(steps: &[StepCost]) -> Table {

@@ -1,5 +1,5 @@
-//! Runs one peer on one case, for callgrind: see `USAGE`; `rest` is the tape without the records that are counted; an image is that of the
-//! state that `check` has; a filling, a step in a full pool and a kind of records go by their names in the tables, each as one word.
+//! Runs one peer on one case, for callgrind: see `USAGE`; `rest` is the tape without the records that are counted; a report's tape has the
+//! prelude too; an image is that of the state that `check` has; a filling, a step in a full pool and a kind of records go by their names in the tables, each as one word.
 //! By hand: `valgrind --tool=callgrind --dump-instr=yes --toggle-collect=bench_measured one library mix 16 64`.
 
 use bench::job::Job;
@@ -15,6 +15,7 @@ one PEER steps WORKLOAD N NODES
 one PEER filled FILLING
 one PEER full_steps|full_tape STEP
 one PEER kind KIND PLACES [rest]
+one PEER report WORKLOAD N [rest]
 one PEER save|load|bare_save|bare_load|checks|copy N NODES PLACES FRAMES WRITES LINES";
 
 fn main() -> ExitCode {
