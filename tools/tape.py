@@ -1,5 +1,5 @@
 #!/usr/bin/env python3
-"""Tapes for splitrun: encode, decode, run, draw, compare-note-b; saved images: image; logs: audit. See docs/TAPES.md."""
+"""Tapes for splitrun: encode, decode, run, draw, report, compare-note-b; saved images: image; logs: audit. See docs/TAPES.md."""
 import sys
 
 from tapelib.cli import main

@@ -1,5 +1,5 @@
 #!/usr/bin/env python3
-"""Runs what docs/FORMATS.md shows: its tape writer, its image reader, its tables of lines, nodes and sizes.
+"""Runs what docs/FORMATS.md shows: its tape writer, its image reader, its tables of lines, nodes, sizes and clocks.
 
 Needs target/bin/splitrun (or SPLITRUN), target/staticlib/libsplitter.a and gcc; without them the tests that need them are skipped."""
 import os
@@ -54,6 +54,31 @@ int main(int argc, char **argv) {
     return fwrite(image, 1, sizeof image, file) != sizeof image || fclose(file) != 0;
 }
 """ % (", ".join(map(str, NODES)), ", ".join(map(str, PLACES)))
+
+# Reports of the example's first records, one more each time: the result, the words of a report, four words of clocks.
+REPORTS = """
+#include <stdio.h>
+#include "splitter.h"
+static struct splitter_state state;
+static struct splitter_frame table[64];
+static uint32_t pool[80], work[20], answers[18];
+static uint64_t clocks[SPLITTER_CLOCKS_WORDS(64)];
+static const uint32_t values[5] = {10, 20, 30, 40, 50};
+static const struct splitter_lent lent = {&state, table, 64, pool, 80, work, 20};
+int main(void) {
+    uint8_t data[100];
+    if (fread(data, 1, sizeof data, stdin) != sizeof data) { return 1; }
+    for (unsigned records = 1; records <= 9; records++) {
+        struct splitter_parallelism report = {0, 0, 0, 0};
+        uint32_t result = splitter_lent_report(&lent, 2, values, 5, data + 28, 8 * records, answers, 18, clocks, SPLITTER_CLOCKS_WORDS(64), &report);
+        uint64_t words[8] = {report.work, report.span, report.quotient, report.remainder, clocks[0], clocks[1], clocks[2], clocks[3]};
+        printf("%u", result);
+        for (unsigned i = 0; i < 8; i++) { printf(" %u", (unsigned)words[i]); }
+        printf("\\n");
+    }
+    return 0;
+}
+"""
 
 
 def table(before):
@@ -190,6 +215,23 @@ class Images(unittest.TestCase):
         for at in range(0, len(data), 512):
             by_bytes = sum(byte * 256 ** (offset % 4) for offset, byte in enumerate(data[at : at + 508])) % 2**32
             self.assertEqual(by_bytes, struct.unpack_from("<I", data, at + 508)[0])
+
+
+@unittest.skipUnless(ARCHIVE.exists() and shutil.which("gcc"), "no library or no gcc")
+class Reports(unittest.TestCase):
+    def test_the_example(self):
+        with tempfile.TemporaryDirectory() as folder:
+            program = Path(folder) / "report"
+            command = ["gcc", "-std=c99", f"-I{ROOT / 'host/include'}", "-o", program, "-x", "c", "-", "-x", "none", ARCHIVE]
+            subprocess.run(command, input=REPORTS.encode(), check=True)
+            said = subprocess.run([program], input=(ROOT / "crates/splitrun/stdin").read_bytes(), capture_output=True, check=True).stdout.decode()
+        rows = [[int(word) for word in line.split()] for line in said.splitlines()]
+        shown = table("with any number of workers and whatever was stolen")
+        self.assertEqual([[row[5], row[7]] for row in rows], [[number(cell) for cell in row[2:]] for row in shown])
+        self.assertEqual([row[0] for row in rows], [22] * 8 + [0])
+        report, clocks = re.search(r"So its report is ([0-9 ]+)\.", TEXT)[1], re.search(r"After the example they are ([0-9 ]+),", TEXT)[1]
+        self.assertEqual((rows[8][1:5], rows[8][5:]), ([int(word) for word in report.split()], [int(word) for word in clocks.split()]))
+        self.assertEqual(number(shown[8][1]), rows[8][1])
 
 
 if __name__ == "__main__":

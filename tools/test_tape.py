@@ -936,7 +936,7 @@ class Pictures(unittest.TestCase):
         text = (HERE / "examples/waits.tape").read_text()
         words = self.words(text, 9, 12)
         self.assertIn("3 workers, 5 splitters, 20 nodes; free 20 at the end; records 9 to 12 of 21", words)
-        self.assertEqual([w for w in words if w.isdigit() and int(w) > 2], ["9", "10", "11", "12"])
+        self.assertEqual([w for w in words if w.isdigit() and int(w) > 2], ["9", "10", "11", "12", "4"])  # at last the critical path's clock
         for part in ("1.1", "1.2", "Main waits", "1 returns", "return, 2 end"):
             self.assertIn(part, words)
         self.assertNotIn("refused 9: Main has returned.", words)

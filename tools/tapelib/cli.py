@@ -1,12 +1,12 @@
-"""The commands of tape.py. Exit codes: 0 well; 1 splitrun differs from the plain machine, an expected answer did not come, or an
-image would be refused; 2 cannot be done."""
+"""The commands of tape.py. Exit codes: 0 well; 1 splitrun differs from the plain machine, an expected answer did not come, an
+image would be refused, or there is no report; 2 cannot be done."""
 import argparse
 import os
 import subprocess
 import sys
 from pathlib import Path
 
-from . import draw, explain, image, machine, script
+from . import chart, clocks, draw, explain, image, machine, script
 
 DEFAULT = str(Path(__file__).resolve().parents[2] / "target/bin/splitrun")
 LARGEST_SCRIPT = 64 * 1024 * 1024
@@ -165,15 +165,46 @@ def window(arguments, records):
     return first, last
 
 
+def drawn(arguments, run, alike):
+    """The picture of a run whose records were run; None where it would be along the clock and there is no report."""
+    if not arguments.clock:
+        return draw.picture(run, alike, *window(arguments, len(run.events)))
+    report = report_of(arguments.script, run)
+    return chart.picture(run, report, alike) if report else None
+
+
 def do_draw(arguments):
+    if arguments.clock and (arguments.first, arguments.last) != (None, None):
+        raise Trouble("--clock draws a whole run, so --from and --to cannot be with it")
     _, run, text, alike, misses = checked_run(arguments)
     if run.events is None and alike and not misses:
         raise Trouble(f"nothing to draw: {explain.run_words(run)[-1]}")
-    if run.events is not None:
-        put(draw.picture(run, alike, *window(arguments, len(run.events))))
+    svg = drawn(arguments, run, alike) if run.events is not None else ""
+    if svg:
+        put(svg)
     if not alike or misses:
         say(text)
-    return shout(alike, misses)
+    return shout(alike, misses) or (1 if svg is None else 0)
+
+
+def report_of(path, run):
+    """The report of a run whose records were run; None for 22, which it says."""
+    report = clocks.report(run.events)
+    if report is None:
+        why = "the span is 0" if run.totals else "Main has not returned"
+        say(f"tape.py: {path}: no report, refused 22: {explain.REFUSED[22]} Here {why}.")
+    return report
+
+
+def do_report(arguments):
+    run = machine.run(fit_script(arguments.script).data)
+    if run.events is None:
+        raise Trouble(f"{arguments.script}: no report: {explain.run_words(run)[-1]}")
+    report = report_of(arguments.script, run)
+    if report is None:
+        return 1
+    put(explain.report_text(report))
+    return 0
 
 
 def do_compare(arguments):
@@ -209,7 +240,8 @@ def parser():
         ("encode", do_encode, "a script to splitrun's input, on standard output"),
         ("decode", do_decode, "splitrun's input, from standard input, to a script"),
         ("run", do_run, "run splitrun on a script and explain each answer"),
-        ("draw", do_draw, "run splitrun on a script and draw the run as SVG"),
+        ("draw", do_draw, "run splitrun on a script and draw the run as SVG, with its critical path"),
+        ("report", do_report, "work, span and parallelism of a script's run: how many cores it can keep busy"),
         ("compare-note-b", do_compare, "a script by document 01's rule and by note B's"),
         ("image", do_image, "a saved image in words, and whether a reading would take it"),
     ):
@@ -224,6 +256,7 @@ def parser():
         if name == "draw":
             command.add_argument("--from", dest="first", type=int, metavar="RECORD", help="the first record to draw (default 1)")
             command.add_argument("--to", dest="last", type=int, metavar="RECORD", help="the last record to draw (default the last)")
+            command.add_argument("--clock", action="store_true", help="draw the frames along their clocks, not the workers along the records")
     from . import audit  # here, for it imports this module
 
     audit.add_command(commands)

@@ -1,16 +1,19 @@
 """A run as an SVG picture: a lane for each worker, a column for each record, rows of at most ten records."""
 from html import escape
 
-from .explain import REFUSED, event_words, size_words, total_words
+from . import clocks
+from .explain import REFUSED, event_words, report_words, size_words, total_words
 from .machine import IDENTITY, name_text
 from .script import AFFINE, fold_words
 
 LEFT, COLUMN, TOP = 100, 96, 66  # the first column's x, a column's width, the first lane's y
 LINE, BAR, WAIT, GAP = 12, 26, 22, 22  # heights: a label's line, a bar, a waiting row, between lanes
+PATH = 18  # the height of the critical path's line and its clock, under a bar
 NUMBERS, BETWEEN = 30, 14  # heights: the records' numbers over a row, between two rows
 MOST = 10  # the most records of a row
+DIFFERS = "SPLITRUN DIFFERS FROM THIS, THE PLAIN MACHINE'S RUN"
 LETTER = 6.7  # the width of a letter at 11 px
-BLUE, GREEN, GREY, RED, BLACK, PURPLE = "#1f4e9c", "#1a7a3c", "#777", "#c00", "#222", "#7a2a8c"
+BLUE, GREEN, GREY, RED, BLACK, PURPLE, ORANGE = "#1f4e9c", "#1a7a3c", "#777", "#c00", "#222", "#7a2a8c", "#e8590c"
 PALETTE = ("#9ecae9", "#ffd092", "#b5dfa8", "#f4b6c8", "#d3c3ea", "#e8dd8a", "#a5ded8", "#dcc0a6")
 
 
@@ -60,6 +63,17 @@ def wait_rect(x, y, width, high, colour, returning):
     """At a sync white and dashed, as returning grey and dotted."""
     fill, dash = ("#e6e6e6", "1.5 3") if returning else ("#fff", "5 3")
     return rect(x, y, width, high, fill, f' stroke="{colour}" stroke-width="2" stroke-dasharray="{dash}"')
+
+
+def path_line(x, y, end, low, runs=True, wide=5):
+    """A piece of the critical path, along a lane or from one to another; dotted where it is held up."""
+    dash = "" if runs else ' stroke-dasharray="2 4"'
+    return f'<path d="M{x:g} {y:g}L{end:g} {low:g}" stroke="{ORANGE}" stroke-width="{wide}"{dash} fill="none"/>'
+
+
+def path_dot(x, y):
+    """Where the critical path begins or ends."""
+    return f'<circle cx="{x:g}" cy="{y:g}" r="6" fill="{ORANGE}"/>'
 
 
 def stretches(states):
@@ -125,6 +139,8 @@ LEGEND = (
     ("read", lambda x, y: dot(x + 13, y, "#fff"), "read"),
     ("write", lambda x, y: dot(x + 13, y, BLACK), "write"),
     ("fold", lambda x, y: diamond(x + 13, y), "fold"),
+    ("path", lambda x, y: path_line(x, y, x + 26, y), "critical path, with the clock after each step"),
+    ("held up", lambda x, y: path_line(x, y, x + 26, y, False), "it is held up by a wait or by other steps"),
 )
 
 
@@ -140,7 +156,7 @@ class Row:
         for worker in range(self.run.workers + strays):
             y += LINE * self.label_lines(worker) + 10
             self.lanes.append(y)
-            y += BAR + GAP + WAIT * self.place_waits(worker)
+            y += BAR + self.path_room(worker) + GAP + WAIT * self.place_waits(worker)
         self.right, self.bottom = self.x(last + 1), y - GAP + 6
 
     def x(self, record):
@@ -154,12 +170,16 @@ class Row:
         """The most lines of a label in the lane; 0 if no record is in it."""
         return max([0] + [len(label_words(event)[0]) for event in self.events if self.lane(event.worker) == worker])
 
+    def path_room(self, worker):
+        """The height under the lane's bar for the critical path, if it comes here."""
+        return PATH if any(here.worker == worker for here in self.picture.track[self.first - 1 : self.last + 1]) else 0
+
     def place_waits(self, worker):
         """Keeps the lane's waits seen in this row, each with its place under the bar; how many places there are."""
         seen = [w for w in self.picture.waits if w.worker == worker and w.first <= self.last and w.last >= self.first]
         places = rows_of(seen)
         for wait, place in zip(seen, places):
-            self.waits[wait] = self.lanes[worker] + BAR + 4 + place * WAIT
+            self.waits[wait] = self.lanes[worker] + BAR + self.path_room(worker) + 4 + place * WAIT
         return max(places) + 1 if places else 0
 
     def grid(self):
@@ -196,6 +216,35 @@ class Row:
             label = text(x + 9, y + 12, fit(f"{name} {word}", 12), ' fill="#555"')
             self.parts.append(titled(f"frame {name} is suspended{how}", shape, label))
             self.picture.met.add(key)
+
+    def path(self):
+        """The critical path under the bars, with the clock after each of its steps."""
+        picture = self.picture
+        for first, end, (worker, runs) in stretches([(here.worker, here.runs) for here in picture.track[self.first - 1 : self.last + 1]]):
+            self.parts.append(path_line(at(first), self.under(worker), at(end), self.under(worker), runs))
+            picture.met.add("path" if runs else "held up")
+        for record in range(self.first, min(self.last, len(picture.track)) + 1):
+            x, y, before = self.x(record), self.path_y(record), self.path_y(record - 1)
+            if y != before:
+                self.parts.append(path_line(x, min(y, before) - 2.5, x, max(y, before) + 2.5, wide=7))
+            if record in picture.clock:
+                self.parts.append(text(x + 7, y + 12, picture.clock[record], f' fill="{ORANGE}" font-weight="bold"'))
+        self.path_ends()
+
+    def under(self, worker):
+        """The y of the critical path under a worker's bar."""
+        return self.lanes[worker] + BAR + 5
+
+    def path_y(self, record):
+        """The y of the critical path after a record; after Main's return, of its end."""
+        track = self.picture.track
+        return self.under(track[min(record, len(track) - 1)].worker)
+
+    def path_ends(self):
+        """A dot where the critical path begins, and one at Main's return."""
+        over = len(self.picture.track)
+        ends = ([0] if over and self.first == 1 else []) + ([over] if self.first <= over <= self.last else [])
+        self.parts += [path_dot(self.x(record), self.path_y(record)) for record in ends]
 
     def steal(self, x, event):
         victim, thief = self.lanes[event.low], self.lanes[event.worker]
@@ -241,12 +290,36 @@ class Row:
             self.parts.append(titled(words, self.sign(record, event), self.label(self.x(record), event)))
 
 
-class Picture:
+class Drawing:
+    """The parts of a picture, and how far they reach."""
+
+    def __init__(self):
+        self.parts, self.right, self.bottom = [], 0, 0
+
+    def entry(self, x, sign, words, colour):
+        """An entry of the legend."""
+        self.parts.append(sign + text(x + 34, self.bottom + 4, words, f' fill="{colour}"'))
+        self.right = max(self.right, x + 34 + LETTER * len(words))
+
+    def signs(self, entries):
+        """Signs with their words, side by side below all that was drawn."""
+        x, wide, self.bottom = LEFT - 84, max(self.right, 700), self.bottom + 10
+        for _, sign, words in entries:
+            end = x + 34 + LETTER * len(words)
+            if end > wide and x > LEFT - 84:
+                x, end, self.bottom = LEFT - 84, LEFT - 50 + LETTER * len(words), self.bottom + 24
+            self.entry(x, sign(x, self.bottom), words, "#444")
+            x = end + 22
+        self.bottom += 24
+
+
+class Picture(Drawing):
     """The records first to last of a run, in rows, and what is shown in all of them."""
 
-    def __init__(self, run, first, last):
-        self.run, self.first, self.last = run, first, last
-        self.met, self.parts = set(), []
+    def __init__(self, run, first, last, report=None):
+        super().__init__()
+        self.run, self.first, self.last, self.report, self.met = run, first, last, report, set()
+        self.track, self.clock = ([], {}) if report is None else (clocks.track(run.events, report.path()), path_clock(report))
         names = [()] + [event.other for event in run.events if event.kind == "spawn" and not event.refusal]
         self.colours = {name: PALETTE[place % len(PALETTE)] for place, name in enumerate(names)}
         self.bottoms = [((),) + (None,) * (run.workers - 1)] + [event.bottoms for event in run.events]
@@ -257,21 +330,17 @@ class Picture:
 
     def row(self, first, last):
         row = Row(self, first, last, self.bottom)
-        for drawn in (row.grid, row.bars, row.suspensions, row.marks):
+        for drawn in (row.grid, row.bars, row.suspensions, row.path, row.marks):
             drawn()
         self.parts += row.parts
         self.right, self.bottom, self.last_row = max(self.right, row.right), row.bottom + BETWEEN, row
 
     def legend(self):
         """An entry for each sign and each refusal met, below the rows."""
-        x, wide, self.bottom = LEFT - 84, max(self.right, 700), self.bottom + 10
-        for sign, words in ((sign, words) for key, sign, words in LEGEND if key in self.met):
-            end = x + 34 + LETTER * len(words)
-            if end > wide and x > LEFT - 84:
-                x, end, self.bottom = LEFT - 84, LEFT - 50 + LETTER * len(words), self.bottom + 24
-            self.entry(x, sign(x, self.bottom), words, "#444")
-            x = end + 22
-        self.bottom += 24
+        self.signs(entry for entry in LEGEND if entry[0] in self.met)
+        if self.met & {"path", "held up"}:
+            self.entry(LEFT - 84, path_line(LEFT - 84, self.bottom, LEFT - 58, self.bottom), report_words(self.report), ORANGE)
+            self.bottom += 18
         self.totals()
         for number in sorted({event.refusal for event in self.run.events[self.first - 1 : self.last]} - {0}):
             self.entry(LEFT - 84, cross(LEFT - 71, self.bottom), f"refused {number}: {REFUSED[number]}", RED)
@@ -284,14 +353,16 @@ class Picture:
             self.entry(LEFT - 84, diamond(LEFT - 71, self.bottom), f"totals: {total_words(self.run.totals)}", PURPLE)
             self.bottom += 18
 
-    def entry(self, x, sign, words, colour):
-        self.parts.append(sign + text(x + 34, self.bottom + 4, words, f' fill="{colour}"'))
-        self.right = max(self.right, x + 34 + LETTER * len(words))
-
     def title(self):
         size = f"{size_words(self.run)}; {self.run.lines[len(self.run.events) + 1]} at the end"
         whole = (self.first, self.last) == (1, len(self.run.events))
         return size if whole else f"{size}; records {self.first} to {self.last} of {len(self.run.events)}"
+
+
+def path_clock(report):
+    """What is written at a record of the critical path: the clock after its step, and the span at Main's return."""
+    path = report.path()
+    return {**{step.record: step.clock for step in path if step.kind != "return"}, path[-1].record: f"span {report.span}"}
 
 
 def raw_words(record):
@@ -363,6 +434,6 @@ def page(drawing, title, warning=""):
 
 
 def picture(run, alike=True, first=1, last=None):
-    """The SVG text of the records first to last of a run whose records were run."""
-    drawing = Picture(run, first, len(run.events) if last is None else last)
-    return page(drawing, drawing.title(), "" if alike else "SPLITRUN DIFFERS FROM THIS, THE PLAIN MACHINE'S RUN")
+    """The SVG text of the records first to last of a run whose records were run, with the critical path if Main has returned."""
+    drawing = Picture(run, first, len(run.events) if last is None else last, clocks.report(run.events))
+    return page(drawing, drawing.title(), "" if alike else DIFFERS)

@@ -6,7 +6,7 @@ from .machine import IDENTITY, LENT_PLACES, name_text, tree_nodes
 from .script import AFFINE, Expect, about, record_line, split_input, split_records
 
 # Document 01's sentences, "Refused, in checking order"; 16 as document 02, R-2, has it; 14 is gone with R-3; 7 and 20 as R-5 has them,
-# 13 and 6 as R-6 has them.
+# 13 and 6 as R-6 has them, 22 as R-7 has it.
 REFUSED = {
     1: "At a start, there are 0 or more than 256 initial values.",
     2: "At a start, there are 0 or more than 8 workers.",
@@ -24,6 +24,7 @@ REFUSED = {
     15: "The step is a read or a write and the splitter is not below n.",
     16: "The step is a write and fewer nodes are free than the shared rest of its path has.",
     20: "The step is a fold and names no reducer.",
+    22: "Main has not returned or the span is 0.",
 }
 UNFIT = (
     "unfit: header or values cut short, n over 256, nodes over 1,024 or more than 16,384 bytes of records."
@@ -150,6 +151,22 @@ def run_words(run):
 def total_words(totals):
     """The totals in words."""
     return f"sum {totals[0]}, minimum {totals[1]}, affine map {map_words(*totals[2:])}"
+
+
+def report_words(report):
+    """Work, span and parallelism in a line."""
+    return f"work {report.work}, span {report.span}, parallelism {report.quotient} remainder {report.remainder}"
+
+
+def mean_words(report):
+    """Work divided by span: 5, or 5 3/44"""
+    return f"{report.quotient} {report.remainder}/{report.span}" if report.remainder else str(report.quotient)
+
+
+def report_text(report):
+    """The report, and how many cores that means: a schedule takes at least the span, and the work is the same in all."""
+    busy = f"At most {count_words(report.quotient, 'core')} can be kept busy: on average no schedule has more than {mean_words(report)} at work."
+    return f"work {report.work}\nspan {report.span}\nparallelism {report.quotient} remainder {report.remainder}\n{busy}\n"
 
 
 def step_texts(data, run):
