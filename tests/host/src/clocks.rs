@@ -1,4 +1,4 @@
-//! R-7 from the documents' text alone: the plain machine by names. Each live frame has its name, its full list of values and the last write to
+//! R-7 by the documents' text (its author had read the definitions too): the plain machine by names. Each live frame has its name, its full list of values and the last write to
 //! each splitter in its history; beside that its clock and the clocks of its ended children. Nothing of plain.rs is used. Work and span come
 //! twice: from the machine, as the run goes, and once more from the frames' steps alone, by names.
 
