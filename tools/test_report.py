@@ -1,13 +1,20 @@
 """Quick tests of work, span and the critical path (document 02, R-7): python3 tools/test_report.py
 
-SPLITRUN=PATH names the program (default target/bin/splitrun); tests that need it are skipped without it."""
+SPLITRUN=PATH names the program (default target/bin/splitrun); tests that need it, or the library's archive, are skipped without it."""
+import os
 import random
 import struct
+import subprocess
+import tempfile
 import unittest
 import xml.dom.minidom
+from pathlib import Path
 
 from test_tape import EXAMPLES, FORKED, HERE, LONE, ROOT, SPLITRUN, example, folding_script, needs_splitrun, random_script, tape, text_boxes
 from tapelib import chart, clocks, draw, explain, machine, script
+
+ARCHIVE = Path(os.environ.get("SPLITTER_LIB_DIR", ROOT / "target/staticlib")) / "libsplitter.a"
+needs_archive = unittest.skipUnless(ARCHIVE.exists(), f"no {ARCHIVE}")
 
 
 def report(text):
@@ -209,6 +216,52 @@ class Pairs(unittest.TestCase):
     def test_a_return_counts_when_the_frame_ends(self):
         found = report(f"start 2 20{FORKED}1 return\n0 read 0\n0 return\n")
         self.assertEqual([(step.frame, step.record, step.clock) for step in found.steps if step.kind == "return"], [((1,), 5, 2), ((), 5, 2)])
+
+
+def seeded_runs():
+    """splitrun's inputs: random steps by random schedules, tapes with refused records, searches with folds, the examples and the edges."""
+    for seed in range(1500):
+        chance = random.Random(seed)
+        steps = random_steps(chance, chance.choice((2, 5, 20, 60)))
+        workers = chance.randint(1, 8)
+        events = scheduled(steps, workers, chance)
+        records = b"".join(event.record for event in events)
+        if len(events) <= 2048:
+            yield struct.pack("<HHII", workers, 1, 1000, 1) + records
+    texts = [random_script(seed) for seed in range(1000)] + [folding_script(seed) for seed in range(500)]
+    for text in texts + [path.read_text() for path in EXAMPLES] + list(PAIRS):
+        yield script.encode(text)
+
+
+class Library(unittest.TestCase):
+    """The library's reports against this tool's clocks and machine, which were written from the documents without the proved definitions."""
+
+    @needs_archive
+    def test_reports_of_the_library(self):
+        inputs = list(seeded_runs())
+        with tempfile.TemporaryDirectory() as folder:
+            program = Path(folder) / "report"
+            flags = ["-std=c99", "-O1", "-Wall", "-Wextra", "-Werror", f"-I{ROOT / 'host/include'}"]
+            subprocess.run(["gcc", *flags, "-o", program, ROOT / "tools/lib/report.c", ARCHIVE], check=True)
+            packed = b"".join(struct.pack("<I", len(data)) + data for data in inputs)
+            lines = subprocess.run([program], input=packed, capture_output=True, check=True).stdout.decode().splitlines()
+        self.assertEqual(len(lines), len(inputs))
+        met = {"report": 0, "withheld": 0, "waits": 0, "suspends": 0, "steal": 0, "refused": 0}
+        for data, line in zip(inputs, lines):
+            run = machine.run(data)
+            found = clocks.report(run.events)
+            wanted = (0, found.work, found.span, found.quotient, found.remainder) if found else (22, 0, 0, 0, 0)
+            answers = [event.answer().replace(" ", ",") for event in run.events]
+            self.assertEqual(line.split(), [*map(str, wanted), *answers])
+            met["report" if found else "withheld"] += 1
+            if found:
+                met["waits"] += any(event.kind == "return" and not event.refusal and event.number == 4 for event in run.events)
+                met["suspends"] += any(event.kind == "sync" and not event.refusal and event.number == 1 for event in run.events)
+                met["steal"] += any(event.kind == "steal" and not event.refusal for event in run.events)
+                met["refused"] += any(event.refusal for event in run.events)
+        for what, times in met.items():
+            self.assertGreater(times, 100, what)
+        print(f"reports of the library against the tape tool: {len(lines)} runs, {met}")
 
 
 class Paths(unittest.TestCase):

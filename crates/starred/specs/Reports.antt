@@ -52,8 +52,10 @@ table =
     -- a fan of three, each with two reads, then a sync: 3 spawns, 6 reads, 1 sync; 3 + 2 + 1
     ∷ (spawns 0 ∷ reads 0 0 ∷ reads 0 0 ∷ returns 0 ∷ spawns 0 ∷ reads 0 0 ∷ reads 0 0 ∷ returns 0 ∷ spawns 0 ∷ reads 0 0 ∷ reads 0 0 ∷ returns 0 ∷ syncs 0 ∷ returns 0 ∷ [], (0, 10 ∷ 6 ∷ 1 ∷ 4 ∷ []))
     -- the same frames' steps with steals: the same pair. The sync suspends, and is counted when it passes
-    ∷ (spawns 0 ∷ steals 1 0 ∷ spawns 1 ∷ steals 2 1 ∷ spawns 2 ∷ reads 0 0 ∷ reads 1 0 ∷ reads 2 0 ∷ reads 0 0 ∷ returns 0 ∷ reads 2 0 ∷ returns 2 ∷ syncs 2 ∷ reads 1 0 ∷ returns 1 ∷ returns 1 ∷ [],
-      (0, 10 ∷ 6 ∷ 1 ∷ 4 ∷ []))
+    ∷ (
+      spawns 0 ∷ steals 1 0 ∷ spawns 1 ∷ steals 2 1 ∷ spawns 2 ∷ reads 0 0 ∷ reads 1 0 ∷ reads 2 0 ∷ reads 0 0 ∷ returns 0 ∷ reads 2 0 ∷ returns 2 ∷ syncs 2 ∷ reads 1 0 ∷ returns 1 ∷ returns 1 ∷ [],
+      (0, 10 ∷ 6 ∷ 1 ∷ 4 ∷ []),
+    )
     -- R-3: Main waits in its return for its child, and ends with it at the child's clock
     ∷ (spawns 0 ∷ steals 1 0 ∷ reads 1 0 ∷ returns 1 ∷ reads 0 0 ∷ reads 0 0 ∷ reads 0 0 ∷ returns 0 ∷ [], (0, 5 ∷ 4 ∷ 1 ∷ 1 ∷ []))
     ∷ []
