@@ -24,12 +24,15 @@ pub mod passed
 pub mod suspended
 pub mod child_names
 pub mod with_younger
-pub mod eldest_with
 pub mod frame_or_zero
-pub mod eldest
 pub mod first_from
 pub mod add
 pub mod link
 pub mod main_frame
 pub mod others
 pub mod init_places
+pub mod add_to_eldest
+pub mod eldest_of_all
+pub mod first_by
+pub mod sub
+pub mod lose_child

@@ -5,10 +5,13 @@ use mathlib.Core.Logic.{_≢_, inl, inr}
 use mathlib.Core.List.{List}
 use Prim.Native.Nat.{ℕ, zero, suc, _+_, _-_, _≤_, _<_}
 use native.Mathlib.Omega.{arith}
-use lib.ListN.{length}
-use lib.Dec.{eqb}
-use borrow.Author.Tests.{eq-eqb, ne-eqb}
+use native.Mathlib.Decide.{ℕ-discrete}
+use lib.ListN.{length, getD, set, replicate, getD-replicate}
+use lib.Seq.{getD-set-same, getD-set-other}
+use lib.Dec.{eqb, ltb}
+use borrow.Author.Tests.{eq-eqb, ne-eqb, ltb-true, ltb-false}
 use Rattle.words.specs.Basics.{none, plus, minus}
+use Rattle.words.specs.Tests.{decided}
 use Rattle.reducers.specs.declared.View.{View}
 use Rattle.reducers.specs.Reducers.{joinView}
 use Rattle.frames.specs.declared.Frame.{Frame}
@@ -16,13 +19,14 @@ use Rattle.frames.specs.declared.Returned.{Returned}
 use Rattle.frames.specs.declared.Synced.{Synced}
 use Rattle.frames.specs.declared.Returned.the-variants.{Idle, Resumed}
 use Rattle.frames.specs.declared.Synced.the-variants.{Passed, Suspended}
+use Rattle.frames.specs.Widths.{maxPlaces}
 use Rattle.frames.specs.Frames.{frameAt, setFrame, withoutChild, withSuspended, withView, withYounger, asReturning, afterSpawn, childOf, freePlace}
-use Rattle.frames.specs.Siblings.{names, relinkFrom, relink, eldestAt, eldestTo, eldest, firstFrom, onlyChild, nextAfter, joinAt}
+use Rattle.frames.specs.Siblings.{names, relinkFrom, relink, eldestTo, eldest, firstFrom, onlyChild, nextAfter, joinAt}
 use Rattle.frames.specs.Deques.{bottom, push, pop}
 use Rattle.frames.specs.Steps.{linkChild, addChild, spawn, removeFrame, unlink, endFrame, waitsNoMore, goOn, wentOn, sync, synced}
 use Rattle.frames.specs.Ranges.{ParentOf, EndsIn}
 use Rattle.frames.specs.Promises.{table, Waits, GoesOn, IsSync}
-use Rattle.frames.specs.Theory.Records.{frame-set-same, frame-set-other, frame-set-again, frame-set-swap}
+use Rattle.frames.specs.Theory.Records.{frame-set-same, frame-set-other, frame-set-again, frame-set-swap, frame-past}
 use Rattle.frames.specs.Theory.Links.{link-alike, link-view}
 use Rattle.frames.specs.Theory.Ends.{end-last, end-joins, only-unlink, only-next, sibling-unlink, sibling-next}
 use Rattle.frames.specs.Theory.EndRecords.{removed-is, removed-parent}
@@ -38,6 +42,14 @@ parent-in {fs} {p} {q} r n = go (r .parent)
     go (inl a) = (subst (λ z. z < length fs) (sym (r .up)) (a .1), (λ z. a .2 (sym (r .up) ∙ z)), subst (λ z. 0 < frameAt fs z .outstanding) (sym (r .up)) (r .counts (a .1)))
     go (inr b) = absurd (n (r .up ∙ b .1))
 
+has-siblings : (fs : List Frame) (p q : ℕ) → q ≡ frameAt fs p .parent → frameAt fs q .outstanding ≢ 1 → onlyChild fs p ≡ false
+has-siblings fs p q eq z = ne-eqb _ 1 (λ y. z (ap (λ (i : ℕ). frameAt fs i .outstanding) eq ∙ y))
+
+-- the next one in the order, of a frame that has siblings
+pub sibling-after : (fs : List Frame) (p q : ℕ) (f : Frame) (n : ℕ) → q ≡ frameAt fs p .parent → frameAt fs q .outstanding ≢ 1 → f ≡ frameAt fs p
+    → n ≡ cond (eqb (f .younger) none) q (firstFrom (length fs) fs (f .younger)) → n ≡ nextAfter fs p
+sibling-after fs p q f n eq z ef en = en ∙ rw (sibling-next fs p (has-siblings fs p q eq z), ef, eq)
+
 -- q is the parent of the frame at place p, whose place is free afterwards, with the record g
 module _ (fs : List Frame) (free p q : ℕ) (eq : q ≡ frameAt fs p .parent) (g : Frame) (eg : g ≡ freePlace free) where
   -- Main
@@ -45,20 +57,17 @@ module _ (fs : List Frame) (free p q : ℕ) (eq : q ≡ frameAt fs p .parent) (g
   unfolding removeFrame
   ended-main fs₁ n e₁ = rw (e₁, eg, end-last fs free p (sym eq ∙ n), ← eq, eq-eqb q none n)
 
-  -- the table without it: its parent's record was h
-  module _ (h k : Frame) (fs₁ fs₂ : List Frame) (m : q ≢ none) (eh : h ≡ frameAt fs q) (ek : k ≡ withoutChild h) (e₁ : fs₁ ≡ setFrame fs p g) (e₂ : fs₂ ≡ setFrame fs₁ q k) where
+  -- the table without it: its parent, at another place, has a live child less
+  module _ (fs₁ fs₂ : List Frame) (m : q ≢ none) (d : q ≢ p) (e₁ : fs₁ ≡ setFrame fs p g) (e₂ : fs₂ ≡ setFrame fs₁ q (withoutChild (frameAt fs₁ q))) where
     removed : fs₂ ≡ removeFrame fs free p
     unfolding removeFrame
-    removed = rw (e₂, e₁, ek, eh, eg, ← eq, ne-eqb q none m)
-
-    parent-outstanding : frameAt fs q .outstanding ≡ frameAt fs (frameAt fs p .parent) .outstanding
-    parent-outstanding = ap (λ (i : ℕ). frameAt fs i .outstanding) eq
+    removed = rw (e₂, e₁, frame-set-other fs p q g d, eg, ← eq, ne-eqb q none m)
 
     pub ended-sibling : (f : Frame) (fs₃ fs₄ : List Frame) (n : ℕ) → f ≡ frameAt fs p → frameAt fs q .outstanding ≢ 1
-        → n ≡ cond (eqb (f .younger) none) q (firstFrom (length fs) fs (f .younger)) → fs₃ ≡ relink fs₂ q p (f .younger) → fs₄ ≡ joinAt fs₃ n (f .view) → fs₄ ≡ endFrame fs free p
+        → n ≡ nextAfter fs p → fs₃ ≡ relink fs₂ q p (f .younger) → fs₄ ≡ joinAt fs₃ n (f .view) → fs₄ ≡ endFrame fs free p
     ended-sibling f fs₃ fs₄ n ef z en e₃ e₄ =
-        let o : onlyChild fs p ≡ false = ne-eqb _ 1 (λ y. z (parent-outstanding ∙ y)) in
-        e₄ ∙ rw (end-joins fs free p (λ e. m (eq ∙ e)), sibling-unlink fs p o (removeFrame fs free p), sibling-next fs p o, e₃, removed, en, ef, eq)
+        let o : onlyChild fs p ≡ false = has-siblings fs p q eq z in
+        e₄ ∙ rw (end-joins fs free p (λ e. m (eq ∙ e)), sibling-unlink fs p o (removeFrame fs free p), e₃, removed, en, ef, eq)
 
 -- an only child: its parent's record is stored, then its own place is free
 module _ (fs : List Frame) (free p q : ℕ) (eq : q ≡ frameAt fs p .parent) (b : p < length fs) (bq : q < length fs) (m : q ≢ none) (d : q ≢ p) (o : frameAt fs q .outstanding ≡ 1) where
@@ -169,19 +178,48 @@ pub relink-end : (fs : List Frame) (q x y c : ℕ) → length fs ≤ c → fs �
 unfolding relinkFrom
 relink-end fs q x y c h = let e : length fs - c ≡ 0 = omega arith in sym (ap (λ (m : ℕ). relinkFrom m fs q x y c) e)
 
-pub eldest-begin : (fs : List Frame) (q : ℕ) → none ≡ eldestTo 0 fs q
-unfolding eldestTo
-eldest-begin fs q = refl
+-- the word of each place that a table may have: the sum over the first c places
+abbrev pub Summed : List Frame → ℕ → List ℕ → Type 0
+Summed fs c es = (q : ℕ) → q < maxPlaces → getD es q 0 ≡ eldestTo c fs q
 
-pub eldest-turn : (fs : List Frame) (q c e r : ℕ) (f : Frame) → f ≡ frameAt fs c → e ≡ eldestTo c fs q → r ≡ cond (eqb (f .live) 1 && eqb (f .parent) q) (minus (plus e c) (f .younger)) e → r ≡ eldestTo (c + 1) fs q
+pub summed-begin : (fs : List Frame) (es : List ℕ) → es ≡ replicate maxPlaces none → Summed fs 0 es
 unfolding eldestTo
-eldest-turn fs q c e r f ef d k =
+summed-begin fs es e q b = ap (λ (ws : List ℕ). getD ws q 0) e ∙ getD-replicate maxPlaces q none 0 b
+
+-- the record f at place c, if a frame lives in it, is added to the word of its parent's place
+abbrev added : List ℕ → ℕ → Frame → List ℕ
+added es c f = cond (eqb (f .live) 1) (set es (f .parent) (minus (plus (getD es (f .parent) 0) c) (f .younger))) es
+
+pub not-added : (es : List ℕ) (c : ℕ) (f : Frame) → f .live ≢ 1 → es ≡ added es c f
+not-added es c f d = rw (ne-eqb (f .live) 1 d)
+
+pub is-added : (es : List ℕ) (c : ℕ) (f : Frame) → f .live ≡ 1 → {e s r : ℕ} {gs : List ℕ} → e ≡ getD es (f .parent) 0 → s ≡ plus e c → r ≡ minus s (f .younger) → gs ≡ set es (f .parent) r → gs ≡ added es c f
+is-added es c f t a b d k = k ∙ rw (d, b, a, eq-eqb (f .live) 1 t)
+
+added-at : (es : List ℕ) (c : ℕ) (f : Frame) (q e : ℕ) → q < length es → getD es q 0 ≡ e → getD (added es c f) q 0 ≡ cond (eqb (f .live) 1 && eqb (f .parent) q) (minus (plus e c) (f .younger)) e
+added-at es c f q e b d = elim (decided (eqb (f .live) 1)) [
+  | inl t ↦ elim (ℕ-discrete q (f .parent)) [
+    | yes k ↦ rw (t, eq-eqb (f .parent) q (sym k), ← k) (getD-set-same es q (minus (plus (getD es q 0) c) (f .younger)) 0 b ∙ ap (λ (x : ℕ). minus (plus x c) (f .younger)) d)
+    | no k ↦ rw (t, ne-eqb (f .parent) q (λ z. k (sym z))) (getD-set-other es (f .parent) q (minus (plus (getD es (f .parent) 0) c) (f .younger)) 0 k ∙ d)
+  ]
+  | inr t ↦ rw t d
+]
+
+pub summed-turn : (fs : List Frame) (es gs : List ℕ) (c : ℕ) (f : Frame) → f ≡ frameAt fs c → length es ≡ maxPlaces → gs ≡ added es c f → Summed fs c es → Summed fs (c + 1) gs
+unfolding eldestTo
+summed-turn fs es gs c f ef long k s q b =
     let one : c + 1 ≡ suc c = omega arith in
-    let here : r ≡ eldestAt fs q c e = k ∙ ap (λ (g : Frame). cond (eqb (g .live) 1 && eqb (g .parent) q) (minus (plus e c) (g .younger)) e) ef in
-    rw one (here ∙ ap (eldestAt fs q c) d)
+    rw one (ap (λ (ws : List ℕ). getD ws q 0) (k ∙ ap (added es c) ef) ∙ added-at es c (frameAt fs c) q (eldestTo c fs q) (omega arith) (s q b))
 
-pub eldest-end : (fs : List Frame) (q c e : ℕ) → c ≤ length fs → length fs ≤ c → e ≡ eldestTo c fs q → e ≡ eldest fs q
-eldest-end fs q c e a b d = let z : c ≡ length fs = omega arith in d ∙ ap (λ (n : ℕ). eldestTo n fs q) z
+pub summed-end : (fs : List Frame) (es : List ℕ) (c : ℕ) → c ≤ length fs → length fs ≤ c → Summed fs c es → (q : ℕ) → q < maxPlaces → getD es q 0 ≡ eldest fs q
+summed-end fs es c a b s q h = let z : c ≡ length fs = omega arith in s q h ∙ ap (λ (n : ℕ). eldestTo n fs q) z
+
+-- past the table there are no children
+pub has-children : (fs : List Frame) (p : ℕ) (f : Frame) → f ≡ frameAt fs p → f .outstanding ≢ 0 → p < length fs
+has-children fs p f ef n = elim (decided (ltb p (length fs))) [
+  | inl t ↦ ltb-true p (length fs) t
+  | inr t ↦ absurd (n (ap (λ (g : Frame). g .outstanding) (ef ∙ frame-past fs p (ltb-false p (length fs) t))))
+]
 
 -- down to the eldest child
 module _ (fs : List Frame) (p left : ℕ) (f : Frame) (ef : f ≡ frameAt fs p) (b : 0 < left) where

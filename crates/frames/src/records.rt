@@ -2,7 +2,7 @@
 ghost use mathlib.Core.Path.{_≡_};
 ghost use mathlib.Core.Bool.{cond, _&&_};
 ghost use lib.Dec.{eqb, ltb};
-ghost use Rattle.words.specs.Basics.{none, plus, minus};
+ghost use Rattle.words.specs.Basics.{none};
 ghost use Rattle.reducers.specs.Reducers.{zeroView, joinView, foldView};
 ghost use Rattle.frames.specs.Frames.{withSuspended, withRoot, withView, withYounger, withoutChild, afterSpawn, asReturning, childOf, freePlace, mainFrame};
 ghost use Rattle.frames.specs.Steps.{waitsNoMore, endsToo};
@@ -175,28 +175,11 @@ pub fn ends_too(f: Frame) -> bool
     ((f.suspended == 1) & (f.outstanding == 0)) & (f.returning == 1)
 }
 
-// Is it a live child of the frame at place q?
-pub fn is_child(f: Frame, q: u32) -> bool
-    ensures { λ r. ⌜ r ≡ eqb (f .live) 1 && eqb (f .parent) q ⌝ }
-{
-    (f.live == 1) & (f.parent == q)
-}
-
 // Is it a live child of the frame at place q that names x as its next younger sibling?
 pub fn child_names(f: Frame, q: u32, x: u32) -> bool
     ensures { λ r. ⌜ r ≡ (eqb (f .live) 1 && eqb (f .parent) q) && eqb (f .younger) x ⌝ }
 {
     ((f.live == 1) & (f.parent == q)) & (f.younger == x)
-}
-
-// The sum e and, if the record at place c is a live child of q, its place less the one that it names.
-pub fn eldest_with(f: Frame, q: u32, c: u32, e: u32) -> u32
-    ensures { λ r. ⌜ r ≡ cond (eqb (f .live) 1 && eqb (f .parent) q) (minus (plus e c) (f .younger)) e ⌝ }
-{
-    if is_child(f, q) {
-        return words::wrapping_sub(words::add(e, c), f.younger);
-    }
-    e
 }
 
 // Is p one of n places?

@@ -36,6 +36,7 @@ use super::siblings::join_if_place;
 use super::siblings::next_after;
 use super::siblings::relink;
 use super::table::frame_at;
+use super::table::lose_child;
 use super::table::put_frame;
 
 // The frame at place p has so many live children: the youngest of them, if there is one, names the new one, at place g, as its next younger sibling.
@@ -72,16 +73,16 @@ pub fn spawn_frame(
     next.parent
 }
 
-// The frame at place p, whose parent at place q has other live children, ends.
+// The frame at place p, whose parent at place q has other live children, ends. The next one in the order is looked for before any record is read, so that
+// none is held meanwhile: the compiler keeps this a function of its own, and the array of first_from lies on its stack.
 pub fn end_sibling(frames: &mut [Frame], free: u32, p: u32, q: u32)
     requires { ⌜ EndsIn (now frames) p q × (length (now frames) ≤ maxPlaces) × (q ≢ none) × (frameAt (now frames) q .outstanding ≢ 1) ⌝ }
     ensures { λ _. ⌜ now (frames .exit) ≡ endFrame (now (frames .entry)) free p ⌝ }
 {
+    let next = next_after(frames, p, q);
     let f = frame_at(frames, p);
-    let g = frame_at(frames, q);
-    let next = next_after(frames, q, f.younger);
     put_frame(frames, p, free_place(free));
-    put_frame(frames, q, without_child(g));
+    lose_child(frames, q);
     relink(frames, q, p, f.younger);
     join_if_place(frames, next, f.view);
 }

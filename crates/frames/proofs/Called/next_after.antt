@@ -32,12 +32,12 @@ use denote.Triple.Statement.{Contract, Triple}
 use denote.Triple.Call.{calls-at, calls-at-last}
 use denote.Triple.Clauses.{ensured, lasts}
 use denote.Triple.Walked.{says}
-use mathlib.Core.Bool.{cond}
+use mathlib.Core.Logic.{_≢_}
 use Prim.Native.Nat.{_≤_}
-use lib.Dec.{eqb}
-use Rattle.words.specs.Basics.{none}
 use Rattle.frames.specs.Widths.{maxPlaces}
-use Rattle.frames.specs.Siblings.{firstFrom}
+use Rattle.frames.specs.Frames.{frameAt}
+use Rattle.frames.specs.Siblings.{nextAfter}
+use Rattle.frames.specs.Ranges.{EndsIn}
 use Rattle.frames.proofs.Frame as M-Frame
 use Rattle.frames.proofs.Frame.Laws as L-Frame
 use Rattle.frames.specs.declared.Frame.{Frame}
@@ -54,25 +54,25 @@ module _ {M : Type 1} (𝓤 : URA M) (H : Heap 𝓤) (A : Atoms 𝓤) (mem : Mem
   abbrev pub Asked : Contract 𝓤
   Asked = tripleOf 𝓤 H A callee′.signature (callee′.spec 𝓤 H A mem run)
 
-  abbrev pub to-step-s : (ν-frames : ℕ) (δ-frames : GName) (b-frames o-frames n-frames : ℕ) (frames : List Frame) (q : ℕ) (y : ℕ) → Asked .Ghost
-  to-step-s ν-frames δ-frames b-frames o-frames n-frames frames q y = ((((ν-frames ∷ []), tt), (fullShare, tt), tt, (at-list b-frames o-frames δ-frames frames, (q, (y, tt))), (sliceVal (b-frames, o-frames) n-frames ∷ [], (vint w32 q ∷ [], (vint w32 y ∷ [], tt)))), tt)
+  abbrev pub to-step-s : (ν-frames : ℕ) (δ-frames : GName) (b-frames o-frames n-frames : ℕ) (frames : List Frame) (p : ℕ) (q : ℕ) → Asked .Ghost
+  to-step-s ν-frames δ-frames b-frames o-frames n-frames frames p q = ((((ν-frames ∷ []), tt), (fullShare, tt), tt, (at-list b-frames o-frames δ-frames frames, (p, (q, tt))), (sliceVal (b-frames, o-frames) n-frames ∷ [], (vint w32 p ∷ [], (vint w32 q ∷ [], tt)))), tt)
 
-  pub goes-step-s : Given 𝓤 H A → (ν-frames : ℕ) (δ-frames : GName) (b-frames o-frames n-frames : ℕ) (frames : List Frame) (q : ℕ) (y : ℕ) → (q-good : q < 2 ^ 32) (y-good : y < 2 ^ 32) (ok′ : length frames ≤ maxPlaces) → ent 𝓤 (⋆ 𝓤 H A (‵ (flft (ν-frames ∷ []) fullShare) ∷ ‵ (ShrSlice (named 0) (ν-frames ∷ []) R-Frame .own (at-list b-frames o-frames δ-frames frames) (sliceVal (b-frames, o-frames) n-frames ∷ [])) ∷ [])) (Asked .pre (to-step-s ν-frames δ-frames b-frames o-frames n-frames frames q y))
-  goes-step-s W ν-frames δ-frames b-frames o-frames n-frames frames q y q-good y-good ok′ = qed W (‵ (flft (ν-frames ∷ []) fullShare) ∷ ‵ (ShrSlice (named 0) (ν-frames ∷ []) R-Frame .own (at-list b-frames o-frames δ-frames frames) (sliceVal (b-frames, o-frames) n-frames ∷ [])) ∷ []) ∵ says ! ok′ $ nothing ! $ move ! (1 ∷ 0 ∷ []) $ group ! 2 $ frame ! $
-      nothing ! $ owned ! u32 (Is u32) (uint-makes 𝓤 H A W w32) y _ (refl, y-good) $ fjoin ! $ owned ! u32 (Is u32) (uint-makes 𝓤 H A W w32) q _ (refl, q-good) $ fjoin ! $ move ! (1 ∷ 0 ∷ []) $ fjoin ! $ done !
+  pub goes-step-s : Given 𝓤 H A → (ν-frames : ℕ) (δ-frames : GName) (b-frames o-frames n-frames : ℕ) (frames : List Frame) (p : ℕ) (q : ℕ) → (p-good : p < 2 ^ 32) (q-good : q < 2 ^ 32) (ok′ : EndsIn frames p q × (length frames ≤ maxPlaces) × (frameAt frames q .outstanding ≢ 1)) → ent 𝓤 (⋆ 𝓤 H A (‵ (flft (ν-frames ∷ []) fullShare) ∷ ‵ (ShrSlice (named 0) (ν-frames ∷ []) R-Frame .own (at-list b-frames o-frames δ-frames frames) (sliceVal (b-frames, o-frames) n-frames ∷ [])) ∷ [])) (Asked .pre (to-step-s ν-frames δ-frames b-frames o-frames n-frames frames p q))
+  goes-step-s W ν-frames δ-frames b-frames o-frames n-frames frames p q p-good q-good ok′ = qed W (‵ (flft (ν-frames ∷ []) fullShare) ∷ ‵ (ShrSlice (named 0) (ν-frames ∷ []) R-Frame .own (at-list b-frames o-frames δ-frames frames) (sliceVal (b-frames, o-frames) n-frames ∷ [])) ∷ []) ∵ says ! ok′ $ nothing ! $ move ! (1 ∷ 0 ∷ []) $ group ! 2 $ frame ! $
+      nothing ! $ owned ! u32 (Is u32) (uint-makes 𝓤 H A W w32) q _ (refl, q-good) $ fjoin ! $ owned ! u32 (Is u32) (uint-makes 𝓤 H A W w32) p _ (refl, p-good) $ fjoin ! $ move ! (1 ∷ 0 ∷ []) $ fjoin ! $ done !
 
 module _ {M : Type 1} {𝓤 : URA M} {H : Heap 𝓤} {A : Atoms 𝓤} {K : Type 0} {W : Given 𝓤 H A} (mem : Memory → SProp 𝓤) (run : Routine → Fun 𝓤)
     {Γ : List (Item 𝓤)} {E : Env 𝓤 H} {C : Calls 𝓤 H} {Λ : Loops 𝓤 H} {post′ : Post 𝓤 H} {dest′ : Place} {name′ : Name} {opds′ : List Operand} {rest′ : Body} where
-  pub step-s : K → FmC 𝓤 H (W .laws) C → Triple 𝓤 (C name′) (Asked 𝓤 H A mem run) → {κ-frames : Lft} {q-frames : Share} {γ-frames : GName} → (b-frames o-frames n-frames : ℕ) (frames : List Frame) (q : ℕ) (y : ℕ) → (q-good : q < 2 ^ 32) → (y-good : y < 2 ^ 32) → length frames ≤ maxPlaces → length frames ≡ n-frames → Room R-Frame n-frames →
-      ((ν-frames : ℕ) (δ-frames : GName) → Opds K W (raw ((Asked 𝓤 H A mem run) .pre (to-step-s 𝓤 H A mem run ν-frames δ-frames b-frames o-frames n-frames frames q y)) ∷ ‵ (Shown R-Frame κ-frames (ν-frames ∷ []) q-frames γ-frames b-frames o-frames frames) ∷ Γ) E opds′ (sliceVal (b-frames, o-frames) n-frames ∷ vint w32 q ∷ vint w32 y ∷ [])) →
-      ((res′ : ℕ) → res′ < 2 ^ 32 → res′ ≡ cond (eqb y none) q (firstFrom (length frames) frames y) → Seq K W (‵ (Mine R-Frame κ-frames q-frames γ-frames b-frames o-frames n-frames frames) ∷ Γ) (lands C Λ E dest′ (vint w32 res′) rest′ post′)) →
+  pub step-s : K → FmC 𝓤 H (W .laws) C → Triple 𝓤 (C name′) (Asked 𝓤 H A mem run) → {κ-frames : Lft} {q-frames : Share} {γ-frames : GName} → (b-frames o-frames n-frames : ℕ) (frames : List Frame) (p : ℕ) (q : ℕ) → (p-good : p < 2 ^ 32) → (q-good : q < 2 ^ 32) → EndsIn frames p q × (length frames ≤ maxPlaces) × (frameAt frames q .outstanding ≢ 1) → length frames ≡ n-frames → Room R-Frame n-frames →
+      ((ν-frames : ℕ) (δ-frames : GName) → Opds K W (raw ((Asked 𝓤 H A mem run) .pre (to-step-s 𝓤 H A mem run ν-frames δ-frames b-frames o-frames n-frames frames p q)) ∷ ‵ (Shown R-Frame κ-frames (ν-frames ∷ []) q-frames γ-frames b-frames o-frames frames) ∷ Γ) E opds′ (sliceVal (b-frames, o-frames) n-frames ∷ vint w32 p ∷ vint w32 q ∷ [])) →
+      ((res′ : ℕ) → res′ < 2 ^ 32 → res′ ≡ nextAfter frames p → Seq K W (‵ (Mine R-Frame κ-frames q-frames γ-frames b-frames o-frames n-frames frames) ∷ Γ) (lands C Λ E dest′ (vint w32 res′) rest′ post′)) →
       Seq K W (‵ (Mine R-Frame κ-frames q-frames γ-frames b-frames o-frames n-frames frames) ∷ Γ) (runs C Λ E (seq (call name′ opds′ dest′) rest′) post′)
-  step-s t′ fm′ known′ {κ-frames} {q-frames} {γ-frames} b-frames o-frames n-frames frames q y q-good y-good ok′ len-frames room-frames os′ k′ =
+  step-s t′ fm′ known′ {κ-frames} {q-frames} {γ-frames} b-frames o-frames n-frames frames p q p-good q-good ok′ len-frames room-frames os′ k′ =
       show t′ tt R-Frame b-frames o-frames n-frames frames len-frames (λ ν-frames δ-frames.
-      move t′ (0 ∷ 1 ∷ []) $ group t′ 2 $ use1 W (raw ((Asked 𝓤 H A mem run) .pre (to-step-s 𝓤 H A mem run ν-frames δ-frames b-frames o-frames n-frames frames q y))) (goes-step-s 𝓤 H A mem run W ν-frames δ-frames b-frames o-frames n-frames frames q y q-good y-good ok′) $
-      calls-at t′ fm′ (Asked 𝓤 H A mem run) known′ (to-step-s 𝓤 H A mem run ν-frames δ-frames b-frames o-frames n-frames frames q y) (os′ ν-frames δ-frames) (λ w′.
-      use1 W (later (some (λ (res′ : ℕ). ((‵ (flft (ν-frames ∷ []) fullShare) ⊛ ‵ ftrue) ⊛ ‵ (u32 .own res′ (w′ ∷ []))) ⊛ raw (ensured 𝓤 H A callee′.ended (callee′.clauses 𝓤 H A mem run) ((ν-frames ∷ []), tt) (at-list b-frames o-frames δ-frames frames, (q, (y, tt))) tt res′)))) (id⊢ 𝓤 _) $ await t′ tt $ pick t′ (λ res′. split t′ $ move t′ (1 ∷ []) $
-      use1 W (some (λ (zs′ : Unit {0} × (Unit {0} × (Unit {0} × Unit {0}))). ‵ (lasts callee′.ended ((ν-frames ∷ []), tt) (at-list b-frames o-frames δ-frames frames, (q, (y, tt))) zs′) ⊛ raw (fact 𝓤 (res′ ≡ cond (eqb y none) q (firstFrom (length frames) frames y))))) (id⊢ 𝓤 _) $ pick t′ (λ zs′. split t′ $ move t′ (1 ∷ []) $ heard t′ (res′ ≡ cond (eqb y none) q (firstFrom (length frames) frames y)) (λ e′.
+      move t′ (0 ∷ 1 ∷ []) $ group t′ 2 $ use1 W (raw ((Asked 𝓤 H A mem run) .pre (to-step-s 𝓤 H A mem run ν-frames δ-frames b-frames o-frames n-frames frames p q))) (goes-step-s 𝓤 H A mem run W ν-frames δ-frames b-frames o-frames n-frames frames p q p-good q-good ok′) $
+      calls-at t′ fm′ (Asked 𝓤 H A mem run) known′ (to-step-s 𝓤 H A mem run ν-frames δ-frames b-frames o-frames n-frames frames p q) (os′ ν-frames δ-frames) (λ w′.
+      use1 W (later (some (λ (res′ : ℕ). ((‵ (flft (ν-frames ∷ []) fullShare) ⊛ ‵ ftrue) ⊛ ‵ (u32 .own res′ (w′ ∷ []))) ⊛ raw (ensured 𝓤 H A callee′.ended (callee′.clauses 𝓤 H A mem run) ((ν-frames ∷ []), tt) (at-list b-frames o-frames δ-frames frames, (p, (q, tt))) tt res′)))) (id⊢ 𝓤 _) $ await t′ tt $ pick t′ (λ res′. split t′ $ move t′ (1 ∷ []) $
+      use1 W (some (λ (zs′ : Unit {0} × (Unit {0} × (Unit {0} × Unit {0}))). ‵ (lasts callee′.ended ((ν-frames ∷ []), tt) (at-list b-frames o-frames δ-frames frames, (p, (q, tt))) zs′) ⊛ raw (fact 𝓤 (res′ ≡ nextAfter frames p)))) (id⊢ 𝓤 _) $ pick t′ (λ zs′. split t′ $ move t′ (1 ∷ []) $ heard t′ (res′ ≡ nextAfter frames p) (λ e′.
       fsplit t′ $ drop t′ $ fsplit t′ $ drop t′ $ fsplit t′ $ drop t′ $ drop t′ $
       move t′ (0 ∷ []) $ split t′ $ move t′ (1 ∷ []) $ peeks t′ u32 (Is u32) (shows 𝓤 H A u32) res′ (w′ ∷ []) (λ is′. drop t′ $ split t′ $ move t′ (1 ∷ []) $ drop t′ $
       move t′ (0 ∷ 1 ∷ []) $ back t′ tt R-Frame b-frames o-frames n-frames frames len-frames room-frames $

@@ -45,18 +45,21 @@ use denote.Triple.Table.{entered, cited}
 use denote.Triple.Walked.{says, needs, Stays, stay-slice, stay-none, stay-none-slice, walkOf, Walks, ends-at, walked, goes-slice, goes-none, goes-none-slice, walk-meets}
 use borrow.Author.Needs.{scaled-fits}
 use Rattle.frames.proofs.Lent.{at-list, Mine, Yours, tyAt, exit-unless, exit-if, leave-if, fork, skipped, regroup, matched, matched-last, const, is-true, is-false, not-not, differ, widen, less-fits, after, turn-of, take-out, put-in, put-back, look-out, look-back, free-all}
+use lib.ListN.{replicate}
+use types.Part.{rep}
+use denote.Plain.{uint-lawful}
+use denote.Array.{Array, arrayVal, array-vals, array-tells, array-makes}
+use Rattle.frames.proofs.Local.{listVal, array-is, array-fits, open-local, shut-local}
 use Rattle.frames.specs.Widths.{maxPlaces}
 use Rattle.frames.specs.Siblings.{firstFrom}
-use Rattle.frames.proofs.Called.frame_or_zero as S-frame-or-zero
-use Rattle.frames.proofs.table.frame_or_zero.Symbol as D-frame-or-zero
-use Rattle.frames.proofs.table.frame_or_zero.Symbol.{name as #frame-or-zero}
-use Rattle.frames.proofs.table.frame_or_zero.Met as T-frame-or-zero
-use Rattle.frames.specs.Frames.{frameAt}
-use Rattle.frames.proofs.Called.eldest as S-eldest
-use Rattle.frames.proofs.siblings.eldest.Symbol as D-eldest
-use Rattle.frames.proofs.siblings.eldest.Symbol.{name as #eldest}
-use Rattle.frames.proofs.siblings.eldest.Met as T-eldest
-use Rattle.frames.specs.Siblings.{eldest}
+use Rattle.frames.proofs.Called.eldest_of_all as S-eldest-of-all
+use Rattle.frames.proofs.siblings.eldest_of_all.Symbol as D-eldest-of-all
+use Rattle.frames.proofs.siblings.eldest_of_all.Symbol.{name as #eldest-of-all}
+use Rattle.frames.proofs.siblings.eldest_of_all.Met as T-eldest-of-all
+use Rattle.frames.proofs.Called.first_by as S-first-by
+use Rattle.frames.proofs.siblings.first_by.Symbol as D-first-by
+use Rattle.frames.proofs.siblings.first_by.Symbol.{name as #first-by}
+use Rattle.frames.proofs.siblings.first_by.Met as T-first-by
 use Rattle.frames.proofs.siblings.first_from.Key.{name as #own}
 use Rattle.frames.proofs.siblings.first_from as f′
 use Rattle.frames.proofs.siblings.first_from.Statement as stated
@@ -65,9 +68,6 @@ use Rattle.frames.proofs.siblings.first_from.Proof.Facts as F
 use Rattle.frames.proofs.Frame as M-Frame
 use Rattle.frames.proofs.Frame.Laws as L-Frame
 use Rattle.frames.specs.declared.Frame.{Frame}
-use Rattle.reducers.proofs.View as M-View
-use Rattle.reducers.proofs.View.Laws as L-View
-use Rattle.reducers.specs.declared.View.{View}
 
 abbrev R-Frame : RattleType
 R-Frame = M-Frame.the-row
@@ -75,32 +75,8 @@ R-Frame = M-Frame.the-row
 abbrev val-Frame : Frame → Val
 val-Frame d = LL.val M-Frame.the-type L-Frame.the-laws d
 
-abbrev R-View : RattleType
-R-View = M-View.the-row
-
-abbrev val-View : View → Val
-val-View d = LL.val M-View.the-type L-View.the-laws d
-
 abbrev stayed : Stays (f′.ended .signature .params) (f′.ended .kept)
 stayed = (stay-none-slice (0 ∷ []) tt (plain (λ _. R-Frame)) yes, (stay-none (λ _. u32) yes, tt))
-
-abbrev ty′ : ℕ → Ty
-ty′ i = tyAt (code.function .locals) i
-
--- the loop's body, and what runs after the loop
-abbrev turned′ : Code
-turned′ = turn-of (after 2 (code.function .body))
-
-abbrev rest′ : Code
-rest′ = after 3 (code.function .body)
-
--- where a turn of the loop begins
-record State′ (frames : List Frame) (q : ℕ) (frames-fits : length frames < 2 ^ 64) (q-fits : q < 2 ^ 32) (ok : length frames ≤ maxPlaces) : Type 0 where
-  v-more : ℕ
-  g-more : v-more < 2 ^ 64
-  v-p : ℕ
-  g-p : v-p < 2 ^ 32
-  holds : F.Inv frames q frames-fits q-fits ok v-more v-p
 
 module _ {M : Type 1} (𝓤 : URA M) (H : Heap 𝓤) (A : Atoms 𝓤) (W : Given 𝓤 H A) (mem : Memory → SProp 𝓤) (run : Routine → Fun 𝓤)
     (κ-frames : Lft) (q-frames : Share) (b-frames o-frames : ℕ) (γ-frames : GName) (frames : List Frame) (q : ℕ) (q-fits : q < 2 ^ 32) (room-frames : Room R-Frame (length frames)) where
@@ -119,6 +95,15 @@ module _ {M : Type 1} (𝓤 : URA M) (H : Heap 𝓤) (A : Atoms 𝓤) (W : Given
   abbrev Post : Val → SProp 𝓤
   Post = walkOf 𝓤 H A f′.ended stayed (f′.clauses 𝓤 H A mem run) .post bound′
 
+  abbrev o-eldests : ℕ
+  o-eldests = 0
+
+  abbrev n-eldests : ℕ
+  n-eldests = 256
+
+  room-eldests : Room u32 n-eldests
+  room-eldests = (lit< tt, lit< tt)
+
   exits′ : (res′ : ℕ) → res′ < 2 ^ 32 → res′ ≡ firstFrom (length frames) frames q → ent 𝓤 (⋆ 𝓤 H A (‵ (Yours R-Frame κ-frames q-frames γ-frames b-frames o-frames n-frames frames) ∷ [])) (Post (vint w32 res′))
   exits′ res′ good′ e′ =
       qed W (‵ (Yours R-Frame κ-frames q-frames γ-frames b-frames o-frames n-frames frames) ∷ []) ∵
@@ -127,90 +112,53 @@ module _ {M : Type 1} (𝓤 : URA M) (H : Heap 𝓤) (A : Atoms 𝓤) (W : Given
       nothing ! $ owned ! u32 (Is u32) (uint-makes 𝓤 H A W w32) q _ (refl, q-fits) $ fjoin ! $ move ! (1 ∷ 0 ∷ []) $ fjoin ! $ frame ! $
       owned ! u32 (Is u32) (uint-makes 𝓤 H A W w32) res′ _ (refl, good′) $ done !
 
-  module _ (𝓣 : Tables 𝓤 H) (known-frame-or-zero : Triple 𝓤 (𝓣 .C #frame-or-zero) (S-frame-or-zero.Asked 𝓤 H A mem run)) (known-eldest : Triple 𝓤 (𝓣 .C #eldest) (S-eldest.Asked 𝓤 H A mem run)) where
+  module _ (𝓣 : Tables 𝓤 H) (known-eldest-of-all : Triple 𝓤 (𝓣 .C #eldest-of-all) (S-eldest-of-all.Asked 𝓤 H A mem run)) (known-first-by : Triple 𝓤 (𝓣 .C #first-by) (S-first-by.Asked 𝓤 H A mem run)) where
     abbrev fm : FmC 𝓤 H (W .laws) (𝓣 .C)
     fm = fmOf 𝓤 H (W .laws) 𝓣
-
-    module _ (ok′ : length frames ≤ maxPlaces) (l₀ l₁ l₂ l₃ l₄ l₅ l₆ : ℕ) where
-      abbrev S′ : Type 0
-      S′ = State′ frames q (room-frames .0) q-fits ok′
-
-      abbrev Less′ : S′ → S′ → Type 0
-      Less′ s′ t′ = (F.left frames q (room-frames .0) q-fits ok′ (s′ .v-more) (s′ .v-p)) < (F.left frames q (room-frames .0) q-fits ok′ (t′ .v-more) (t′ .v-p))
-
-      less-wf : WellFounded Less′
-      less-wf = InvImage·wf (λ (s′ : S′). (F.left frames q (room-frames .0) q-fits ok′ (s′ .v-more) (s′ .v-p))) (Nat·lt-wfRel .wf)
-
-      abbrev En′ : Env 𝓤 H
-      En′ = (ty′ 0, l₀) ∷ (ty′ 1, l₁) ∷ (ty′ 2, l₂) ∷ (ty′ 3, l₃) ∷ (ty′ 4, l₄) ∷ (ty′ 5, l₅) ∷ (ty′ 6, l₆) ∷ []
-
-      -- the context where a turn begins
-      abbrev Inv′ : S′ → List (Item 𝓤)
-      Inv′ s′ = ‵ (Yours R-Frame κ-frames q-frames γ-frames b-frames o-frames n-frames frames) ∷ ‵ (froom (ty′ 6) l₆ 0) ∷ ‵ (fdies (ty′ 6) l₆) ∷ ‵ (froom (ty′ 5) l₅ 0) ∷ ‵ (fdies (ty′ 5) l₅) ∷ ‵ (fat fullShare (ty′ 4) l₄ 0 (vint w32 (s′ .v-p))) ∷ ‵ (fdies (ty′ 4) l₄) ∷ ‵ (fat fullShare (ty′ 3) l₃ 0 (vint w64 (s′ .v-more))) ∷ ‵ (fdies (ty′ 3) l₃) ∷ ‵ (fat fullShare (ty′ 2) l₂ 0 (vint w32 q)) ∷ ‵ (fdies (ty′ 2) l₂) ∷ ‵ (fat fullShare (ty′ 1) l₁ 0 (sliceVal (b-frames, o-frames) n-frames)) ∷ ‵ (fdies (ty′ 1) l₁) ∷ ‵ (froom (ty′ 0) l₀ 0) ∷ ‵ (fdies (ty′ 0) l₀) ∷ []
-
-      module _ (more : ℕ) (p : ℕ) (more-fits : more < 2 ^ 64) (p-fits : p < 2 ^ 32) (inv′ : F.Inv frames q (room-frames .0) q-fits ok′ more p) where
-        abbrev here′ : S′
-        here′ = (record { v-more = more; g-more = more-fits; v-p = p; g-p = p-fits; holds = inv′ })
-
-        turn′ : Seq (Go {0}) W (Inv′ here′) (runs (𝓣 .C) (𝓣 .Λ) En′ turned′ (anyQ (afterTurn 𝓤 H (Below 𝓤 H A Less′ Inv′ here′) (afterBlock 𝓤 H (afterSeq 𝓤 H (Wp 𝓤 H (𝓣 .C) (𝓣 .Λ) En′ rest′ (atReturn 𝓤 H En′ Post)) (atReturn 𝓤 H En′ Post))))))
-        unfolding afterTurn
-        turn′ =
-            assigns ! (bin ! (const ! _ tt) (load ! (from ! (stop !)) (look ! 7 refl)) tt) (from ! (stop !)) (init ! 3 refl (tt, tt)) $
-            exit-unless ! (load ! (from ! (stop !)) (look ! 3 refl))
-            (λ test-3.
-            exec ! (𝓣 .C) (𝓣 .Λ) En′ rest′ (atRet En′ Post) $
-            assigns ! (of-opd ! (load ! (from ! (stop !)) (look ! 5 refl))) (from ! (stop !)) (init ! 13 refl (tt, record { fits = p-fits })) $
-            returns-within ! Post refl (look ! 13 refl) $ forget ! 3 refl $ forget ! 5 refl $ forget ! 7 refl $ forget ! 9 refl $ forget ! 11 refl $ forget ! 13 refl $
-            free-all ! 1 refl $
-            by ! (exits′ p p-fits (F.out-4 frames q (room-frames .0) q-fits ok′ more p more-fits p-fits inv′ (nltb→le 0 more test-3))))
-            (λ test-3.
-            -- _6 = frames::table::frame_or_zero(_1, _4)
-            S-frame-or-zero.step-g mem run ! fm known-frame-or-zero b-frames o-frames n-frames frames p p-fits
-            (and-then ! (load ! (from ! (stop !)) (look ! 12 refl)) (and-then ! (load ! (from ! (stop !)) (look ! 6 refl)) (no-more !))) (λ r-5 r-5-good r-5-is.
-            land ! (from ! (stop !)) (init ! 1 refl (LL.lawful M-Frame.the-type L-Frame.the-laws 𝓤 H A W .typed r-5 _ r-5-good .0)) $
-            assigns ! (bin ! (load ! (from ! (fld ! refl (stop !))) (look-in ! 1 (sub ! 3 refl (whole !)))) (const ! _ tt) tt) (from ! (stop !)) (store ! 3 refl (tt, tt)) $
-            leave-if ! (load ! (from ! (stop !)) (look ! 3 refl))
-            (λ test-6.
-            assigns ! (of-opd ! (load ! (from ! (stop !)) (look ! 5 refl))) (from ! (stop !)) (init ! 13 refl (tt, record { fits = p-fits })) $
-            returns-within ! Post refl (look ! 13 refl) $ forget ! 1 refl $ forget ! 3 refl $ forget ! 5 refl $ forget ! 7 refl $ forget ! 9 refl $ forget ! 11 refl $ forget ! 13 refl $
-            free-all ! 1 refl $
-            by ! (exits′ p p-fits (F.out-7 frames q (room-frames .0) q-fits ok′ more p more-fits p-fits inv′ (ltb→lt 0 more test-3) r-5 r-5-is (eqb→eq (r-5 .outstanding) 0 test-6))))
-            (λ test-6.
-            -- _4 = frames::siblings::eldest(_1, _4)
-            S-eldest.step-g mem run ! fm known-eldest b-frames o-frames n-frames frames p p-fits (F.needs-8 frames q (room-frames .0) q-fits ok′ more p more-fits p-fits inv′ (ltb→lt 0 more test-3) r-5 r-5-is (differ (r-5 .outstanding) 0 test-6))
-            (and-then ! (load ! (from ! (stop !)) (look ! 12 refl)) (and-then ! (load ! (from ! (stop !)) (look ! 6 refl)) (no-more !))) (λ p′ p′-fits p′-is.
-            land ! (from ! (stop !)) (store ! 5 refl (tt, record { fits = p′-fits })) $
-            assigns-last ! (bin ! (load ! (from ! (stop !)) (look ! 7 refl)) (const ! _ tt) (F.small-9 frames q (room-frames .0) q-fits ok′ more p more-fits p-fits inv′ (ltb→lt 0 more test-3) r-5 r-5-is (differ (r-5 .outstanding) 0 test-6) p′ p′-fits p′-is)) (from ! (stop !)) (store ! 7 refl (tt, record { fits = (less-fits more 1 (2 ^ 64) more-fits) })) $
-            forget ! 1 refl $ forget ! 3 refl $
-            again ! Less′ Inv′ here′ (record { v-more = (more - 1); g-more = (less-fits more 1 (2 ^ 64) more-fits); v-p = p′; g-p = p′-fits; holds = (F.goes-on frames q (room-frames .0) q-fits ok′ more p more-fits p-fits inv′ (ltb→lt 0 more test-3) r-5 r-5-is (differ (r-5 .outstanding) 0 test-6) p′ p′-fits p′-is) }) (F.falls frames q (room-frames .0) q-fits ok′ more p more-fits p-fits inv′ (ltb→lt 0 more test-3) r-5 r-5-is (differ (r-5 .outstanding) 0 test-6) p′ p′-fits p′-is)))))
-
-      loop′ : Seq (Go {0}) W (Inv′ (record { v-more = (length frames); g-more = (room-frames .0); v-p = q; g-p = q-fits; holds = (F.begins frames q (room-frames .0) q-fits ok′) })) (runs (𝓣 .C) (𝓣 .Λ) En′ (loopᴹ turned′) (anyQ (afterBlock 𝓤 H (afterSeq 𝓤 H (Wp 𝓤 H (𝓣 .C) (𝓣 .Λ) En′ rest′ (atReturn 𝓤 H En′ Post)) (atReturn 𝓤 H En′ Post)))))
-      unfolding afterTurn
-      loop′ = loops ! 𝓣 Less′ less-wf Inv′ (λ s′. turn′ (s′ .v-more) (s′ .v-p) (s′ .g-more) (s′ .g-p) (s′ .holds)) (record { v-more = (length frames); g-more = (room-frames .0); v-p = q; g-p = q-fits; holds = (F.begins frames q (room-frames .0) q-fits ok′) })
 
     walk : length frames ≤ maxPlaces → ent 𝓤 (onEntry 𝓤 H A f′.signature (κ-frames, tt) (q-frames, tt) args′ vals′) (WpFn 𝓤 H (𝓣 .C) (𝓣 .Λ) code.function (sliceVal (b-frames, o-frames) (length frames) ∷ vint w32 q ∷ []) Post)
     walk ok′ =
         qed W ((‵ (flft κ-frames q-frames) ⊛ ‵ ftrue) ∷ ‵ (owns (ShrSlice (named 0) κ-frames R-Frame ∷ u32 ∷ []) args′ vals′) ∷ []) ∵ enter ! (𝓣 .C) (𝓣 .Λ) code.function (sliceVal (b-frames, o-frames) (length frames) ∷ vint w32 q ∷ []) _ $
-        alloc1 ! (λ l₀. alloc1 ! (λ l₁. alloc1 ! (λ l₂. alloc1 ! (λ l₃. alloc1 ! (λ l₄. alloc1 ! (λ l₅. alloc1 ! (λ l₆. alloc0 ! $ params1 ! $
-        pass1 ! (init ! 10 refl (tt, (tt, (record { fits = room-frames .0 }, tt)))) $ pass1 ! (init ! 8 refl (tt, record { fits = q-fits })) $ pass0 ! $
-        move ! (15 ∷ []) $ fsplit ! $ move ! (1 ∷ []) $ fsplit ! $ drop ! $ drop ! $ move ! (15 ∷ []) $ split ! $ move ! (1 ∷ []) $ drop ! $ move ! (1 ∷ 0 ∷ []) $ fjoin ! $
+        alloc1 ! (λ l₀. alloc1 ! (λ l₁. alloc1 ! (λ l₂. alloc1 ! (λ b-eldests. alloc1 ! (λ l₄. alloc1 ! (λ l₅. alloc1 ! (λ l₆. alloc1 ! (λ l₇. alloc1 ! (λ l₈. alloc0 ! $ params1 ! $
+        pass1 ! (init ! 14 refl (tt, (tt, (record { fits = room-frames .0 }, tt)))) $ pass1 ! (init ! 12 refl (tt, record { fits = q-fits })) $ pass0 ! $
+        move ! (19 ∷ []) $ fsplit ! $ move ! (1 ∷ []) $ fsplit ! $ drop ! $ drop ! $ move ! (19 ∷ []) $ split ! $ move ! (1 ∷ []) $ drop ! $ move ! (1 ∷ 0 ∷ []) $ fjoin ! $
         -- [frames; the locals]
-        assigns ! (of-opd ! (load ! (from ! (fld ! refl (stop !))) (look-in ! 11 (sub ! 1 refl (whole !))))) (from ! (stop !)) (init ! 7 refl (tt, record { fits = (room-frames .0) })) $
-        assigns ! (of-opd ! (load ! (from ! (stop !)) (look ! 9 refl))) (from ! (stop !)) (init ! 5 refl (tt, record { fits = q-fits })) $
-        first ! $ blocks ! $ by ! (loop′ ok′ l₀ l₁ l₂ l₃ l₄ l₅ l₆ .prf))))))))
+        assigns ! (rep ! 256 (const ! _ tt)) (from ! (stop !)) (init ! 11 refl (array-fits 𝓤 H A W u32 (uint-lawful 𝓤 H A W w32) 256 (replicate 256 4294967295) _ (array-is u32 256 4294967295 (vint w32 4294967295) (refl, (lit< tt))))) $
+        move ! (11 ∷ []) $
+        open-local ! tt u32 tt (uint-makes 𝓤 H A W w32) n-eldests b-eldests (replicate 256 4294967295) ((arrayVal (replicate 256 (vint w32 4294967295)))) (array-is u32 256 4294967295 (vint w32 4294967295) (refl, (lit< tt))) room-eldests (λ ν-eldests γ-eldests eldests eldests-is eldests-length.
+        move ! (0 ∷ 2 ∷ 3 ∷ 4 ∷ 5 ∷ 6 ∷ 7 ∷ 8 ∷ 9 ∷ 10 ∷ 11 ∷ 12 ∷ 1 ∷ []) $
+        assigns ! (addr ! (from ! (stop !))) (from ! (stop !)) (init ! 8 refl (tt, tt)) $
+        assigns ! (agg ! (and-then ! (load ! (from ! (stop !)) (look ! 8 refl)) (and-then ! (const ! _ tt) (no-more !)))) (from ! (stop !)) (init ! 6 refl (tt, (tt, (record { fits = room-eldests .0 }, tt)))) $
+        -- _4 = frames::siblings::eldest_of_all(_1, _6)
+        move ! (1 ∷ 0 ∷ []) $
+        S-eldest-of-all.step-g mem run ! fm known-eldest-of-all b-frames o-frames n-frames frames b-eldests o-eldests n-eldests eldests (F.needs-1 frames q (room-frames .0) q-fits ok′ eldests eldests-is eldests-length) (eldests-length) room-eldests
+        (λ ν-0 δ-0. and-then ! (load ! (from ! (stop !)) (look ! 17 refl)) (and-then ! (load ! (from ! (stop !)) (look ! 7 refl)) (no-more !))) (λ eldests-1 done-1 same-eldests-1.
+        land ! (from ! (stop !)) (init ! 10 refl (tt, tt)) $
+        assigns ! (addr ! (from ! (stop !))) (from ! (stop !)) (init ! 4 refl (tt, tt)) $
+        assigns ! (agg ! (and-then ! (load ! (from ! (stop !)) (look ! 4 refl)) (and-then ! (const ! _ tt) (no-more !)))) (from ! (stop !)) (init ! 2 refl (tt, (tt, (record { fits = room-eldests .0 }, tt)))) $
+        -- _0 = frames::siblings::first_by(_1, _8, _2)
+        S-first-by.step-gs mem run ! fm known-first-by b-frames o-frames n-frames frames b-eldests o-eldests n-eldests eldests-1 q q-fits (F.needs-2 frames q (room-frames .0) q-fits ok′ eldests eldests-is eldests-length eldests-1 done-1 same-eldests-1) (same-eldests-1 ∙ eldests-length) room-eldests
+        (λ ν-0 δ-0. and-then ! (load ! (from ! (stop !)) (look ! 17 refl)) (and-then ! (load ! (from ! (stop !)) (look ! 3 refl)) (and-then ! (load ! (from ! (stop !)) (look ! 15 refl)) (no-more !)))) (λ r-2 r-2-fits r-2-is.
+        land ! (from ! (stop !)) (init ! 18 refl (tt, record { fits = r-2-fits })) $
+        move ! (1 ∷ 12 ∷ []) $
+        shut-local ! tt u32 n-eldests b-eldests eldests-1 (λ v-eldests v-eldests-is.
+        move ! (1 ∷ 2 ∷ 3 ∷ 4 ∷ 5 ∷ 6 ∷ 7 ∷ 8 ∷ 9 ∷ 10 ∷ 11 ∷ 0 ∷ []) $
+        returns-within ! Post refl (look ! 17 refl) $ forget ! 1 refl $ forget ! 3 refl $ forget ! 5 refl $ forget ! 7 refl $ forget ! 9 refl $ forget ! 11 refl $ forget ! 13 refl $ forget ! 15 refl $ forget ! 17 refl $
+        free-all ! 1 refl $
+        by ! (exits′ r-2 r-2-fits (F.out-3 frames q (room-frames .0) q-fits ok′ eldests eldests-is eldests-length eldests-1 done-1 same-eldests-1 r-2 r-2-fits r-2-is)))))))))))))))
 
 module _ {M : Type 1} (𝓤 : URA M) (H : Heap 𝓤) (A : Atoms 𝓤) (W : Given 𝓤 H A) (mem : Memory → SProp 𝓤) (run : Routine → Fun 𝓤) (𝓣 : Tables 𝓤 H) where
-  walks : Triple 𝓤 (𝓣 .C #frame-or-zero) (S-frame-or-zero.Asked 𝓤 H A mem run) → Triple 𝓤 (𝓣 .C #eldest) (S-eldest.Asked 𝓤 H A mem run) → Walks 𝓤 H A f′.ended stayed (WpFn 𝓤 H (𝓣 .C) (𝓣 .Λ) code.function) (f′.clauses 𝓤 H A mem run)
-  walks known-frame-or-zero known-eldest = walked 𝓤 H A f′.ended stayed (f′.clauses 𝓤 H A mem run) (WpFn 𝓤 H (𝓣 .C) (𝓣 .Λ) code.function)
+  walks : Triple 𝓤 (𝓣 .C #eldest-of-all) (S-eldest-of-all.Asked 𝓤 H A mem run) → Triple 𝓤 (𝓣 .C #first-by) (S-first-by.Asked 𝓤 H A mem run) → Walks 𝓤 H A f′.ended stayed (WpFn 𝓤 H (𝓣 .C) (𝓣 .Λ) code.function) (f′.clauses 𝓤 H A mem run)
+  walks known-eldest-of-all known-first-by = walked 𝓤 H A f′.ended stayed (f′.clauses 𝓤 H A mem run) (WpFn 𝓤 H (𝓣 .C) (𝓣 .Λ) code.function)
       (λ κs. (slice-vals, (uint-vals w32, tt)))
       (λ κs. (shr-slice-tells (named 0) (κs .0) R-Frame, (uint-tells w32, tt)))
       (λ κs qs bounds a g are. needs 𝓤 (length (a .0 .now) ≤ maxPlaces) _
-      (walk 𝓤 H A W mem run (κs .0) (qs .0) (a .0 .ptr .0) (a .0 .ptr .1) (a .0 .name) (a .0 .now) (a .1 .0) (are .1 .0 .1) (are .0 .0 .1) 𝓣 known-frame-or-zero known-eldest))
+      (walk 𝓤 H A W mem run (κs .0) (qs .0) (a .0 .ptr .0) (a .0 .ptr .1) (a .0 .name) (a .0 .now) (a .1 .0) (are .1 .0 .1) (are .0 .0 .1) 𝓣 known-eldest-of-all known-first-by))
 
-  meets : Triple 𝓤 (𝓣 .C #frame-or-zero) (S-frame-or-zero.Asked 𝓤 H A mem run) → Triple 𝓤 (𝓣 .C #eldest) (S-eldest.Asked 𝓤 H A mem run) → Meets 𝓤 H A f′.signature (WpFn 𝓤 H (𝓣 .C) (𝓣 .Λ) code.function) (f′.spec 𝓤 H A mem run)
-  meets known-frame-or-zero known-eldest = walk-meets 𝓤 H A f′.ended stayed W
+  meets : Triple 𝓤 (𝓣 .C #eldest-of-all) (S-eldest-of-all.Asked 𝓤 H A mem run) → Triple 𝓤 (𝓣 .C #first-by) (S-first-by.Asked 𝓤 H A mem run) → Meets 𝓤 H A f′.signature (WpFn 𝓤 H (𝓣 .C) (𝓣 .Λ) code.function) (f′.spec 𝓤 H A mem run)
+  meets known-eldest-of-all known-first-by = walk-meets 𝓤 H A f′.ended stayed W
       (goes-none-slice 𝓤 H A W 1 (0 ∷ []) tt (plain (λ _. R-Frame)) yes, (goes-none 𝓤 H A W 1 (λ _. u32) yes (λ κs x f. refl), tt))
-      (f′.clauses 𝓤 H A mem run) (WpFn 𝓤 H (𝓣 .C) (𝓣 .Λ) code.function) (WpFn-mono 𝓤 H (W .laws) 𝓣 code.function) (walks known-frame-or-zero known-eldest)
+      (f′.clauses 𝓤 H A mem run) (WpFn 𝓤 H (𝓣 .C) (𝓣 .Λ) code.function) (WpFn-mono 𝓤 H (W .laws) 𝓣 code.function) (walks known-eldest-of-all known-first-by)
 
 pub first-from-spec : {M : Type 1} → stated.statement M
 unfolding code.routine tablesOf
@@ -218,5 +166,5 @@ first-from-spec 𝓤 H 𝓜 𝓖 𝓡 =
     entered 𝓤 H (tripleOf 𝓤 H (𝓖 .A) f′.signature (f′.spec 𝓤 H (𝓖 .A) (𝓜 .mem) (𝓡 .run)))
     (tables 𝓤 H 𝓜 𝓡 code.env .C) (tables 𝓤 H 𝓜 𝓡 code.env .Λ) #own code.function (code.unfolded 𝓤 H 𝓜 𝓡)
     (meets 𝓤 H (𝓖 .A) (givenOf 𝓤 H 𝓜 𝓖) (𝓜 .mem) (𝓡 .run) (tablesOf 𝓤 H 𝓜 (tables 𝓤 H 𝓜 𝓡 code.env))
-    (cited 𝓤 H (S-frame-or-zero.Asked 𝓤 H (𝓖 .A) (𝓜 .mem) (𝓡 .run)) 𝓜 𝓡 code.env #frame-or-zero D-frame-or-zero.routine code.calls-frames·table·frame-or-zero (T-frame-or-zero.met 𝓤 H 𝓜 𝓖 𝓡))
-    (cited 𝓤 H (S-eldest.Asked 𝓤 H (𝓖 .A) (𝓜 .mem) (𝓡 .run)) 𝓜 𝓡 code.env #eldest D-eldest.routine code.calls-frames·siblings·eldest (T-eldest.met 𝓤 H 𝓜 𝓖 𝓡)))
+    (cited 𝓤 H (S-eldest-of-all.Asked 𝓤 H (𝓖 .A) (𝓜 .mem) (𝓡 .run)) 𝓜 𝓡 code.env #eldest-of-all D-eldest-of-all.routine code.calls-frames·siblings·eldest-of-all (T-eldest-of-all.met 𝓤 H 𝓜 𝓖 𝓡))
+    (cited 𝓤 H (S-first-by.Asked 𝓤 H (𝓖 .A) (𝓜 .mem) (𝓡 .run)) 𝓜 𝓡 code.env #first-by D-first-by.routine code.calls-frames·siblings·first-by (T-first-by.met 𝓤 H 𝓜 𝓖 𝓡)))

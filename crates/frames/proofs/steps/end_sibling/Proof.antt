@@ -51,14 +51,14 @@ use Rattle.frames.specs.Widths.{maxPlaces}
 use Rattle.frames.specs.Frames.{frameAt}
 use Rattle.frames.specs.Steps.{endFrame}
 use Rattle.frames.specs.Ranges.{EndsIn}
-use Rattle.frames.proofs.Called.frame_at as S-frame-at
-use Rattle.frames.proofs.table.frame_at.Symbol as D-frame-at
-use Rattle.frames.proofs.table.frame_at.Symbol.{name as #frame-at}
-use Rattle.frames.proofs.table.frame_at.Met as T-frame-at
 use Rattle.frames.proofs.Called.next_after as S-next-after
 use Rattle.frames.proofs.siblings.next_after.Symbol as D-next-after
 use Rattle.frames.proofs.siblings.next_after.Symbol.{name as #next-after}
 use Rattle.frames.proofs.siblings.next_after.Met as T-next-after
+use Rattle.frames.proofs.Called.frame_at as S-frame-at
+use Rattle.frames.proofs.table.frame_at.Symbol as D-frame-at
+use Rattle.frames.proofs.table.frame_at.Symbol.{name as #frame-at}
+use Rattle.frames.proofs.table.frame_at.Met as T-frame-at
 use Rattle.frames.proofs.Called.free_place as S-free-place
 use Rattle.frames.proofs.records.free_place.Symbol as D-free-place
 use Rattle.frames.proofs.records.free_place.Symbol.{name as #free-place}
@@ -67,10 +67,10 @@ use Rattle.frames.proofs.Called.put_frame as S-put-frame
 use Rattle.frames.proofs.table.put_frame.Symbol as D-put-frame
 use Rattle.frames.proofs.table.put_frame.Symbol.{name as #put-frame}
 use Rattle.frames.proofs.table.put_frame.Met as T-put-frame
-use Rattle.frames.proofs.Called.without_child as S-without-child
-use Rattle.frames.proofs.records.without_child.Symbol as D-without-child
-use Rattle.frames.proofs.records.without_child.Symbol.{name as #without-child}
-use Rattle.frames.proofs.records.without_child.Met as T-without-child
+use Rattle.frames.proofs.Called.lose_child as S-lose-child
+use Rattle.frames.proofs.table.lose_child.Symbol as D-lose-child
+use Rattle.frames.proofs.table.lose_child.Symbol.{name as #lose-child}
+use Rattle.frames.proofs.table.lose_child.Met as T-lose-child
 use Rattle.frames.proofs.Called.relink as S-relink
 use Rattle.frames.proofs.siblings.relink.Symbol as D-relink
 use Rattle.frames.proofs.siblings.relink.Symbol.{name as #relink}
@@ -131,84 +131,74 @@ module _ {M : Type 1} (𝓤 : URA M) (H : Heap 𝓤) (A : Atoms 𝓤) (W : Given
       nothing ! $ owned ! u32 (Is u32) (uint-makes 𝓤 H A W w32) q _ (refl, q-fits) $ fjoin ! $ owned ! u32 (Is u32) (uint-makes 𝓤 H A W w32) p _ (refl, p-fits) $ fjoin ! $ owned ! u32 (Is u32) (uint-makes 𝓤 H A W w32) free _ (refl, free-fits) $ fjoin ! $ move ! (1 ∷ 0 ∷ []) $ fjoin ! $ frame ! $
       owned ! unit (Is unit) (nothing-makes 𝓤 H A W) tt _ refl $ done !
 
-  module _ (𝓣 : Tables 𝓤 H) (known-frame-at : Triple 𝓤 (𝓣 .C #frame-at) (S-frame-at.Asked 𝓤 H A mem run)) (known-next-after : Triple 𝓤 (𝓣 .C #next-after) (S-next-after.Asked 𝓤 H A mem run)) (known-free-place : Triple 𝓤 (𝓣 .C #free-place) (S-free-place.Asked 𝓤 H A mem run)) (known-put-frame : Triple 𝓤 (𝓣 .C #put-frame) (S-put-frame.Asked 𝓤 H A mem run)) (known-without-child : Triple 𝓤 (𝓣 .C #without-child) (S-without-child.Asked 𝓤 H A mem run)) (known-relink : Triple 𝓤 (𝓣 .C #relink) (S-relink.Asked 𝓤 H A mem run)) (known-join-if-place : Triple 𝓤 (𝓣 .C #join-if-place) (S-join-if-place.Asked 𝓤 H A mem run)) where
+  module _ (𝓣 : Tables 𝓤 H) (known-next-after : Triple 𝓤 (𝓣 .C #next-after) (S-next-after.Asked 𝓤 H A mem run)) (known-frame-at : Triple 𝓤 (𝓣 .C #frame-at) (S-frame-at.Asked 𝓤 H A mem run)) (known-free-place : Triple 𝓤 (𝓣 .C #free-place) (S-free-place.Asked 𝓤 H A mem run)) (known-put-frame : Triple 𝓤 (𝓣 .C #put-frame) (S-put-frame.Asked 𝓤 H A mem run)) (known-lose-child : Triple 𝓤 (𝓣 .C #lose-child) (S-lose-child.Asked 𝓤 H A mem run)) (known-relink : Triple 𝓤 (𝓣 .C #relink) (S-relink.Asked 𝓤 H A mem run)) (known-join-if-place : Triple 𝓤 (𝓣 .C #join-if-place) (S-join-if-place.Asked 𝓤 H A mem run)) where
     abbrev fm : FmC 𝓤 H (W .laws) (𝓣 .C)
     fm = fmOf 𝓤 H (W .laws) 𝓣
 
     walk : EndsIn frames p q × (length frames ≤ maxPlaces) × (q ≢ none) × (frameAt frames q .outstanding ≢ 1) → ent 𝓤 (onEntry 𝓤 H A f′.signature (κ-frames, tt) (q-frames, tt) args′ vals′) (WpFn 𝓤 H (𝓣 .C) (𝓣 .Λ) code.function (sliceVal (b-frames, o-frames) (length frames) ∷ vint w32 free ∷ vint w32 p ∷ vint w32 q ∷ []) Post)
     walk ok′ =
         qed W ((‵ (flft κ-frames q-frames) ⊛ ‵ ftrue) ∷ ‵ (owns (MutSlice (named 0) κ-frames R-Frame ∷ u32 ∷ u32 ∷ u32 ∷ []) args′ vals′) ∷ []) ∵ enter ! (𝓣 .C) (𝓣 .Λ) code.function (sliceVal (b-frames, o-frames) (length frames) ∷ vint w32 free ∷ vint w32 p ∷ vint w32 q ∷ []) _ $
-        alloc1 ! (λ l₀. alloc1 ! (λ l₁. alloc1 ! (λ l₂. alloc1 ! (λ l₃. alloc1 ! (λ l₄. alloc1 ! (λ l₅. alloc1 ! (λ l₆. alloc1 ! (λ l₇. alloc1 ! (λ l₈. alloc1 ! (λ l₉. alloc1 ! (λ l₁₀. alloc1 ! (λ l₁₁. alloc1 ! (λ l₁₂. alloc1 ! (λ l₁₃. alloc1 ! (λ l₁₄. alloc1 ! (λ l₁₅. alloc1 ! (λ l₁₆. alloc1 ! (λ l₁₇. alloc1 ! (λ l₁₈. alloc1 ! (λ l₁₉. alloc1 ! (λ l₂₀. alloc1 ! (λ l₂₁. alloc1 ! (λ l₂₂. alloc1 ! (λ l₂₃. alloc0 ! $ params1 ! $
-        pass1 ! (init ! 44 refl (tt, (tt, (record { fits = room-frames .0 }, tt)))) $ pass1 ! (init ! 42 refl (tt, record { fits = free-fits })) $ pass1 ! (init ! 40 refl (tt, record { fits = p-fits })) $ pass1 ! (init ! 38 refl (tt, record { fits = q-fits })) $ pass0 ! $
-        move ! (49 ∷ []) $ fsplit ! $ move ! (1 ∷ []) $ fsplit ! $ drop ! $ fsplit ! $ drop ! $ fsplit ! $ drop ! $ drop ! $ move ! (49 ∷ []) $ split ! $ move ! (1 ∷ []) $ drop ! $ move ! (1 ∷ 0 ∷ []) $ fjoin ! $
+        alloc1 ! (λ l₀. alloc1 ! (λ l₁. alloc1 ! (λ l₂. alloc1 ! (λ l₃. alloc1 ! (λ l₄. alloc1 ! (λ l₅. alloc1 ! (λ l₆. alloc1 ! (λ l₇. alloc1 ! (λ l₈. alloc1 ! (λ l₉. alloc1 ! (λ l₁₀. alloc1 ! (λ l₁₁. alloc1 ! (λ l₁₂. alloc1 ! (λ l₁₃. alloc1 ! (λ l₁₄. alloc1 ! (λ l₁₅. alloc1 ! (λ l₁₆. alloc1 ! (λ l₁₇. alloc1 ! (λ l₁₈. alloc1 ! (λ l₁₉. alloc1 ! (λ l₂₀. alloc0 ! $ params1 ! $
+        pass1 ! (init ! 38 refl (tt, (tt, (record { fits = room-frames .0 }, tt)))) $ pass1 ! (init ! 36 refl (tt, record { fits = free-fits })) $ pass1 ! (init ! 34 refl (tt, record { fits = p-fits })) $ pass1 ! (init ! 32 refl (tt, record { fits = q-fits })) $ pass0 ! $
+        move ! (43 ∷ []) $ fsplit ! $ move ! (1 ∷ []) $ fsplit ! $ drop ! $ fsplit ! $ drop ! $ fsplit ! $ drop ! $ drop ! $ move ! (43 ∷ []) $ split ! $ move ! (1 ∷ []) $ drop ! $ move ! (1 ∷ 0 ∷ []) $ fjoin ! $
         -- [frames; the locals]
-        assigns ! (addr ! (from ! (fld ! refl (hop ! (look-in ! 45 (sub ! 0 refl (whole !))) (stop !))))) (from ! (stop !)) (init ! 31 refl (tt, tt)) $
-        assigns ! (agg ! (and-then ! (load ! (from ! (stop !)) (look ! 31 refl)) (and-then ! (load ! (from ! (fld ! refl (stop !))) (look-in ! 45 (sub ! 1 refl (whole !)))) (no-more !)))) (from ! (stop !)) (init ! 29 refl (tt, (tt, (record { fits = room-frames .0 }, tt)))) $
-        -- _5 = frames::table::frame_at(_9, _3)
-        S-frame-at.step-s mem run ! fm known-frame-at b-frames o-frames n-frames frames p p-fits (F.needs-1 frames free p q (room-frames .0) free-fits p-fits q-fits ok′) (refl) room-frames
-        (λ ν-0 δ-0. and-then ! (load ! (from ! (stop !)) (look ! 30 refl)) (and-then ! (load ! (from ! (stop !)) (look ! 42 refl)) (no-more !))) (λ f f-good f-is.
-        land ! (from ! (stop !)) (init ! 37 refl (LL.lawful M-Frame.the-type L-Frame.the-laws 𝓤 H A W .typed f _ f-good .0)) $
-        assigns ! (addr ! (from ! (fld ! refl (hop ! (look-in ! 45 (sub ! 0 refl (whole !))) (stop !))))) (from ! (stop !)) (init ! 27 refl (tt, tt)) $
-        assigns ! (agg ! (and-then ! (load ! (from ! (stop !)) (look ! 27 refl)) (and-then ! (load ! (from ! (fld ! refl (stop !))) (look-in ! 45 (sub ! 1 refl (whole !)))) (no-more !)))) (from ! (stop !)) (init ! 25 refl (tt, (tt, (record { fits = room-frames .0 }, tt)))) $
-        -- _6 = frames::table::frame_at(_11, _4)
-        S-frame-at.step-s mem run ! fm known-frame-at b-frames o-frames n-frames frames q q-fits (F.needs-2 frames free p q (room-frames .0) free-fits p-fits q-fits ok′ f f-is) (refl) room-frames
-        (λ ν-0 δ-0. and-then ! (load ! (from ! (stop !)) (look ! 26 refl)) (and-then ! (load ! (from ! (stop !)) (look ! 40 refl)) (no-more !))) (λ g g-good g-is.
-        land ! (from ! (stop !)) (init ! 35 refl (LL.lawful M-Frame.the-type L-Frame.the-laws 𝓤 H A W .typed g _ g-good .0)) $
-        assigns ! (addr ! (from ! (fld ! refl (hop ! (look-in ! 45 (sub ! 0 refl (whole !))) (stop !))))) (from ! (stop !)) (init ! 23 refl (tt, tt)) $
-        assigns ! (agg ! (and-then ! (load ! (from ! (stop !)) (look ! 23 refl)) (and-then ! (load ! (from ! (fld ! refl (stop !))) (look-in ! 45 (sub ! 1 refl (whole !)))) (no-more !)))) (from ! (stop !)) (init ! 21 refl (tt, (tt, (record { fits = room-frames .0 }, tt)))) $
-        -- _7 = frames::siblings::next_after(_13, _4, _5.8)
-        S-next-after.step-s mem run ! fm known-next-after b-frames o-frames n-frames frames q (f .younger) q-fits ((LL.owed M-Frame.the-type L-Frame.the-laws f _ f-good .1 .1 .1 .1 .1 .1 .1 .1 .0) .1) (F.needs-3 frames free p q (room-frames .0) free-fits p-fits q-fits ok′ f f-is g g-is) (refl) room-frames
-        (λ ν-0 δ-0. and-then ! (load ! (from ! (stop !)) (look ! 22 refl)) (and-then ! (load ! (from ! (stop !)) (look ! 40 refl)) (and-then ! (load ! (from ! (fld ! refl (stop !))) (look-in ! 38 (sub ! 8 refl (whole !)))) (no-more !)))) (λ next next-fits next-is.
-        land ! (from ! (stop !)) (init ! 33 refl (tt, record { fits = next-fits })) $
-        assigns ! (addr ! (from ! (fld ! refl (hop ! (look-in ! 45 (sub ! 0 refl (whole !))) (stop !))))) (from ! (stop !)) (init ! 17 refl (tt, tt)) $
-        assigns ! (agg ! (and-then ! (load ! (from ! (stop !)) (look ! 17 refl)) (and-then ! (load ! (from ! (fld ! refl (stop !))) (look-in ! 45 (sub ! 1 refl (whole !)))) (no-more !)))) (from ! (stop !)) (init ! 15 refl (tt, (tt, (record { fits = room-frames .0 }, tt)))) $
-        -- _17 = frames::records::free_place(_2)
+        assigns ! (addr ! (from ! (fld ! refl (hop ! (look-in ! 39 (sub ! 0 refl (whole !))) (stop !))))) (from ! (stop !)) (init ! 27 refl (tt, tt)) $
+        assigns ! (agg ! (and-then ! (load ! (from ! (stop !)) (look ! 27 refl)) (and-then ! (load ! (from ! (fld ! refl (stop !))) (look-in ! 39 (sub ! 1 refl (whole !)))) (no-more !)))) (from ! (stop !)) (init ! 25 refl (tt, (tt, (record { fits = room-frames .0 }, tt)))) $
+        -- _5 = frames::siblings::next_after(_8, _3, _4)
+        S-next-after.step-s mem run ! fm known-next-after b-frames o-frames n-frames frames p q p-fits q-fits (F.needs-1 frames free p q (room-frames .0) free-fits p-fits q-fits ok′) (refl) room-frames
+        (λ ν-0 δ-0. and-then ! (load ! (from ! (stop !)) (look ! 26 refl)) (and-then ! (load ! (from ! (stop !)) (look ! 36 refl)) (and-then ! (load ! (from ! (stop !)) (look ! 34 refl)) (no-more !)))) (λ next next-fits next-is.
+        land ! (from ! (stop !)) (init ! 31 refl (tt, record { fits = next-fits })) $
+        assigns ! (addr ! (from ! (fld ! refl (hop ! (look-in ! 39 (sub ! 0 refl (whole !))) (stop !))))) (from ! (stop !)) (init ! 23 refl (tt, tt)) $
+        assigns ! (agg ! (and-then ! (load ! (from ! (stop !)) (look ! 23 refl)) (and-then ! (load ! (from ! (fld ! refl (stop !))) (look-in ! 39 (sub ! 1 refl (whole !)))) (no-more !)))) (from ! (stop !)) (init ! 21 refl (tt, (tt, (record { fits = room-frames .0 }, tt)))) $
+        -- _6 = frames::table::frame_at(_10, _3)
+        S-frame-at.step-s mem run ! fm known-frame-at b-frames o-frames n-frames frames p p-fits (F.needs-2 frames free p q (room-frames .0) free-fits p-fits q-fits ok′ next next-fits next-is) (refl) room-frames
+        (λ ν-0 δ-0. and-then ! (load ! (from ! (stop !)) (look ! 22 refl)) (and-then ! (load ! (from ! (stop !)) (look ! 36 refl)) (no-more !))) (λ f f-good f-is.
+        land ! (from ! (stop !)) (init ! 29 refl (LL.lawful M-Frame.the-type L-Frame.the-laws 𝓤 H A W .typed f _ f-good .0)) $
+        assigns ! (addr ! (from ! (fld ! refl (hop ! (look-in ! 39 (sub ! 0 refl (whole !))) (stop !))))) (from ! (stop !)) (init ! 17 refl (tt, tt)) $
+        assigns ! (agg ! (and-then ! (load ! (from ! (stop !)) (look ! 17 refl)) (and-then ! (load ! (from ! (fld ! refl (stop !))) (look-in ! 39 (sub ! 1 refl (whole !)))) (no-more !)))) (from ! (stop !)) (init ! 15 refl (tt, (tt, (record { fits = room-frames .0 }, tt)))) $
+        -- _14 = frames::records::free_place(_2)
         S-free-place.step mem run ! fm known-free-place free free-fits
-        (and-then ! (load ! (from ! (stop !)) (look ! 44 refl)) (no-more !)) (λ r-4 r-4-good r-4-is.
-        land ! (from ! (stop !)) (init ! 13 refl (LL.lawful M-Frame.the-type L-Frame.the-laws 𝓤 H A W .typed r-4 _ r-4-good .0)) $
-        -- _14 = frames::table::put_frame(_16, _3, _17)
-        S-put-frame.step mem run ! fm known-put-frame b-frames o-frames n-frames frames p r-4 p-fits r-4-good (F.needs-5 frames free p q (room-frames .0) free-fits p-fits q-fits ok′ f f-is g g-is next next-fits next-is r-4 r-4-is) (refl) room-frames
-        (λ ν-0 δ-0. and-then ! (load ! (from ! (stop !)) (look ! 16 refl)) (and-then ! (load ! (from ! (stop !)) (look ! 42 refl)) (and-then ! (load ! (from ! (stop !)) (look ! 14 refl)) (no-more !)))) (λ frames-5 done-5 same-frames-5.
+        (and-then ! (load ! (from ! (stop !)) (look ! 38 refl)) (no-more !)) (λ r-3 r-3-good r-3-is.
+        land ! (from ! (stop !)) (init ! 13 refl (LL.lawful M-Frame.the-type L-Frame.the-laws 𝓤 H A W .typed r-3 _ r-3-good .0)) $
+        -- _11 = frames::table::put_frame(_13, _3, _14)
+        S-put-frame.step mem run ! fm known-put-frame b-frames o-frames n-frames frames p r-3 p-fits r-3-good (F.needs-4 frames free p q (room-frames .0) free-fits p-fits q-fits ok′ next next-fits next-is f f-is r-3 r-3-is) (refl) room-frames
+        (λ ν-0 δ-0. and-then ! (load ! (from ! (stop !)) (look ! 16 refl)) (and-then ! (load ! (from ! (stop !)) (look ! 36 refl)) (and-then ! (load ! (from ! (stop !)) (look ! 14 refl)) (no-more !)))) (λ frames-4 done-4 same-frames-4.
         land ! (from ! (stop !)) (init ! 19 refl (tt, tt)) $
-        assigns ! (addr ! (from ! (fld ! refl (hop ! (look-in ! 45 (sub ! 0 refl (whole !))) (stop !))))) (from ! (stop !)) (init ! 11 refl (tt, tt)) $
-        assigns ! (agg ! (and-then ! (load ! (from ! (stop !)) (look ! 11 refl)) (and-then ! (load ! (from ! (fld ! refl (stop !))) (look-in ! 45 (sub ! 1 refl (whole !)))) (no-more !)))) (from ! (stop !)) (init ! 9 refl (tt, (tt, (record { fits = room-frames .0 }, tt)))) $
-        -- _17 = frames::records::without_child(_6)
-        S-without-child.step mem run ! fm known-without-child g g-good
-        (and-then ! (load ! (from ! (stop !)) (look ! 36 refl)) (no-more !)) (λ r-6 r-6-good r-6-is.
-        land ! (from ! (stop !)) (store ! 13 refl (LL.lawful M-Frame.the-type L-Frame.the-laws 𝓤 H A W .typed r-6 _ r-6-good .0)) $
-        -- _14 = frames::table::put_frame(_19, _4, _17)
-        S-put-frame.step mem run ! fm known-put-frame b-frames o-frames n-frames frames-5 q r-6 q-fits r-6-good (F.needs-7 frames free p q (room-frames .0) free-fits p-fits q-fits ok′ f f-is g g-is next next-fits next-is r-4 r-4-is frames-5 done-5 same-frames-5 r-6 r-6-is) (same-frames-5) room-frames
-        (λ ν-0 δ-0. and-then ! (load ! (from ! (stop !)) (look ! 10 refl)) (and-then ! (load ! (from ! (stop !)) (look ! 40 refl)) (and-then ! (load ! (from ! (stop !)) (look ! 14 refl)) (no-more !)))) (λ frames-7 done-7 same-frames-7.
+        assigns ! (addr ! (from ! (fld ! refl (hop ! (look-in ! 39 (sub ! 0 refl (whole !))) (stop !))))) (from ! (stop !)) (init ! 11 refl (tt, tt)) $
+        assigns ! (agg ! (and-then ! (load ! (from ! (stop !)) (look ! 11 refl)) (and-then ! (load ! (from ! (fld ! refl (stop !))) (look-in ! 39 (sub ! 1 refl (whole !)))) (no-more !)))) (from ! (stop !)) (init ! 9 refl (tt, (tt, (record { fits = room-frames .0 }, tt)))) $
+        -- _11 = frames::table::lose_child(_16, _4)
+        S-lose-child.step mem run ! fm known-lose-child b-frames o-frames n-frames frames-4 q q-fits (F.needs-5 frames free p q (room-frames .0) free-fits p-fits q-fits ok′ next next-fits next-is f f-is r-3 r-3-is frames-4 done-4 same-frames-4) (same-frames-4) room-frames
+        (λ ν-0 δ-0. and-then ! (load ! (from ! (stop !)) (look ! 10 refl)) (and-then ! (load ! (from ! (stop !)) (look ! 34 refl)) (no-more !))) (λ frames-5 done-5 same-frames-5.
         land ! (from ! (stop !)) (store ! 19 refl (tt, tt)) $
-        assigns ! (addr ! (from ! (fld ! refl (hop ! (look-in ! 45 (sub ! 0 refl (whole !))) (stop !))))) (from ! (stop !)) (init ! 7 refl (tt, tt)) $
-        assigns ! (agg ! (and-then ! (load ! (from ! (stop !)) (look ! 7 refl)) (and-then ! (load ! (from ! (fld ! refl (stop !))) (look-in ! 45 (sub ! 1 refl (whole !)))) (no-more !)))) (from ! (stop !)) (init ! 5 refl (tt, (tt, (record { fits = room-frames .0 }, tt)))) $
-        -- _14 = frames::siblings::relink(_21, _4, _3, _5.8)
-        S-relink.step mem run ! fm known-relink b-frames o-frames n-frames frames-7 q p (f .younger) q-fits p-fits ((LL.owed M-Frame.the-type L-Frame.the-laws f _ f-good .1 .1 .1 .1 .1 .1 .1 .1 .0) .1) (F.needs-8 frames free p q (room-frames .0) free-fits p-fits q-fits ok′ f f-is g g-is next next-fits next-is r-4 r-4-is frames-5 done-5 same-frames-5 r-6 r-6-is frames-7 done-7 same-frames-7) (same-frames-7 ∙ same-frames-5) room-frames
-        (λ ν-0 δ-0. and-then ! (load ! (from ! (stop !)) (look ! 6 refl)) (and-then ! (load ! (from ! (stop !)) (look ! 40 refl)) (and-then ! (load ! (from ! (stop !)) (look ! 42 refl)) (and-then ! (load ! (from ! (fld ! refl (stop !))) (look-in ! 38 (sub ! 8 refl (whole !)))) (no-more !))))) (λ frames-8 done-8 same-frames-8.
+        assigns ! (addr ! (from ! (fld ! refl (hop ! (look-in ! 39 (sub ! 0 refl (whole !))) (stop !))))) (from ! (stop !)) (init ! 7 refl (tt, tt)) $
+        assigns ! (agg ! (and-then ! (load ! (from ! (stop !)) (look ! 7 refl)) (and-then ! (load ! (from ! (fld ! refl (stop !))) (look-in ! 39 (sub ! 1 refl (whole !)))) (no-more !)))) (from ! (stop !)) (init ! 5 refl (tt, (tt, (record { fits = room-frames .0 }, tt)))) $
+        -- _11 = frames::siblings::relink(_18, _4, _3, _6.8)
+        S-relink.step mem run ! fm known-relink b-frames o-frames n-frames frames-5 q p (f .younger) q-fits p-fits ((LL.owed M-Frame.the-type L-Frame.the-laws f _ f-good .1 .1 .1 .1 .1 .1 .1 .1 .0) .1) (F.needs-6 frames free p q (room-frames .0) free-fits p-fits q-fits ok′ next next-fits next-is f f-is r-3 r-3-is frames-4 done-4 same-frames-4 frames-5 done-5 same-frames-5) (same-frames-5 ∙ same-frames-4) room-frames
+        (λ ν-0 δ-0. and-then ! (load ! (from ! (stop !)) (look ! 6 refl)) (and-then ! (load ! (from ! (stop !)) (look ! 34 refl)) (and-then ! (load ! (from ! (stop !)) (look ! 36 refl)) (and-then ! (load ! (from ! (fld ! refl (stop !))) (look-in ! 30 (sub ! 8 refl (whole !)))) (no-more !))))) (λ frames-6 done-6 same-frames-6.
         land ! (from ! (stop !)) (store ! 19 refl (tt, tt)) $
-        assigns ! (addr ! (from ! (fld ! refl (hop ! (look-in ! 45 (sub ! 0 refl (whole !))) (stop !))))) (from ! (stop !)) (init ! 3 refl (tt, tt)) $
-        assigns ! (agg ! (and-then ! (load ! (from ! (stop !)) (look ! 3 refl)) (and-then ! (load ! (from ! (fld ! refl (stop !))) (look-in ! 45 (sub ! 1 refl (whole !)))) (no-more !)))) (from ! (stop !)) (init ! 1 refl (tt, (tt, (record { fits = room-frames .0 }, tt)))) $
-        -- _14 = frames::siblings::join_if_place(_23, _7, _5.7)
-        S-join-if-place.step mem run ! fm known-join-if-place b-frames o-frames n-frames frames-8 next (f .view) next-fits (LL.owed M-Frame.the-type L-Frame.the-laws f _ f-good .1 .1 .1 .1 .1 .1 .1 .0) (same-frames-8 ∙ same-frames-7 ∙ same-frames-5) room-frames
-        (λ ν-0 δ-0. and-then ! (load ! (from ! (stop !)) (look ! 2 refl)) (and-then ! (load ! (from ! (stop !)) (look ! 34 refl)) (and-then ! (load ! (from ! (fld ! refl (stop !))) (look-in ! 38 (sub ! 7 refl (whole !)))) (no-more !)))) (λ frames-9 done-9 same-frames-9.
+        assigns ! (addr ! (from ! (fld ! refl (hop ! (look-in ! 39 (sub ! 0 refl (whole !))) (stop !))))) (from ! (stop !)) (init ! 3 refl (tt, tt)) $
+        assigns ! (agg ! (and-then ! (load ! (from ! (stop !)) (look ! 3 refl)) (and-then ! (load ! (from ! (fld ! refl (stop !))) (look-in ! 39 (sub ! 1 refl (whole !)))) (no-more !)))) (from ! (stop !)) (init ! 1 refl (tt, (tt, (record { fits = room-frames .0 }, tt)))) $
+        -- _11 = frames::siblings::join_if_place(_20, _5, _6.7)
+        S-join-if-place.step mem run ! fm known-join-if-place b-frames o-frames n-frames frames-6 next (f .view) next-fits (LL.owed M-Frame.the-type L-Frame.the-laws f _ f-good .1 .1 .1 .1 .1 .1 .1 .0) (same-frames-6 ∙ same-frames-5 ∙ same-frames-4) room-frames
+        (λ ν-0 δ-0. and-then ! (load ! (from ! (stop !)) (look ! 2 refl)) (and-then ! (load ! (from ! (stop !)) (look ! 32 refl)) (and-then ! (load ! (from ! (fld ! refl (stop !))) (look-in ! 30 (sub ! 7 refl (whole !)))) (no-more !)))) (λ frames-7 done-7 same-frames-7.
         land ! (from ! (stop !)) (store ! 19 refl (tt, tt)) $
-        assigns ! (of-opd ! (const ! _ tt)) (from ! (stop !)) (init ! 47 refl (tt, tt)) $
-        returns-within ! Post refl (look ! 47 refl) $ forget ! 1 refl $ forget ! 3 refl $ forget ! 5 refl $ forget ! 7 refl $ forget ! 9 refl $ forget ! 11 refl $ forget ! 13 refl $ forget ! 15 refl $ forget ! 17 refl $ forget ! 19 refl $ forget ! 21 refl $ forget ! 23 refl $ forget ! 25 refl $ forget ! 27 refl $ forget ! 29 refl $ forget ! 31 refl $ forget ! 33 refl $ forget ! 35 refl $ forget ! 37 refl $ forget ! 39 refl $ forget ! 41 refl $ forget ! 43 refl $ forget ! 45 refl $ forget ! 47 refl $
+        assigns ! (of-opd ! (const ! _ tt)) (from ! (stop !)) (init ! 41 refl (tt, tt)) $
+        returns-within ! Post refl (look ! 41 refl) $ forget ! 1 refl $ forget ! 3 refl $ forget ! 5 refl $ forget ! 7 refl $ forget ! 9 refl $ forget ! 11 refl $ forget ! 13 refl $ forget ! 15 refl $ forget ! 17 refl $ forget ! 19 refl $ forget ! 21 refl $ forget ! 23 refl $ forget ! 25 refl $ forget ! 27 refl $ forget ! 29 refl $ forget ! 31 refl $ forget ! 33 refl $ forget ! 35 refl $ forget ! 37 refl $ forget ! 39 refl $ forget ! 41 refl $
         free-all ! 1 refl $
-        by ! (exits′ frames-9 (F.out-10 frames free p q (room-frames .0) free-fits p-fits q-fits ok′ f f-is g g-is next next-fits next-is r-4 r-4-is frames-5 done-5 same-frames-5 r-6 r-6-is frames-7 done-7 same-frames-7 frames-8 done-8 same-frames-8 frames-9 done-9 same-frames-9) (same-frames-9 ∙ same-frames-8 ∙ same-frames-7 ∙ same-frames-5)))))))))))))))))))))))))))))))))))
+        by ! (exits′ frames-7 (F.out-8 frames free p q (room-frames .0) free-fits p-fits q-fits ok′ next next-fits next-is f f-is r-3 r-3-is frames-4 done-4 same-frames-4 frames-5 done-5 same-frames-5 frames-6 done-6 same-frames-6 frames-7 done-7 same-frames-7) (same-frames-7 ∙ same-frames-6 ∙ same-frames-5 ∙ same-frames-4))))))))))))))))))))))))))))))
 
 module _ {M : Type 1} (𝓤 : URA M) (H : Heap 𝓤) (A : Atoms 𝓤) (W : Given 𝓤 H A) (mem : Memory → SProp 𝓤) (run : Routine → Fun 𝓤) (𝓣 : Tables 𝓤 H) where
-  walks : Triple 𝓤 (𝓣 .C #frame-at) (S-frame-at.Asked 𝓤 H A mem run) → Triple 𝓤 (𝓣 .C #next-after) (S-next-after.Asked 𝓤 H A mem run) → Triple 𝓤 (𝓣 .C #free-place) (S-free-place.Asked 𝓤 H A mem run) → Triple 𝓤 (𝓣 .C #put-frame) (S-put-frame.Asked 𝓤 H A mem run) → Triple 𝓤 (𝓣 .C #without-child) (S-without-child.Asked 𝓤 H A mem run) → Triple 𝓤 (𝓣 .C #relink) (S-relink.Asked 𝓤 H A mem run) → Triple 𝓤 (𝓣 .C #join-if-place) (S-join-if-place.Asked 𝓤 H A mem run) → Walks 𝓤 H A f′.ended stayed (WpFn 𝓤 H (𝓣 .C) (𝓣 .Λ) code.function) (f′.clauses 𝓤 H A mem run)
-  walks known-frame-at known-next-after known-free-place known-put-frame known-without-child known-relink known-join-if-place = walked 𝓤 H A f′.ended stayed (f′.clauses 𝓤 H A mem run) (WpFn 𝓤 H (𝓣 .C) (𝓣 .Λ) code.function)
+  walks : Triple 𝓤 (𝓣 .C #next-after) (S-next-after.Asked 𝓤 H A mem run) → Triple 𝓤 (𝓣 .C #frame-at) (S-frame-at.Asked 𝓤 H A mem run) → Triple 𝓤 (𝓣 .C #free-place) (S-free-place.Asked 𝓤 H A mem run) → Triple 𝓤 (𝓣 .C #put-frame) (S-put-frame.Asked 𝓤 H A mem run) → Triple 𝓤 (𝓣 .C #lose-child) (S-lose-child.Asked 𝓤 H A mem run) → Triple 𝓤 (𝓣 .C #relink) (S-relink.Asked 𝓤 H A mem run) → Triple 𝓤 (𝓣 .C #join-if-place) (S-join-if-place.Asked 𝓤 H A mem run) → Walks 𝓤 H A f′.ended stayed (WpFn 𝓤 H (𝓣 .C) (𝓣 .Λ) code.function) (f′.clauses 𝓤 H A mem run)
+  walks known-next-after known-frame-at known-free-place known-put-frame known-lose-child known-relink known-join-if-place = walked 𝓤 H A f′.ended stayed (f′.clauses 𝓤 H A mem run) (WpFn 𝓤 H (𝓣 .C) (𝓣 .Λ) code.function)
       (λ κs. (slice-vals, (uint-vals w32, (uint-vals w32, (uint-vals w32, tt)))))
       (λ κs. (mut-slice-tells (named 0) (κs .0) R-Frame, (uint-tells w32, (uint-tells w32, (uint-tells w32, tt)))))
       (λ κs qs bounds a g are. needs 𝓤 (EndsIn (a .0 .now) (a .1 .1 .0) (a .1 .1 .1 .0) × (length (a .0 .now) ≤ maxPlaces) × ((a .1 .1 .1 .0) ≢ none) × (frameAt (a .0 .now) (a .1 .1 .1 .0) .outstanding ≢ 1)) _
-      (walk 𝓤 H A W mem run (κs .0) (qs .0) (a .0 .ptr .0) (a .0 .ptr .1) (a .0 .name) (a .0 .now) (a .1 .0) (are .1 .0 .1) (a .1 .1 .0) (are .1 .1 .0 .1) (a .1 .1 .1 .0) (are .1 .1 .1 .0 .1) (are .0 .0 .1) 𝓣 known-frame-at known-next-after known-free-place known-put-frame known-without-child known-relink known-join-if-place))
+      (walk 𝓤 H A W mem run (κs .0) (qs .0) (a .0 .ptr .0) (a .0 .ptr .1) (a .0 .name) (a .0 .now) (a .1 .0) (are .1 .0 .1) (a .1 .1 .0) (are .1 .1 .0 .1) (a .1 .1 .1 .0) (are .1 .1 .1 .0 .1) (are .0 .0 .1) 𝓣 known-next-after known-frame-at known-free-place known-put-frame known-lose-child known-relink known-join-if-place))
 
-  meets : Triple 𝓤 (𝓣 .C #frame-at) (S-frame-at.Asked 𝓤 H A mem run) → Triple 𝓤 (𝓣 .C #next-after) (S-next-after.Asked 𝓤 H A mem run) → Triple 𝓤 (𝓣 .C #free-place) (S-free-place.Asked 𝓤 H A mem run) → Triple 𝓤 (𝓣 .C #put-frame) (S-put-frame.Asked 𝓤 H A mem run) → Triple 𝓤 (𝓣 .C #without-child) (S-without-child.Asked 𝓤 H A mem run) → Triple 𝓤 (𝓣 .C #relink) (S-relink.Asked 𝓤 H A mem run) → Triple 𝓤 (𝓣 .C #join-if-place) (S-join-if-place.Asked 𝓤 H A mem run) → Meets 𝓤 H A f′.signature (WpFn 𝓤 H (𝓣 .C) (𝓣 .Λ) code.function) (f′.spec 𝓤 H A mem run)
-  meets known-frame-at known-next-after known-free-place known-put-frame known-without-child known-relink known-join-if-place = walk-meets 𝓤 H A f′.ended stayed W
+  meets : Triple 𝓤 (𝓣 .C #next-after) (S-next-after.Asked 𝓤 H A mem run) → Triple 𝓤 (𝓣 .C #frame-at) (S-frame-at.Asked 𝓤 H A mem run) → Triple 𝓤 (𝓣 .C #free-place) (S-free-place.Asked 𝓤 H A mem run) → Triple 𝓤 (𝓣 .C #put-frame) (S-put-frame.Asked 𝓤 H A mem run) → Triple 𝓤 (𝓣 .C #lose-child) (S-lose-child.Asked 𝓤 H A mem run) → Triple 𝓤 (𝓣 .C #relink) (S-relink.Asked 𝓤 H A mem run) → Triple 𝓤 (𝓣 .C #join-if-place) (S-join-if-place.Asked 𝓤 H A mem run) → Meets 𝓤 H A f′.signature (WpFn 𝓤 H (𝓣 .C) (𝓣 .Λ) code.function) (f′.spec 𝓤 H A mem run)
+  meets known-next-after known-frame-at known-free-place known-put-frame known-lose-child known-relink known-join-if-place = walk-meets 𝓤 H A f′.ended stayed W
       (goes-slice 𝓤 H A W 1 0 tt (plain (λ _. R-Frame)), (goes-none 𝓤 H A W 1 (λ _. u32) yes (λ κs x f. refl), (goes-none 𝓤 H A W 1 (λ _. u32) yes (λ κs x f. refl), (goes-none 𝓤 H A W 1 (λ _. u32) yes (λ κs x f. refl), tt))))
-      (f′.clauses 𝓤 H A mem run) (WpFn 𝓤 H (𝓣 .C) (𝓣 .Λ) code.function) (WpFn-mono 𝓤 H (W .laws) 𝓣 code.function) (walks known-frame-at known-next-after known-free-place known-put-frame known-without-child known-relink known-join-if-place)
+      (f′.clauses 𝓤 H A mem run) (WpFn 𝓤 H (𝓣 .C) (𝓣 .Λ) code.function) (WpFn-mono 𝓤 H (W .laws) 𝓣 code.function) (walks known-next-after known-frame-at known-free-place known-put-frame known-lose-child known-relink known-join-if-place)
 
 pub end-sibling-spec : {M : Type 1} → stated.statement M
 unfolding code.routine tablesOf
@@ -216,10 +206,10 @@ end-sibling-spec 𝓤 H 𝓜 𝓖 𝓡 =
     entered 𝓤 H (tripleOf 𝓤 H (𝓖 .A) f′.signature (f′.spec 𝓤 H (𝓖 .A) (𝓜 .mem) (𝓡 .run)))
     (tables 𝓤 H 𝓜 𝓡 code.env .C) (tables 𝓤 H 𝓜 𝓡 code.env .Λ) #own code.function (code.unfolded 𝓤 H 𝓜 𝓡)
     (meets 𝓤 H (𝓖 .A) (givenOf 𝓤 H 𝓜 𝓖) (𝓜 .mem) (𝓡 .run) (tablesOf 𝓤 H 𝓜 (tables 𝓤 H 𝓜 𝓡 code.env))
-    (cited 𝓤 H (S-frame-at.Asked 𝓤 H (𝓖 .A) (𝓜 .mem) (𝓡 .run)) 𝓜 𝓡 code.env #frame-at D-frame-at.routine code.calls-frames·table·frame-at (T-frame-at.met 𝓤 H 𝓜 𝓖 𝓡))
     (cited 𝓤 H (S-next-after.Asked 𝓤 H (𝓖 .A) (𝓜 .mem) (𝓡 .run)) 𝓜 𝓡 code.env #next-after D-next-after.routine code.calls-frames·siblings·next-after (T-next-after.met 𝓤 H 𝓜 𝓖 𝓡))
+    (cited 𝓤 H (S-frame-at.Asked 𝓤 H (𝓖 .A) (𝓜 .mem) (𝓡 .run)) 𝓜 𝓡 code.env #frame-at D-frame-at.routine code.calls-frames·table·frame-at (T-frame-at.met 𝓤 H 𝓜 𝓖 𝓡))
     (cited 𝓤 H (S-free-place.Asked 𝓤 H (𝓖 .A) (𝓜 .mem) (𝓡 .run)) 𝓜 𝓡 code.env #free-place D-free-place.routine code.calls-frames·records·free-place (T-free-place.met 𝓤 H 𝓜 𝓖 𝓡))
     (cited 𝓤 H (S-put-frame.Asked 𝓤 H (𝓖 .A) (𝓜 .mem) (𝓡 .run)) 𝓜 𝓡 code.env #put-frame D-put-frame.routine code.calls-frames·table·put-frame (T-put-frame.met 𝓤 H 𝓜 𝓖 𝓡))
-    (cited 𝓤 H (S-without-child.Asked 𝓤 H (𝓖 .A) (𝓜 .mem) (𝓡 .run)) 𝓜 𝓡 code.env #without-child D-without-child.routine code.calls-frames·records·without-child (T-without-child.met 𝓤 H 𝓜 𝓖 𝓡))
+    (cited 𝓤 H (S-lose-child.Asked 𝓤 H (𝓖 .A) (𝓜 .mem) (𝓡 .run)) 𝓜 𝓡 code.env #lose-child D-lose-child.routine code.calls-frames·table·lose-child (T-lose-child.met 𝓤 H 𝓜 𝓖 𝓡))
     (cited 𝓤 H (S-relink.Asked 𝓤 H (𝓖 .A) (𝓜 .mem) (𝓡 .run)) 𝓜 𝓡 code.env #relink D-relink.routine code.calls-frames·siblings·relink (T-relink.met 𝓤 H 𝓜 𝓖 𝓡))
     (cited 𝓤 H (S-join-if-place.Asked 𝓤 H (𝓖 .A) (𝓜 .mem) (𝓡 .run)) 𝓜 𝓡 code.env #join-if-place D-join-if-place.routine code.calls-frames·siblings·join-if-place (T-join-if-place.met 𝓤 H 𝓜 𝓖 𝓡)))
