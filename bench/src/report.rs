@@ -194,7 +194,8 @@ R-6: the tapes and the records of one kind from above, once more in a table of 2
 for siblings, some of them to the table's end; the others look at no place but those of their frames.";
     let searches = "\
 The kinds that search. A spawn looks for the youngest child, the return of a child for the one that names it, which the eldest does not
-have; the next frame is sought by going down the eldest children, with a look at the whole table for each level.
+have; the next frame is sought by going down the eldest children: in plain Rust with a look at the whole table for each level, in the
+library with one.
 \"Per place\" is from 64 places to 256.";
     section(
         "Records by the table's places",

@@ -19,10 +19,11 @@ static uint32_t answers[2 * RECORDS];
 static uint8_t image[SPLITTER_IMAGE_BYTES(FRAMES, NODES)];
 static uint64_t clocks[SPLITTER_CLOCKS_WORDS(FRAMES)];
 static uint32_t saved, loaded, reported; /* what the calls answered */
-static unsigned char stack[1 << 17];
+static uint32_t workers = 2;             /* of the next start or report */
+static _Alignas(16) unsigned char stack[1 << 17];
 
 static void start(void) {
-    splitter_lent_start(&lent, 2, values, SPLITTER_MAX_SPLITTERS);
+    splitter_lent_start(&lent, workers, values, SPLITTER_MAX_SPLITTERS);
 }
 
 /* Down to the deepest frame, a write in each; a steal and a sync. */
@@ -84,7 +85,7 @@ static void tapes(void) {
 
 static void reports(void) {
     struct splitter_parallelism report;
-    reported = splitter_lent_report(&lent, 2, values, SPLITTER_MAX_SPLITTERS, tape, sizeof tape, answers, 2 * RECORDS,
+    reported = splitter_lent_report(&lent, workers, values, SPLITTER_MAX_SPLITTERS, tape, sizeof tape, answers, 2 * RECORDS,
                                     clocks, SPLITTER_CLOCKS_WORDS(FRAMES), &report);
 }
 
@@ -114,6 +115,20 @@ static void write_chain(void) {
         at = splitter_put_record(at, SPLITTER_STEP_RETURN, 1, 0, 0);
     }
     splitter_put_record(at, SPLITTER_STEP_RETURN, 0, 0, 0);
+}
+
+/* The siblings as records. */
+static void write_siblings(void) {
+    uint8_t *at = memset(tape, 0, sizeof tape);
+    for (uint8_t worker = 0; worker + 1 < (int)SPLITTER_MAX_WORKERS; worker++) {
+        at = splitter_put_record(at, SPLITTER_STEP_SPAWN, worker, 0, 0);
+        at = splitter_put_record(at, SPLITTER_STEP_STEAL, worker + 1, worker, 0);
+        at = splitter_put_record(at, SPLITTER_STEP_SPAWN, worker, 0, 0);
+    }
+    for (uint8_t worker = 0; worker < SPLITTER_MAX_WORKERS; worker++) {
+        at = splitter_put_record(at, SPLITTER_STEP_RETURN, worker, 0, 0);
+        at = splitter_put_record(at, SPLITTER_STEP_RETURN, worker, 0, 0);
+    }
 }
 
 /* The bytes of the stack that the function wrote to. */
@@ -153,17 +168,13 @@ static void check_image(void) {
     }
 }
 
-/* Both tapes have a report. */
-static size_t stack_of_reports(void) {
+static size_t stack_of_report(void) {
     size_t most = stack_of(reports);
-    if (reported == SPLITTER_OK) {
-        write_chain();
-        most = larger(most, stack_of(reports));
-    }
     if (reported != SPLITTER_OK) {
         printf("surprise: the report answered %u\n", reported);
         exit(1);
     }
+    check_end();
     return most;
 }
 
@@ -182,8 +193,15 @@ int main(void) {
     start();
     size_t taped = stack_of(tapes);
     check_end();
-    size_t reporting = stack_of_reports();
+    size_t reporting = stack_of_report();
+    write_chain();
+    reporting = larger(reporting, stack_of_report());
+    write_siblings();
+    workers = SPLITTER_MAX_WORKERS;
+    start();
+    taped = larger(taped, stack_of(tapes));
     check_end();
+    reporting = larger(reporting, stack_of_report());
     printf("stack: a start takes %zu bytes, a step %zu, a tape %zu, a report %zu, a save %zu, a load %zu\n", starts, stepped, taped,
            reporting, saves, loads);
     if (larger(larger(starts, stepped), larger(larger(taped, reporting), larger(saves, loads))) > SPLITTER_STACK_BYTES) {
