@@ -12,7 +12,6 @@ use lib.Dec.{eqb, ltb}
 use borrow.Author.Tests.{eq-eqb, ne-eqb, ltb-true, ltb-false}
 use Rattle.words.specs.Basics.{none, plus, minus}
 use Rattle.words.specs.Tests.{decided}
-use Rattle.reducers.specs.declared.View.{View}
 use Rattle.reducers.specs.Reducers.{joinView}
 use Rattle.frames.specs.declared.Frame.{Frame}
 use Rattle.frames.specs.declared.Returned.{Returned}
@@ -23,10 +22,10 @@ use Rattle.frames.specs.Widths.{maxPlaces}
 use Rattle.frames.specs.Frames.{frameAt, setFrame, withoutChild, withSuspended, withView, withYounger, asReturning, afterSpawn, childOf, freePlace}
 use Rattle.frames.specs.Siblings.{names, relinkFrom, relink, eldestTo, eldest, firstFrom, onlyChild, nextAfter, joinAt}
 use Rattle.frames.specs.Deques.{bottom, push, pop}
-use Rattle.frames.specs.Steps.{linkChild, addChild, spawn, removeFrame, unlink, endFrame, waitsNoMore, goOn, wentOn, sync, synced}
+use Rattle.frames.specs.Steps.{linkChild, addChild, spawn, removeFrame, endFrame, waitsNoMore, goOn, wentOn, sync, synced}
 use Rattle.frames.specs.Ranges.{ParentOf, EndsIn}
 use Rattle.frames.specs.Promises.{table, Waits, GoesOn, IsSync}
-use Rattle.frames.specs.Theory.Records.{frame-set-same, frame-set-other, frame-set-again, frame-set-swap, frame-past}
+use Rattle.frames.specs.Theory.Records.{frame-set-other, frame-set-again, frame-set-swap, frame-past}
 use Rattle.frames.specs.Theory.Links.{link-alike, link-view}
 use Rattle.frames.specs.Theory.Ends.{end-last, end-joins, only-unlink, only-next, sibling-unlink, sibling-next}
 use Rattle.frames.specs.Theory.EndRecords.{removed-is, removed-parent}
