@@ -1,0 +1,4 @@
+-- Pool has the definitions, Links what fast functions ask. Theory is about them.
+pub mod Pool
+pub mod Links
+pub mod Theory
