@@ -1,20 +1,3 @@
-// The pool of nodes: four words a node, in a lent slice of words. Each contract is an equation with a definition of
-// specs/Pool.antt. A node's words, and the start, are total: what is past the end reads as 0 and is not stored. The operations
-// ask that the links are nodes or none (specs/Links.antt), so that no index is tested.
-mod node;
-mod refs;
-mod start;
-mod tree;
-
-pub use node::NONE;
-pub use node::left_of;
-pub use refs::Freed;
-pub use refs::release;
-pub use refs::retain;
-pub use start::init_pool;
-pub use tree::FirstShared;
-pub use tree::Written;
-pub use tree::first_shared;
-pub use tree::read_at;
-pub use tree::set_value;
-pub use tree::write_shared;
+// Nodes of four words: the layout before R-8. Its definitions and theory are the reference (specs/); the code is crate packed's, and the check of
+// such a pool is crate pool_check's.
+pub const NONE: u32 = 4294967295;

@@ -22,9 +22,12 @@ use Rattle.frames.specs.Deques.{size, setSize, place, setPlace, bottom, top, pu
 use Rattle.frames.specs.Siblings.{chained, relinkFrom}
 use Rattle.frames.specs.Steps.{Table, acting, addChild, spawn, suspend, steal, sync}
 use Rattle.soundness.specs.declared.Numbers.{Numbers}
+use Rattle.soundness.specs.Layout.{Layout, fourWords}
 use Rattle.soundness.specs.Numbers.{headCount, numbersIn, totalsIn}
-use Rattle.soundness.specs.Soundness.{oneMain, parentsLive, countsRight, placedOnce, returningRight, linksRight, totalsRight, holdLive, absentEmpty, restZero, linked, onlyBelow, placesFree, treeAt, nodesAt, rootsBelow}
-use Rattle.soundness.specs.Soundness.{Sentence, says, words, holds, numberSentences, freePlaces, viewZero, sentences}
+use Rattle.soundness.specs.Soundness.{oneMain, parentsLive, countsRight, placedOnce, returningRight, linksRight, totalsRight, holdLive, absentEmpty, restZero, linked, onlyBelow, placesFree, rootsBelow}
+use Rattle.soundness.specs.Trees.{treeAt, nodesAt}
+use Rattle.soundness.specs.Soundness.{numberSentences, freePlaces, viewZero, sentences}
+use Rattle.soundness.specs.Sentence.{Sentence, says, words, holds}
 
 -- ---- sound states
 
@@ -361,7 +364,7 @@ failing [] = []
 failing (s ∷ ss) = cond (holds s) (failing ss) (words s ∷ failing ss)
 
 failingIn : State → List String
-failingIn s = failing (sentences (numbersIn (s .numbers)) (totalsIn (s .numbers)) (s .deques) (s .frames) (s .pool))
+failingIn s = failing (sentences fourWords (numbersIn (s .numbers)) (totalsIn (s .numbers)) (s .deques) (s .frames) (s .pool))
 
 -- ---- the same in fewer steps (crate starred computes with it too)
 
@@ -432,11 +435,11 @@ tested zero b (s ∷ ss) = says (words s) b ∷ ss
 tested (suc k) b (s ∷ ss) = s ∷ tested k b ss
 
 -- with others for the two
-abbrev pub sentencesBy : Bool → Bool → Numbers → List ℕ → List ℕ → List Frame → List ℕ → List Sentence
-sentencesBy rest free s ts ds fs ws = tested 19 rest (tested 22 free (sentences s ts ds fs ws))
+abbrev pub sentencesBy : Layout → Bool → Bool → Numbers → List ℕ → List ℕ → List Frame → List ℕ → List Sentence
+sentencesBy L rest free s ts ds fs ws = tested 19 rest (tested 22 free (sentences L s ts ds fs ws))
 
 abbrev testedBy : Bool → Bool → State → List Sentence
-testedBy rest free s = sentencesBy rest free (numbersIn (s .numbers)) (totalsIn (s .numbers)) (s .deques) (s .frames) (s .pool)
+testedBy rest free s = sentencesBy fourWords rest free (numbersIn (s .numbers)) (totalsIn (s .numbers)) (s .deques) (s .frames) (s .pool)
 
 quickIn : State → List String
 quickIn s = failing (testedBy (restQuick (s .deques) (s .frames)) (freeQuick (s .frames) (numbersIn (s .numbers) .«free_place»)) s)
@@ -485,7 +488,7 @@ pools-computed = quickly poolRows (ap (λ t. t .4) at-once)
 -- those that need many nodes, 521 (which is T(257)) and 16,385, or many places, 257: of the numbers' sentences this one alone is false; the sentences on
 -- trees and frames are not computed
 few : List ℕ → ℕ → List String
-few ks N = let s = numbersIn ks in failing (numberSentences s (rising (s .places) 1) (replicate (4 * N) 0))
+few ks N = let s = numbersIn ks in failing (numberSentences fourWords s (rising (s .places) 1) (replicate (4 * N) 0))
 
 many-computed : (few (2 ∷ 257 ∷ 521 ∷ 0 ∷ 0 ∷ 0 ∷ 0 ∷ 0 ∷ 0 ∷ 8 ∷ []) 521 ≡ ".. to 256." ∷ [])
     × (few (2 ∷ 2 ∷ 16385 ∷ 0 ∷ 0 ∷ 0 ∷ 0 ∷ 0 ∷ 0 ∷ 8 ∷ []) 16385 ≡ ".. to 16,384" ∷ [])

@@ -1,15 +1,13 @@
 -- Document 01's paragraph "Soundness", sentence by sentence, R-3's sentence on the word of frames that wait in their return, R-5's on the totals and the
 -- links between siblings, and R-6's on the length of the frame table, as tests. Definitions only.
 -- A state is its numbers (`Numbers`), the words ts of the four totals, the words ds of the 8 deques and the frame table fs; ws are the lent pool's words.
-use mathlib.Core.Bool.{Bool, true, false, cond, not, _||_, _&&_}
+use mathlib.Core.Bool.{Bool, cond, not, _||_, _&&_}
 use mathlib.Core.List.{List, [], _∷_, _++_}
-use Prim.Native.Nat.{ℕ, zero, suc, _+_, _-_, _*_, _^_}
-use Prim.Native.String.{String}
+use Prim.Native.Nat.{ℕ, zero, suc, _+_, _-_, _*_}
 use lib.ListN.{length, getD, replicate, drop}
 use lib.Dec.{eqb, leb, ltb}
-use Rattle.words.specs.Basics.{none, sum, all, some, howMany, implies, δ, count, follow, below}
-use Rattle.sizes.specs.Sizes.{height, treeNodes}
-use Rattle.pool.specs.Pool.{refcount, left, right, value, nextFree}
+use Rattle.words.specs.Basics.{none, sum, all, some, howMany, implies, count, follow, below}
+use Rattle.sizes.specs.Sizes.{treeNodes}
 use Rattle.frames.specs.Widths.{maxWorkers, maxPlaces, dequePlaces}
 use Rattle.reducers.specs.declared.View.{View}
 use Rattle.frames.specs.declared.Frame.{Frame}
@@ -17,47 +15,31 @@ use Rattle.frames.specs.Frames.{frameAt}
 use Rattle.frames.specs.Siblings.{younger, chained}
 use Rattle.frames.specs.Deques.{size, place}
 use Rattle.soundness.specs.Numbers.{totalCount}
+use Rattle.soundness.specs.Sentence.{Sentence, says, allOf}
+use Rattle.soundness.specs.Layout.{Layout, poolSound}
 use Rattle.soundness.specs.declared.Numbers.{Numbers}
 use Rattle.soundness.specs.declared.Checked.{Checked}
 use Rattle.soundness.specs.declared.Checked.the-variants.{NoRoom, Unsound, Sound}
 
--- ---- sentences
-
--- what the document says, and the test of it
-pub data Sentence : Type 0 where
-  says : String → Bool → Sentence
-
-abbrev pub words : Sentence → String
-words (says t b) = t
-
-abbrev pub holds : Sentence → Bool
-holds (says t b) = b
-
--- every one holds
-abbrev pub allOf : List Sentence → Bool
-allOf [] = true
-allOf (t ∷ []) = holds t
-allOf (t ∷ u ∷ us) = holds t && allOf (u ∷ us)
-
 -- ---- numbers
 
-abbrev pub numberSentences : Numbers → List Frame → List ℕ → List Sentence
-numberSentences s fs ws =
+abbrev pub numberSentences : Layout → Numbers → List Frame → List ℕ → List Sentence
+numberSentences L s fs ws =
     says "Workers are 1 .." (leb 1 (s .workers)) ∷
     says ".. to 8" (leb (s .workers) maxWorkers) ∷
     says "n is 1 .." (leb 1 (s .splitters)) ∷
     says ".. to 256." (leb (s .splitters) 256) ∷
     says "The recorded node count is T(n) .." (leb (treeNodes (s .splitters)) (s .nodes)) ∷
     says ".. to 16,384" (leb (s .nodes) 16384) ∷
-    says "and at most what the lent pool holds." (leb (4 * s .nodes) (length ws)) ∷
+    says "and at most what the lent pool holds." (leb (L .words * s .nodes) (length ws)) ∷
     -- R-6
     says "a recorded length not 1 .." (leb 1 (s .places)) ∷
     says ".. to 256," (leb (s .places) maxPlaces) ∷
     says "or a table of another length, is unsound." (eqb (length fs) (s .places)) ∷
     []
 
-unfoldable pub numbersSound : Numbers → List Frame → List ℕ → Bool
-numbersSound s fs ws = allOf (numberSentences s fs ws)
+unfoldable pub numbersSound : Layout → Numbers → List Frame → List ℕ → Bool
+numbersSound L s fs ws = allOf (numberSentences L s fs ws)
 
 -- ---- frames and deques: terms
 
@@ -181,67 +163,6 @@ frameSentences workers first ds fs =
 unfoldable pub framesSound : ℕ → ℕ → List ℕ → List Frame → Bool
 framesSound workers first ds fs = allOf (frameSentences workers first ds fs)
 
--- ---- trees: n splitters, N recorded nodes, the first free node `first`, and the roots rs of the live frames
-
--- "Walking from each live frame gives a tree of the shape above, in which a node may stand in several places"
-
--- node i is the root of a tree of level l over group g: "Inner nodes have value 0, leaves have no links." The right half of a
--- group exists if it has a splitter
-unfoldable pub treeAt : ℕ → ℕ → List ℕ → ℕ → ℕ → ℕ → Bool
-treeAt n N ws zero g i = ltb i N && (eqb (left ws i) none && eqb (right ws i) none)
-treeAt n N ws (suc l) g i =
-    ltb i N &&
-    (eqb (value ws i) 0 &&
-    (treeAt n N ws l (2 * g) (left ws i) &&
-    elim (ltb ((2 * g + 1) * 2 ^ l) n) [ true ↦ treeAt n N ws l (2 * g + 1) (right ws i) | false ↦ eqb (right ws i) none ]))
-
--- the nodes of that tree, once for each place in it
-unfoldable pub nodesAt : ℕ → List ℕ → ℕ → ℕ → ℕ → List ℕ
-nodesAt n ws zero g i = i ∷ []
-nodesAt n ws (suc l) g i =
-    i ∷ (nodesAt n ws l (2 * g) (left ws i) ++ elim (ltb ((2 * g + 1) * 2 ^ l) n) [ true ↦ nodesAt n ws l (2 * g + 1) (right ws i) | false ↦ [] ])
-
-abbrev pub treesAt : ℕ → ℕ → List ℕ → List ℕ → Bool
-treesAt n N ws [] = true
-treesAt n N ws (r ∷ rs) = treeAt n N ws (height n) 0 r && treesAt n N ws rs
-
--- the nodes of all the roots' trees
-abbrev pub reached : ℕ → List ℕ → List ℕ → List ℕ
-reached n ws [] = []
-reached n ws (r ∷ rs) = nodesAt n ws (height n) 0 r ++ reached n ws rs
-
--- "nodes reached have right holders; all others are free and lie once on the free chain"
-
-abbrev pub isReached : ℕ → List ℕ → List ℕ → ℕ → Bool
-isReached n ws rs i = ltb 0 (count i (reached n ws rs))
-
--- "Holders counts links from nodes in use and from live frames."
-abbrev pub holders : ℕ → ℕ → List ℕ → List ℕ → ℕ → ℕ
-holders n N ws rs i = count i rs + sum N (λ j. cond (isReached n ws rs j) (δ i (left ws j) + δ i (right ws j)) 0)
-
--- "A free node holds 0, the next free node or none, 0, 0."
-abbrev pub isFree : List ℕ → ℕ → Bool
-isFree ws i = eqb (refcount ws i) 0 && (eqb (right ws i) 0 && eqb (value ws i) 0)
-
--- N + 1 steps along the chain pass its end
-abbrev pub freeNodes : ℕ → List ℕ → ℕ → List ℕ
-freeNodes N ws first = follow (suc N) (nextFree ws) first
-
-abbrev pub nodeSound : ℕ → ℕ → List ℕ → ℕ → List ℕ → ℕ → Bool
-nodeSound n N ws first rs i =
-    (isReached n ws rs i && (eqb (refcount ws i) (holders n N ws rs i) && eqb (count i (freeNodes N ws first)) 0)) ||
-    (eqb (count i (reached n ws rs)) 0 && (isFree ws i && eqb (count i (freeNodes N ws first)) 1))
-
-abbrev pub poolSentences : ℕ → ℕ → List ℕ → ℕ → List ℕ → List Sentence
-poolSentences n N ws first rs =
-    says "Walking from each live frame gives a tree of the shape above, in which a node may stand in several places;" (treesAt n N ws rs) ∷
-    says "(the free chain is one of nodes)" (below N (freeNodes N ws first)) ∷
-    says "nodes reached have right holders; all others are free and lie once on the free chain." (all N (nodeSound n N ws first rs)) ∷
-    []
-
-unfoldable pub poolSound : ℕ → ℕ → List ℕ → ℕ → List ℕ → Bool
-poolSound n N ws first rs = allOf (poolSentences n N ws first rs)
-
 -- ---- the whole
 
 -- the roots of the live frames at the places below c
@@ -256,35 +177,35 @@ liveRoots fs = rootsBelow fs (length fs)
 abbrev pub totalSentences : List ℕ → List Frame → List Sentence
 totalSentences ts fs = says "zero while Main lives" (totalsRight ts fs) ∷ []
 
-abbrev pub sentences : Numbers → List ℕ → List ℕ → List Frame → List ℕ → List Sentence
-sentences s ts ds fs ws =
-    numberSentences s fs ws ++
+abbrev pub sentences : Layout → Numbers → List ℕ → List ℕ → List Frame → List ℕ → List Sentence
+sentences L s ts ds fs ws =
+    numberSentences L s fs ws ++
     (totalSentences ts fs ++
     (frameSentences (s .workers) (s .«free_place») ds fs ++
-    poolSentences (s .splitters) (s .nodes) ws (s .«free_node») (liveRoots fs)))
+    L .sentences (s .splitters) (s .nodes) ws (s .«free_node») (liveRoots fs)))
 
-abbrev pub soundParts : Numbers → List ℕ → List ℕ → List Frame → List ℕ → List Sentence
-soundParts s ts ds fs ws =
-    says "numbers" (numbersSound s fs ws) ∷
+abbrev pub soundParts : Layout → Numbers → List ℕ → List ℕ → List Frame → List ℕ → List Sentence
+soundParts L s ts ds fs ws =
+    says "numbers" (numbersSound L s fs ws) ∷
     says "totals" (totalsRight ts fs) ∷
     says "frames and deques" (framesSound (s .workers) (s .«free_place») ds fs) ∷
-    says "trees" (poolSound (s .splitters) (s .nodes) ws (s .«free_node») (liveRoots fs)) ∷
+    says "trees" (poolSound L (s .splitters) (s .nodes) ws (s .«free_node») (liveRoots fs)) ∷
     []
 
 -- "State and pool are sound if all of this is true.": the four parts, which are all the sentences (Theory.Sentences.sound-is-all)
-unfoldable pub sound : Numbers → List ℕ → List ℕ → List Frame → List ℕ → Bool
-sound s ts ds fs ws = allOf (soundParts s ts ds fs ws)
+unfoldable pub sound : Layout → Numbers → List ℕ → List ℕ → List Frame → List ℕ → Bool
+sound L s ts ds fs ws = allOf (soundParts L s ts ds fs ws)
 
 -- the free nodes, counted on the chain
-abbrev pub freeCount : Numbers → List ℕ → ℕ
-freeCount s ws = length (freeNodes (s .nodes) ws (s .«free_node»))
+abbrev pub freeCount : Layout → Numbers → List ℕ → ℕ
+freeCount L s ws = length (L .freeNodes (s .nodes) ws (s .«free_node»))
 
 -- ---- the check's answer, and what it leaves in the work slice
 
 -- refusal 5: "The work slice has fewer words than the recorded node count."
-unfoldable pub checked : Numbers → List ℕ → List ℕ → List Frame → List ℕ → List ℕ → Checked
-checked s ts ds fs ws work =
-    cond (leb (s .nodes) (length work)) (cond (sound s ts ds fs ws) (Sound (freeCount s ws)) Unsound) NoRoom
+unfoldable pub checked : Layout → Numbers → List ℕ → List ℕ → List Frame → List ℕ → List ℕ → Checked
+checked L s ts ds fs ws work =
+    cond (leb (s .nodes) (length work)) (cond (sound L s ts ds fs ws) (Sound (freeCount L s ws)) Unsound) NoRoom
 
 -- "its first words, one per recorded node, are zero and the others are unchanged"
 unfoldable pub cleared : ℕ → List ℕ → List ℕ

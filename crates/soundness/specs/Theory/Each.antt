@@ -5,7 +5,7 @@ use mathlib.Core.Bool.{Bool, true, _&&_, and-true, and-assoc}
 use mathlib.Core.List.{List, [], _∷_, _++_}
 use Rattle.words.specs.Tests.{both}
 use Rattle.words.specs.Tallies.{and-of}
-use Rattle.soundness.specs.Soundness.{Sentence, holds, allOf}
+use Rattle.soundness.specs.Sentence.{Sentence, holds, allOf}
 
 abbrev pub Each : List Sentence → Type 0
 Each [] = Unit {0}

@@ -21,7 +21,8 @@ use Rattle.frames.specs.Theory.Places.{FreePlaces}
 use Rattle.soundness.specs.declared.Numbers.{Numbers}
 use Rattle.soundness.specs.Numbers.{totalCount}
 use Rattle.soundness.specs.Theory.Is.{Is, eq-is, and-is}
-use Rattle.soundness.specs.Soundness.{isChild, children, inDeques, poolSound, liveRoots}
+use Rattle.soundness.specs.Soundness.{isChild, children, inDeques, liveRoots}
+use Rattle.soundness.specs.Layout.{Layout, poolSound}
 
 -- ---- terms
 
@@ -114,24 +115,24 @@ pub record FramesFacts (workers first : ℕ) (ds : List ℕ) (fs : List Frame) :
 
 -- "Workers are 1 to 8, n is 1 to 256. The recorded node count is T(n) to 16,384 and at most what the lent pool holds." R-6:
 -- "a recorded length not 1 to 256, or a table of another length, is unsound."
-pub record NumbersFacts (s : Numbers) (fs : List Frame) (ws : List ℕ) : Type 0 where
+pub record NumbersFacts (L : Layout) (s : Numbers) (fs : List Frame) (ws : List ℕ) : Type 0 where
   pub workers-positive : 1 ≤ s .workers
   pub workers-le : s .workers ≤ maxWorkers
   pub splitters-positive : 1 ≤ s .splitters
   pub splitters-le : s .splitters ≤ 256
   pub enough : treeNodes (s .splitters) ≤ s .nodes
   pub nodes-le : s .nodes ≤ 16384
-  pub room : 4 * s .nodes ≤ length ws
+  pub room : L .words * s .nodes ≤ length ws
   pub places-positive : 1 ≤ s .places
   pub places-le : s .places ≤ maxPlaces
   pub table : length fs ≡ s .places
 
-pub few-places : {s : Numbers} {fs : List Frame} {ws : List ℕ} → NumbersFacts s fs ws → length fs ≤ maxPlaces
+pub few-places : {L : Layout} {s : Numbers} {fs : List Frame} {ws : List ℕ} → NumbersFacts L s fs ws → length fs ≤ maxPlaces
 few-places N = omega (arith, N .places-le, N .table)
 
 -- "State and pool are sound if all of this is true." The pool's part is in PoolSentences
-pub record SoundFacts (s : Numbers) (ts ds : List ℕ) (fs : List Frame) (ws : List ℕ) : Type 0 where
-  pub numbers : NumbersFacts s fs ws
+pub record SoundFacts (L : Layout) (s : Numbers) (ts ds : List ℕ) (fs : List Frame) (ws : List ℕ) : Type 0 where
+  pub numbers : NumbersFacts L s fs ws
   pub totals : TotalsZero ts fs
   pub frames : FramesFacts (s .workers) (s .«free_place») ds fs
-  pub pool : poolSound (s .splitters) (s .nodes) ws (s .«free_node») (liveRoots fs) ≡ true
+  pub pool : poolSound L (s .splitters) (s .nodes) ws (s .«free_node») (liveRoots fs) ≡ true

@@ -15,7 +15,9 @@ use Rattle.words.specs.Counting.{δ-same, δ-other, δ₀, δ₀-zero, δ₀-po
 use Rattle.sizes.specs.Sizes.{height}
 use Rattle.pool.specs.Pool.{refcount, left, right, value}
 use Rattle.pool.specs.Theory.Trees.{TreeAt, nodesOf, reachedNodes, reachedLink, visits, PoolSound}
-use Rattle.soundness.specs.Soundness.{treeAt, nodesAt, treesAt, reached, isReached, holders, isFree, freeNodes, Sentence, poolSentences, poolSound}
+use Rattle.soundness.specs.Trees.{treeAt, nodesAt, treesAt, reached, isReached, holders, isFree, freeNodes, poolSentences}
+use Rattle.soundness.specs.Sentence.{Sentence}
+use Rattle.soundness.specs.Layout.{fourWords, poolSound}
 use Rattle.soundness.specs.Theory.Is.{Is, is-as, eq-is, lt-is, and-is, and3-is, or-is, all-is}
 use Rattle.soundness.specs.Theory.Each.{row-of, of-each}
 use Rattle.soundness.specs.Theory.FreeLists.{chain-below, follow-sound, sound-follow}
@@ -23,7 +25,7 @@ use Rattle.soundness.specs.Theory.FreeLists.{chain-below, follow-sound, 
 -- ---- a tree and its nodes
 
 -- one of two tests, by whether x is below n
-by-is : (x n : ℕ) {a b : Bool} {P Q : Type 0} → Is a P → Is b Q → Is (elim (ltb x n) [ true ↦ a | false ↦ b ]) ((x < n → P) × (n ≤ x → Q))
+pub by-is : (x n : ℕ) {a b : Bool} {P Q : Type 0} → Is a P → Is b Q → Is (elim (ltb x n) [ true ↦ a | false ↦ b ]) ((x < n → P) × (n ≤ x → Q))
 by-is x n i j = elim (decLt x n) [
   | yes h ↦ rw (ltb-of h) (is-as (λ p. ((λ l. p), λ l. absurd (omega arith))) (λ r. r .0 h) i)
   | no h ↦ (let l : n ≤ x = omega arith in rw (nltb-of l) (is-as (λ q. ((λ b. absurd (omega arith)), λ b. q)) (λ r. r .1 l) j))
@@ -114,7 +116,7 @@ module _ (n N : ℕ) (ws : List ℕ) (first : ℕ) (rs : List ℕ) where
   node-few fs i (inr h) = omega (arith, h .2)
 
   -- the chain that the check follows is the free list
-  pub pool-fact : 4 * N ≤ length ws → poolSound n N ws first rs ≡ true → PoolSound N (height n) n ws first (freeNodes N ws first) rs
+  pub pool-fact : 4 * N ≤ length ws → poolSound fourWords n N ws first rs ≡ true → PoolSound N (height n) n ws first (freeNodes N ws first) rs
   unfolding poolSound
   pool-fact room e = record {
     room = room;
@@ -134,7 +136,7 @@ module _ (n N : ℕ) (ws : List ℕ) (first : ℕ) (rs : List ℕ) where
       at : (i : ℕ) → i < N → Used fs i ⊎ Free fs i
       at = all-is N (node-is fs) .fact (row-of ss e 2)
 
-  pub fact-pool : N ≤ none → (fs : List ℕ) → PoolSound N (height n) n ws first fs rs → (poolSound n N ws first rs ≡ true) × (freeNodes N ws first ≡ fs)
+  pub fact-pool : N ≤ none → (fs : List ℕ) → PoolSound N (height n) n ws first fs rs → (poolSound fourWords n N ws first rs ≡ true) × (freeNodes N ws first ≡ fs)
   unfolding poolSound
   fact-pool small fs S = (of-each (poolSentences n N ws first rs) (trees-is n N ws rs .test (S .trees), (inside, (nodes, tt))), same)
     where

@@ -19,8 +19,10 @@ use Rattle.reducers.specs.declared.View.{View}
 use Rattle.reducers.specs.Reducers.{zeroView}
 use Rattle.soundness.specs.declared.Numbers.{Numbers}
 use Rattle.soundness.specs.Numbers.{totalCount}
-use Rattle.soundness.specs.Soundness.{lives, children, inDeques, siblingsLinked, freePlaces, viewZero, placeFree, liveRoots, allOf, numberSentences, totalSentences, frameSentences, poolSentences, sentences, soundParts}
-use Rattle.soundness.specs.Soundness.{oneMain, parentsLive, countsRight, placedOnce, returningRight, linksRight, totalsRight, holdLive, absentEmpty, restZero, linked, onlyBelow, placesFree, framesSound, numbersSound, poolSound, sound}
+use Rattle.soundness.specs.Soundness.{lives, children, inDeques, siblingsLinked, freePlaces, viewZero, placeFree, liveRoots, numberSentences, totalSentences, frameSentences, sentences, soundParts}
+use Rattle.soundness.specs.Sentence.{allOf}
+use Rattle.soundness.specs.Soundness.{oneMain, parentsLive, countsRight, placedOnce, returningRight, linksRight, totalsRight, holdLive, absentEmpty, restZero, linked, onlyBelow, placesFree, framesSound, numbersSound, sound}
+use Rattle.soundness.specs.Layout.{Layout, poolSound}
 use Rattle.soundness.specs.Theory.Is.{Is, is-as, true-is, eq-is, lt-is, le-is, and-is, and3-is, or-is, not-is, implies-is, both-imply, from-is, all-is, all-but-last, some-is}
 use Rattle.soundness.specs.Theory.Each.{row-of, of-each, allOf-append}
 use Rattle.soundness.specs.Theory.FreeLists.{chain-below, follow-sound, sound-follow, the-one}
@@ -310,11 +312,11 @@ module _ (workers first : ℕ) (ds : List ℕ) (fs : List Frame) (few : length f
 
 -- ---- numbers, and the whole
 
-module _ (s : Numbers) (fs : List Frame) (ws : List ℕ) where
-  pub numbers-facts : numbersSound s fs ws ≡ true → NumbersFacts s fs ws
+module _ (L : Layout) (s : Numbers) (fs : List Frame) (ws : List ℕ) where
+  pub numbers-facts : numbersSound L s fs ws ≡ true → NumbersFacts L s fs ws
   unfolding numbersSound
   numbers-facts e =
-      let r = row-of (numberSentences s fs ws) e in
+      let r = row-of (numberSentences L s fs ws) e in
       record {
         workers-positive = le-is _ _ .fact (r 0);
         workers-le = le-is _ _ .fact (r 1);
@@ -328,9 +330,9 @@ module _ (s : Numbers) (fs : List Frame) (ws : List ℕ) where
         table = eq-is _ _ .fact (r 9);
       }
 
-  pub facts-numbers : NumbersFacts s fs ws → numbersSound s fs ws ≡ true
+  pub facts-numbers : NumbersFacts L s fs ws → numbersSound L s fs ws ≡ true
   unfolding numbersSound
-  facts-numbers F = of-each (numberSentences s fs ws) (
+  facts-numbers F = of-each (numberSentences L s fs ws) (
     le-is _ _ .test (F .workers-positive),
     (
       le-is _ _ .test (F .workers-le),
@@ -369,28 +371,28 @@ totals-is ts fs =
     is-as (λ h p b l. h (p, b, l)) (λ h e. h (e .0) (e .1) (e .2))
     (implies-is (some-is (length fs) (λ p. eq-is (frameAt fs p .live) 1)) (all-is totalCount (λ i. eq-is (getD ts i 0) 0)))
 
-module _ (s : Numbers) (ts ds : List ℕ) (fs : List Frame) (ws : List ℕ) where
-  pub sound-facts : sound s ts ds fs ws ≡ true → SoundFacts s ts ds fs ws
+module _ (L : Layout) (s : Numbers) (ts ds : List ℕ) (fs : List Frame) (ws : List ℕ) where
+  pub sound-facts : sound L s ts ds fs ws ≡ true → SoundFacts L s ts ds fs ws
   unfolding sound
   sound-facts e =
-      let r = row-of (soundParts s ts ds fs ws) e in
-      let N = numbers-facts s fs ws (r 0) in
+      let r = row-of (soundParts L s ts ds fs ws) e in
+      let N = numbers-facts L s fs ws (r 0) in
       record { numbers = N; totals = totals-is ts fs .fact (r 1); frames = frames-facts (s .workers) (s .«free_place») ds fs (few-places N) (r 2); pool = r 3 }
 
-  pub facts-sound : SoundFacts s ts ds fs ws → sound s ts ds fs ws ≡ true
+  pub facts-sound : SoundFacts L s ts ds fs ws → sound L s ts ds fs ws ≡ true
   unfolding sound
   facts-sound F =
-      of-each (soundParts s ts ds fs ws) (
-        facts-numbers s fs ws (F .numbers),
+      of-each (soundParts L s ts ds fs ws) (
+        facts-numbers L s fs ws (F .numbers),
         (totals-is ts fs .test (F .totals), (facts-frames (s .workers) (s .«free_place») ds fs (few-places (F .numbers)) (F .frames), (F .pool, tt))),
       )
 
   -- the four parts are all the sentences
-  pub sound-is-all : sound s ts ds fs ws ≡ allOf (sentences s ts ds fs ws)
+  pub sound-is-all : sound L s ts ds fs ws ≡ allOf (sentences L s ts ds fs ws)
   unfolding sound numbersSound framesSound poolSound
   sound-is-all =
-      let nu = numberSentences s fs ws in
+      let nu = numberSentences L s fs ws in
       let to = totalSentences ts fs in
       let fr = frameSentences (s .workers) (s .«free_place») ds fs in
-      let po = poolSentences (s .splitters) (s .nodes) ws (s .«free_node») (liveRoots fs) in
+      let po = L .sentences (s .splitters) (s .nodes) ws (s .«free_node») (liveRoots fs) in
       sym (allOf-append nu (to ++ (fr ++ po)) ∙ ap (λ b. allOf nu && b) (allOf-append to (fr ++ po) ∙ ap (λ b. totalsRight ts fs && b) (allOf-append fr po)))
