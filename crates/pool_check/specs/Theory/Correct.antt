@@ -16,7 +16,9 @@ use Rattle.sizes.specs.Sizes.{height}
 use Rattle.pool.specs.Pool.{refcount}
 use Rattle.frames.specs.declared.Frame.{Frame}
 use Rattle.frames.specs.Widths.{maxPlaces}
-use Rattle.soundness.specs.Soundness.{treesAt, reached, isReached, holders, isFree, freeNodes, nodeSound, poolSound, liveRoots, cleared}
+use Rattle.soundness.specs.Soundness.{liveRoots, cleared}
+use Rattle.soundness.specs.Trees.{treesAt, reached, isReached, holders, freeNodes, nodeSound}
+use Rattle.soundness.specs.Layout.{fourWords, poolSound}
 use Rattle.pool_check.specs.declared.PoolChecked.the-variants.{Bad, Good}
 use Rattle.pool_check.specs.Answer.{inBounds, poolChecked}
 use Rattle.pool_check.specs.Algorithm.{mark, links, fresh, visitPlaces, nodeRight, unvisited, bare, chainFrom, settle, runCheck}
@@ -76,7 +78,7 @@ module _ (n N : ℕ) (ws rs w : List ℕ) (few : N ≤ 16384) (tally : Tallied n
   unfolding nodeRight
   right-at i b = node-right (count i (reached n ws rs)) (holders n N ws rs i) (count i chain) (mark w i) (links w i) (refcount ws i) (bare ws i) (tally .marks i b) (tally .counts i b)
 
-  settle-sound : all N (nodeRight ws w) ≡ true → chainFrom N ws w (unvisited N w) first ≡ true → (poolSound n N ws first rs ≡ true) × (length chain ≡ unvisited N w)
+  settle-sound : all N (nodeRight ws w) ≡ true → chainFrom N ws w (unvisited N w) first ≡ true → (poolSound fourWords n N ws first rs ≡ true) × (length chain ≡ unvisited N w)
   unfolding poolSound
   settle-sound a f =
       let C = chained N ws w chain (chain-sound N ws w few (unvisited N w) N first (unvisited-le N w) f) in (
@@ -84,7 +86,7 @@ module _ (n N : ℕ) (ws rs w : List ℕ) (few : N ≤ 16384) (tally : Tallied n
         chained-length N ws w chain C,
       )
 
-  settle-complete : poolSound n N ws first rs ≡ true → (all N (nodeRight ws w) ≡ true) × (chainFrom N ws w (unvisited N w) first ≡ true)
+  settle-complete : poolSound fourWords n N ws first rs ≡ true → (all N (nodeRight ws w) ≡ true) × (chainFrom N ws w (unvisited N w) first ≡ true)
   unfolding poolSound
   settle-complete s =
       let p = both (below N chain) (all N (nodeSound n N ws first rs)) (both (treesAt n N ws rs) _ s .1) in
@@ -94,8 +96,8 @@ module _ (n N : ℕ) (ws rs w : List ℕ) (few : N ≤ 16384) (tally : Tallied n
             (vacants N ws w chain (record { within = p .0; once = λ i b. nodes i b .1; empty = λ i b. nodes i b .2 })),
       )
 
-  settle-answer : settle N ws first w ≡ cond (poolSound n N ws first rs) (Good (length chain)) Bad
-  settle-answer = elim (decided (poolSound n N ws first rs)) [
+  settle-answer : settle N ws first w ≡ cond (poolSound fourWords n N ws first rs) (Good (length chain)) Bad
+  settle-answer = elim (decided (poolSound fourWords n N ws first rs)) [
     | inl s ↦ (
         let p = settle-complete s in
         rw (s, settle-on N ws first w (p .0), p .1) (ap Good (sym (settle-sound (p .0) (p .1) .1))))
@@ -110,7 +112,7 @@ module _ (n N : ℕ) (ws rs w : List ℕ) (few : N ≤ 16384) (tally : Tallied n
 
 -- ---- the whole
 
-no-trees : (n N : ℕ) (ws rs : List ℕ) (first : ℕ) → treesAt n N ws rs ≡ false → poolSound n N ws first rs ≡ false
+no-trees : (n N : ℕ) (ws rs : List ℕ) (first : ℕ) → treesAt n N ws rs ≡ false → poolSound fourWords n N ws first rs ≡ false
 unfolding poolSound
 no-trees n N ws rs first t = rw t
 
@@ -158,7 +160,7 @@ check-work n N first fs ws w = elim (decided (leb N (length w))) [
 
 -- ---- the free nodes and the nodes reached are all nodes
 
-pub free-reached : (n N : ℕ) (ws : List ℕ) (first : ℕ) (rs : List ℕ) → poolSound n N ws first rs ≡ true → length (freeNodes N ws first) + howMany N (isReached n ws rs) ≡ N
+pub free-reached : (n N : ℕ) (ws : List ℕ) (first : ℕ) (rs : List ℕ) → poolSound fourWords n N ws first rs ≡ true → length (freeNodes N ws first) + howMany N (isReached n ws rs) ≡ N
 unfolding poolSound
 free-reached n N ws first rs s =
     let p = both (below N (freeNodes N ws first)) (all N (nodeSound n N ws first rs)) (both (treesAt n N ws rs) _ s .1) in

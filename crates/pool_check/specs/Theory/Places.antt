@@ -16,7 +16,8 @@ use Rattle.sizes.specs.Leaves.{leaves, leaves-top}
 use Rattle.frames.specs.declared.Frame.{Frame}
 use Rattle.frames.specs.Widths.{maxPlaces}
 use Rattle.frames.specs.Frames.{frameAt}
-use Rattle.soundness.specs.Soundness.{lives, treeAt, treesAt, nodesAt, reached, isReached, holders, rootsBelow, liveRoots}
+use Rattle.soundness.specs.Soundness.{lives, rootsBelow, liveRoots}
+use Rattle.soundness.specs.Trees.{treeAt, treesAt, nodesAt, reached, isReached, holders}
 use Rattle.pool_check.specs.Algorithm.{mark, links, visitPlace, visitPlaces}
 use Rattle.pool_check.specs.Theory.Ways.{place-live, place-free, Keeps, keeps-refl, keeps-trans, visit-keeps}
 use Rattle.pool_check.specs.Theory.Shape.{tree, tree-is, nodes-is, Fits}

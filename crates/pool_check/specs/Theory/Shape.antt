@@ -13,7 +13,7 @@ use Rattle.words.specs.Basics.{none}
 use Rattle.words.specs.Tests.{decided, both, lt-of, ltb-of, true≢false}
 use Rattle.sizes.specs.Leaves.{leaves, leaves-left, leaves-right, leaves-some, leaves-none}
 use Rattle.pool.specs.Pool.{left, right, value}
-use Rattle.soundness.specs.Soundness.{treeAt, nodesAt}
+use Rattle.soundness.specs.Trees.{treeAt, nodesAt}
 use Rattle.pool_check.specs.Algorithm.{shaped}
 
 -- node i is the root of a tree of level l over k splitters
