@@ -27,6 +27,8 @@ use Rattle.image.specs.Theory.Refused.{right-length, when-17}
 use Rattle.image.specs.Theory.Round.{length-filled, blocks-enough, blocks-needed, good-length, part-length, length-pool}
 use Rattle.image.specs.Theory.Written.{length-state, length-image-words, length-image, image-blocks}
 use Rattle.image.proofs.Stores.{put-append, put-next, put-run, put-last, put-blocks, sum-after, sum-block, sum-word, sum-none}
+use Rattle.soundness.specs.Layout.{twoWords}
+use Rattle.image.specs.Theory.Version.{two-version}
 
 -- ---- saving
 
@@ -58,7 +60,7 @@ module _ (xs t u : List ℕ) (i n at before s : ℕ) (l : length xs ≡ n) (fits
       ∙ sym (put-last xs t i (omega arith))
 
 -- the first number with the version
-pub first-stored : (ns t u : List ℕ) (w : ℕ) → 512 ≤ length t → w ≡ plus (getD ns 0 0) version → u ≡ sets t 0 (wordBytes w) → (u ≡ putWords t 0 (w ∷ [])) × (w ≡ sumBefore u 1)
+pub first-stored : (ns t u : List ℕ) (w : ℕ) → 512 ≤ length t → w ≡ plus (getD ns 0 0) (version twoWords) → u ≡ sets t 0 (wordBytes w) → (u ≡ putWords t 0 (w ∷ [])) × (w ≡ sumBefore u 1)
 unfolding bytesOf
 first-stored ns t u w h ew eu =
     let z : sumBefore t 0 ≡ 0 = sum-none t 0 refl in
@@ -67,8 +69,8 @@ first-stored ns t u w h ew eu =
     run-open (w ∷ []) t u 0 1 0 0 w refl (omega arith) refl (sym z) eu s (omega arith)
 
 -- then the others
-pub numbers-stored : (ns t u v : List ℕ) (w : ℕ) → length ns ≡ numberCount → w ≡ plus (getD ns 0 0) version → u ≡ putWords t 0 (w ∷ []) → v ≡ putWords u 1 (take 9 (drop 1 ns))
-    → v ≡ putWords t 0 (versioned ns)
+pub numbers-stored : (ns t u v : List ℕ) (w : ℕ) → length ns ≡ numberCount → w ≡ plus (getD ns 0 0) (version twoWords) → u ≡ putWords t 0 (w ∷ []) → v ≡ putWords u 1 (take 9 (drop 1 ns))
+    → v ≡ putWords t 0 (versioned twoWords ns)
 numbers-stored [] t u v w l e eu ev = absurd (omega arith)
 numbers-stored (x ∷ xs) t u v w l e eu ev =
     ev ∙ ap₂ (λ (p q : List ℕ). putWords p 1 q) eu (take-all 9 xs (omega arith)) ∙ sym (put-append (w ∷ []) xs t 0) ∙ ap (λ (y : ℕ). putWords t 0 (y ∷ xs)) e
@@ -87,40 +89,40 @@ module _ (t : List ℕ) (w b s : ℕ) (eb : b ≡ blocksFor w) (fits : 512 * b �
       let l : length zs ≡ m = length-replicate {A = ℕ} m 0 in
       let c : check (bytesOf zs) ≡ 0 = check-zeros m in
       let s′ : s ≡ plus s (check (bytesOf zs)) = omega (arith, sum-word t w) in
-      let full : w % 127 + m ≡ 127 = omega (arith, blocks-enough w, blocks-needed w) in
-      let here : 512 * b - 4 ≡ 512 * (w / 127) + 508 = omega (arith, blocks-enough w, blocks-needed w) in
+      let full : w % 127 + m ≡ 127 = omega (arith, blocks-enough twoWords two-version w, blocks-needed twoWords two-version w) in
+      let here : 512 * b - 4 ≡ 512 * (w / 127) + 508 = omega (arith, blocks-enough twoWords two-version w, blocks-needed twoWords two-version w) in
       run-full zs t u w m p s s l (omega arith) ep es (eu ∙ ap (sets t p) (sym (bytes-zeros m))) s′ v (512 * b - 4) full here ev
 
 -- the nodes, then those zeros
 pub after-stored : (t u v ws : List ℕ) (k n s b : ℕ) → s ≡ stateWords k → nodeWords * n ≤ length ws → b ≡ blocksFor (s + nodeWords * n) → u ≡ putWords t s (take (nodeWords * n) ws)
-    → v ≡ putWords u (s + nodeWords * n) (replicate (127 * b - (s + nodeWords * n)) 0) → v ≡ putWords t (stateWords k) (lastWords k n ws)
+    → v ≡ putWords u (s + nodeWords * n) (replicate (127 * b - (s + nodeWords * n)) 0) → v ≡ putWords t (stateWords k) (lastWords twoWords k n ws)
 after-stored t u v ws k n s b es room eb eu ev =
     let xs : List ℕ = take (nodeWords * n) ws in
-    let e : s + nodeWords * n ≡ wordsFor k n = ap (λ (m : ℕ). m + nodeWords * n) es in
+    let e : s + nodeWords * n ≡ wordsFor twoWords k n = ap (λ (m : ℕ). m + nodeWords * n) es in
     put-next t u v xs (replicate (127 * b - (s + nodeWords * n)) 0) s (s + nodeWords * n) eu (omega (arith, length-take-le (nodeWords * n) ws room)) ev
     ∙ ap (λ (m : ℕ). putWords t m (xs ++ replicate (127 * b - (s + nodeWords * n)) 0)) es
     ∙ ap₂ (λ (x y : ℕ). putWords t (stateWords k) (xs ++ replicate (127 * x - y) 0)) (eb ∙ ap blocksFor e) e
 
 -- what stands before the table, the table, what stands after it: the image
-pub image-stored : (ns ds : List ℕ) (fs : List Frame) (ws t t₁ t₂ t₃ : List ℕ) → Lengths ns ds fs → nodeWords * nodeCount ns ≤ length ws → imageBytes (placeCount ns) (nodeCount ns) ≤ length t
-    → t₁ ≡ putWords t 0 (versioned ns ++ dequesFor (placeCount ns) ds) → t₂ ≡ putWords t₁ (numberCount + dequesWords (placeCount ns)) (tableWords fs)
-    → t₃ ≡ putWords t₂ (stateWords (placeCount ns)) (lastWords (placeCount ns) (nodeCount ns) ws) → t₃ ≡ stored (imageOf ns ds fs ws) t
+pub image-stored : (ns ds : List ℕ) (fs : List Frame) (ws t t₁ t₂ t₃ : List ℕ) → Lengths ns ds fs → nodeWords * nodeCount ns ≤ length ws → imageBytes twoWords (placeCount ns) (nodeCount ns) ≤ length t
+    → t₁ ≡ putWords t 0 (versioned twoWords ns ++ dequesFor (placeCount ns) ds) → t₂ ≡ putWords t₁ (numberCount + dequesWords (placeCount ns)) (tableWords fs)
+    → t₃ ≡ putWords t₂ (stateWords (placeCount ns)) (lastWords twoWords (placeCount ns) (nodeCount ns) ws) → t₃ ≡ stored (imageOf twoWords ns ds fs ws) t
 image-stored ns ds fs ws t t₁ t₂ t₃ has room fits e₁ e₂ e₃ =
     let k : ℕ = placeCount ns in
-    let n : ℕ = imageBlocks k (nodeCount ns) in
-    let front : List ℕ = versioned ns ++ dequesFor k ds in
+    let n : ℕ = imageBlocks twoWords k (nodeCount ns) in
+    let front : List ℕ = versioned twoWords ns ++ dequesFor k ds in
     let nodes : List ℕ = take (nodeWords * nodeCount ns) ws in
     let rest : ℕ → List ℕ = λ w. replicate (127 * n - w) 0 in
-    let w : ℕ = wordsFor k (nodeCount ns) in
-    let ls : length (front ++ tableWords fs) ≡ stateWords k = length-state ns ds fs ws has room in
+    let w : ℕ = wordsFor twoWords k (nodeCount ns) in
+    let ls : length (front ++ tableWords fs) ≡ stateWords k = length-state twoWords two-version ns ds fs ws has room in
     let lt : length (tableWords fs) ≡ recordWords * k = length-table fs ∙ ap (λ (m : ℕ). recordWords * m) (has .frames) in
-    let lw : length (imageWords ns ds fs ws) ≡ w = length-image-words ns ds fs ws has room in
+    let lw : length (imageWords twoWords ns ds fs ws) ≡ w = length-image-words twoWords two-version ns ds fs ws has room in
     let d₂ : t₂ ≡ putWords t 0 (front ++ tableWords fs) = put-next t t₁ t₂ front (tableWords fs) 0 (numberCount + dequesWords k) e₁ (omega (arith, ls, lt, length-append front (tableWords fs))) e₂ in
-    let d₃ : t₃ ≡ putWords t 0 (filled n (imageWords ns ds fs ws)) =
+    let d₃ : t₃ ≡ putWords t 0 (filled n (imageWords twoWords ns ds fs ws)) =
     put-next t t₂ t₃ (front ++ tableWords fs) (nodes ++ rest w) 0 (stateWords k) d₂ (omega (arith, ls)) e₃
-    ∙ ap (putWords t 0) (sym (append-assoc (front ++ tableWords fs) nodes (rest w)) ∙ ap (λ (m : ℕ). imageWords ns ds fs ws ++ rest m) (sym lw)) in
-    let l : length (filled n (imageWords ns ds fs ws)) ≡ 127 * n = length-filled n (imageWords ns ds fs ws) (omega (arith, lw, blocks-enough w)) in
-    d₃ ∙ put-blocks n (filled n (imageWords ns ds fs ws)) t l fits ∙ ap₂ (λ (x : List ℕ) (m : ℕ). x ++ drop m t) (sym (image-blocks ns ds fs ws has room)) (sym (length-image ns ds fs ws has room))
+    ∙ ap (putWords t 0) (sym (append-assoc (front ++ tableWords fs) nodes (rest w)) ∙ ap (λ (m : ℕ). imageWords twoWords ns ds fs ws ++ rest m) (sym lw)) in
+    let l : length (filled n (imageWords twoWords ns ds fs ws)) ≡ 127 * n = length-filled twoWords two-version n (imageWords twoWords ns ds fs ws) (omega (arith, lw, blocks-enough twoWords two-version w)) in
+    d₃ ∙ put-blocks n (filled n (imageWords twoWords ns ds fs ws)) t l fits ∙ ap₂ (λ (x : List ℕ) (m : ℕ). x ++ drop m t) (sym (image-blocks twoWords two-version ns ds fs ws has room)) (sym (length-image twoWords two-version ns ds fs ws has room))
 
 -- ---- 17 and 18
 
@@ -166,40 +168,40 @@ rest-place (suc n) w image p a b l =
     ∙ ap₂ take f (drop-drop (4 * w - 508 * n) (512 * n) image ∙ ap (λ (k : ℕ). drop k image) g)
 
 module _ (image : List ℕ) where
-  pub checks-wrong : (n : ℕ) → n ≡ blocksCalled image → checksHold n image ≡ false → true ≡ wrongCheck image
+  pub checks-wrong : (n : ℕ) → n ≡ blocksCalled twoWords image → checksHold n image ≡ false → true ≡ wrongCheck twoWords image
   unfolding wrongCheck
-  checks-wrong n en e = let f : checksHold (blocksCalled image) image ≡ false = ap (λ (k : ℕ). checksHold k image) (sym en) ∙ e in rw f
+  checks-wrong n en e = let f : checksHold (blocksCalled twoWords image) image ≡ false = ap (λ (k : ℕ). checksHold k image) (sym en) ∙ e in rw f
 
-  pub rest-tested : (n w : ℕ) (z : Bool) → n ≡ blocksCalled image → w ≡ wordsCalled image → length image ≡ 512 * n → checksHold n image ≡ true
-      → z ≡ allZero (take (4 * (127 * n - w)) (drop (512 * n - 4 - 4 * (127 * n - w)) image)) → not z ≡ wrongCheck image
+  pub rest-tested : (n w : ℕ) (z : Bool) → n ≡ blocksCalled twoWords image → w ≡ wordsCalled twoWords image → length image ≡ 512 * n → checksHold n image ≡ true
+      → z ≡ allZero (take (4 * (127 * n - w)) (drop (512 * n - 4 - 4 * (127 * n - w)) image)) → not z ≡ wrongCheck twoWords image
   unfolding wrongCheck
   rest-tested n w z en ew l c e =
-      let c′ : checksHold (blocksCalled image) image ≡ true = ap (λ (k : ℕ). checksHold k image) (sym en) ∙ c in
-      let z′ : allZero (restOf image) ≡ z =
+      let c′ : checksHold (blocksCalled twoWords image) image ≡ true = ap (λ (k : ℕ). checksHold k image) (sym en) ∙ c in
+      let z′ : allZero (restOf twoWords image) ≡ z =
       ap₂ (λ (a b : ℕ). allZero (drop (4 * a) (dataOf b image))) (sym ew) (sym en)
       ∙ ap allZero (rest-place n w image (omega arith) (omega arith) (omega arith) (omega arith)) ∙ sym e in
       rw (c′, z′)
 
-  pub too-short : length image < 512 → WrongLength ≡ imageCheck image
-  too-short h = sym (when-17 image .1 (inl h))
+  pub too-short : length image < 512 → WrongLength ≡ imageCheck twoWords image
+  too-short h = sym (when-17 twoWords two-version image .1 (inl h))
 
-  pub form-before : (w : ℕ) → w ≡ firstIn image → w < version → WrongLength ≡ imageCheck image
-  form-before w e h = sym (when-17 image .1 (inr (inl (omega arith))))
+  pub form-before : (w : ℕ) → w ≡ firstIn image → w < version twoWords → WrongLength ≡ imageCheck twoWords image
+  form-before w e h = sym (when-17 twoWords two-version image .1 (inr (inl (omega arith))))
 
-  pub form-after : (w : ℕ) → w ≡ firstIn image → version + versionStep ≤ w → WrongLength ≡ imageCheck image
-  form-after w e h = sym (when-17 image .1 (inr (inr (inl (omega arith)))))
+  pub form-after : (w : ℕ) → w ≡ firstIn image → version twoWords + versionStep ≤ w → WrongLength ≡ imageCheck twoWords image
+  form-after w e h = sym (when-17 twoWords two-version image .1 (inr (inr (inl (omega arith)))))
 
-  pub other-length : (b : ℕ) → b ≡ blocksCalled image → length image ≢ 512 * b → WrongLength ≡ imageCheck image
-  other-length b eb d = sym (when-17 image .1 (inr (inr (inr (λ e. d (e ∙ ap (λ (k : ℕ). 512 * k) (sym eb)))))))
+  pub other-length : (b : ℕ) → b ≡ blocksCalled twoWords image → length image ≢ 512 * b → WrongLength ≡ imageCheck twoWords image
+  other-length b eb d = sym (when-17 twoWords two-version image .1 (inr (inr (inr (λ e. d (e ∙ ap (λ (k : ℕ). 512 * k) (sym eb)))))))
 
-  tested : (w b : ℕ) → w ≡ firstIn image → Readable w → b ≡ blocksCalled image → length image ≡ 512 * b → wrongLength image ≡ false
-  tested w b ew h eb d = right-length image (record { form = subst Readable ew h; long = d ∙ ap (λ (k : ℕ). 512 * k) eb })
+  tested : (w b : ℕ) → w ≡ firstIn image → Readable twoWords two-version w → b ≡ blocksCalled twoWords image → length image ≡ 512 * b → wrongLength twoWords image ≡ false
+  tested w b ew h eb d = right-length twoWords two-version image (record { form = subst (Readable twoWords two-version) ew h; long = d ∙ ap (λ (k : ℕ). 512 * k) eb })
 
-  pub is-wrong : (w b : ℕ) → w ≡ firstIn image → Readable w → b ≡ blocksCalled image → length image ≡ 512 * b → wrongCheck image ≡ true → WrongCheck ≡ imageCheck image
+  pub is-wrong : (w b : ℕ) → w ≡ firstIn image → Readable twoWords two-version w → b ≡ blocksCalled twoWords image → length image ≡ 512 * b → wrongCheck twoWords image ≡ true → WrongCheck ≡ imageCheck twoWords image
   unfolding imageCheck
   is-wrong w b ew h eb d e = rw (tested w b ew h eb d, e)
 
-  pub is-right : (w b : ℕ) → w ≡ firstIn image → Readable w → b ≡ blocksCalled image → length image ≡ 512 * b → wrongCheck image ≡ false → Good ≡ imageCheck image
+  pub is-right : (w b : ℕ) → w ≡ firstIn image → Readable twoWords two-version w → b ≡ blocksCalled twoWords image → length image ≡ 512 * b → wrongCheck twoWords image ≡ false → Good ≡ imageCheck twoWords image
   unfolding imageCheck
   is-right w b ew h eb d e = rw (tested w b ew h eb d, e)
 
@@ -247,26 +249,26 @@ all-stored t u xs l e =
     let z : drop (length xs) t ≡ [] = drop-of-length-le t {i = length xs} (omega arith) in
     front-stored t u xs (omega arith) e ∙ ap (λ (q : List ℕ). xs ++ q) z ∙ append-nil xs
 
-module _ (image : List ℕ) (good : imageCheck image ≡ Good) where
+module _ (image : List ℕ) (good : imageCheck twoWords image ≡ Good) where
   -- the words called for stand in the image
-  pub fits : (i k : ℕ) → i + k ≤ wordsCalled image → 512 * blocksFor (i + k) ≤ length image
-  fits i k h = omega (arith, good-length image good)
+  pub fits : (i k : ℕ) → i + k ≤ wordsCalled twoWords image → 512 * blocksFor (i + k) ≤ length image
+  fits i k h = omega (arith, good-length twoWords two-version image good)
 
-  pub these : (k i : ℕ) → i + k ≤ wordsCalled image → readWords k image i ≡ take k (drop i (wordsIn image))
-  these k i b = words-data k (blocksCalled image) image i (omega (arith, blocks-enough (wordsCalled image))) (omega (arith, good-length image good))
+  pub these : (k i : ℕ) → i + k ≤ wordsCalled twoWords image → readWords k image i ≡ take k (drop i (wordsIn twoWords image))
+  these k i b = words-data k (blocksCalled twoWords image) image i (omega (arith, blocks-enough twoWords two-version (wordsCalled twoWords image))) (omega (arith, good-length twoWords two-version image good))
 
   -- a part that has just this length
-  all-of : (t u : List ℕ) (k i : ℕ) → i + k ≤ wordsCalled image → length t ≡ k → u ≡ sets t 0 (readWords k image i) → u ≡ take k (drop i (wordsIn image))
-  all-of t u k i b l d = all-stored t u (take k (drop i (wordsIn image))) (part-length image good i k b ∙ sym l) (d ∙ ap (sets t 0) (these k i b))
+  all-of : (t u : List ℕ) (k i : ℕ) → i + k ≤ wordsCalled twoWords image → length t ≡ k → u ≡ sets t 0 (readWords k image i) → u ≡ take k (drop i (wordsIn twoWords image))
+  all-of t u k i b l d = all-stored t u (take k (drop i (wordsIn twoWords image))) (part-length twoWords two-version image good i k b ∙ sym l) (d ∙ ap (sets t 0) (these k i b))
 
   pub numbers-fit : 512 * blocksFor numberCount ≤ length image
   numbers-fit = fits 0 numberCount (omega arith)
 
-  pub numbers-read : (ns u v : List ℕ) → length ns ≡ numberCount → u ≡ sets ns 0 (readWords numberCount image 0) → v ≡ unversioned u → v ≡ numberWordsIn image
+  pub numbers-read : (ns u v : List ℕ) → length ns ≡ numberCount → u ≡ sets ns 0 (readWords numberCount image 0) → v ≡ unversioned u → v ≡ numberWordsIn twoWords image
   numbers-read ns u v l e d = d ∙ ap unversioned (all-of ns u numberCount 0 (omega arith) l e)
 
   -- the nodes, in the front of a pool that holds them
-  pub nodes-read : (ws u : List ℕ) (i n : ℕ) → i ≡ stateWords (placesIn image) → n ≡ nodesIn image → nodeWords * nodesIn image ≤ length ws → u ≡ sets ws 0 (readWords (nodeWords * n) image i) → u ≡ stored (poolIn image) ws
+  pub nodes-read : (ws u : List ℕ) (i n : ℕ) → i ≡ stateWords (placesIn image) → n ≡ nodesIn image → nodeWords * nodesIn image ≤ length ws → u ≡ sets ws 0 (readWords (nodeWords * n) image i) → u ≡ stored (poolIn twoWords image) ws
   nodes-read ws u i n ei en room e =
-      front-stored ws u (poolIn image) (omega (arith, length-pool image good))
+      front-stored ws u (poolIn twoWords image) (omega (arith, length-pool twoWords two-version image good))
       (e ∙ ap₂ (λ (a b : ℕ). sets ws 0 (readWords (nodeWords * a) image b)) en ei ∙ ap (sets ws 0) (these (nodeWords * nodesIn image) (stateWords (placesIn image)) (omega arith)))

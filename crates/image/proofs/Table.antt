@@ -17,6 +17,7 @@ use Rattle.image.specs.Inner.{putWords, readWords}
 use Rattle.image.specs.Theory.Parts.{length-table, length-records}
 use Rattle.image.proofs.Stores.{put-next}
 use Rattle.image.proofs.Ends.{fits, these}
+use Rattle.soundness.specs.Layout.{twoWords}
 
 -- ---- saving
 
@@ -80,7 +81,7 @@ table-turn gs fs u p z h l e =
     ∙ ap (λ (x : List Frame). x ++ drop (suc p) fs) (sym (take-suc gs p z h))
     ∙ ap (tableSoFar gs fs) (sym (add-one p))
 
-module _ (image : List ℕ) (good : imageCheck image ≡ Good) (k : ℕ) (ek : k ≡ placesIn image) where
+module _ (image : List ℕ) (good : imageCheck twoWords image ≡ Good) (k : ℕ) (ek : k ≡ placesIn image) where
   -- where the record at place p begins
   abbrev pub recordPlace : ℕ → ℕ
   recordPlace p = numberCount + dequesWords k + recordWords * p
@@ -89,21 +90,21 @@ module _ (image : List ℕ) (good : imageCheck image ≡ Good) (k : ℕ) (ek : k
   record-fits p h = fits image good (recordPlace p) recordWords (omega (arith, ek))
 
   -- after p records, one more
-  pub record-read : (fs u : List Frame) (f : Frame) (p : ℕ) → p < k → length fs ≡ k → u ≡ tableSoFar (framesIn image) fs p → f ≡ recordIn (readWords recordWords image (numberCount + dequesWords k + recordWords * p))
-      → set u p f ≡ tableSoFar (framesIn image) fs (p + 1)
+  pub record-read : (fs u : List Frame) (f : Frame) (p : ℕ) → p < k → length fs ≡ k → u ≡ tableSoFar (framesIn twoWords image) fs p → f ≡ recordIn (readWords recordWords image (numberCount + dequesWords k + recordWords * p))
+      → set u p f ≡ tableSoFar (framesIn twoWords image) fs (p + 1)
   record-read fs u f p h l eu ef =
-      let W : List ℕ = wordsIn image in
+      let W : List ℕ = wordsIn twoWords image in
       let from : ℕ → ℕ = λ m. numberCount + dequesWords m in
-      let lg : length (framesIn image) ≡ placesIn image = length-records (placesIn image) (drop (from (placesIn image)) W) in
-      let is : f ≡ getD (framesIn image) p f =
+      let lg : length (framesIn twoWords image) ≡ placesIn image = length-records (placesIn image) (drop (from (placesIn image)) W) in
+      let is : f ≡ getD (framesIn twoWords image) p f =
       ef ∙ ap recordIn (these image good recordWords (recordPlace p) (omega (arith, ek)) ∙ ap (take recordWords) (sym (drop-drop (recordWords * p) (from k) W)))
       ∙ ap (λ (m : ℕ). recordIn (take recordWords (drop (recordWords * p) (drop (from m) W)))) ek
       ∙ sym (record-at (placesIn image) (drop (from (placesIn image)) W) p f (omega (arith, ek))) in
-      ap (λ (x : Frame). set u p x) is ∙ table-turn (framesIn image) fs u p f (omega (arith, ek, lg)) (omega (arith, ek, lg)) eu
+      ap (λ (x : Frame). set u p x) is ∙ table-turn (framesIn twoWords image) fs u p f (omega (arith, ek, lg)) (omega (arith, ek, lg)) eu
 
-  pub table-read : (fs u : List Frame) (p : ℕ) → p ≡ k → length fs ≡ k → u ≡ tableSoFar (framesIn image) fs p → u ≡ framesIn image
+  pub table-read : (fs u : List Frame) (p : ℕ) → p ≡ k → length fs ≡ k → u ≡ tableSoFar (framesIn twoWords image) fs p → u ≡ framesIn twoWords image
   table-read fs u p ep l e =
-      let W : List ℕ = wordsIn image in
-      let lg : length (framesIn image) ≡ placesIn image = length-records (placesIn image) (drop (numberCount + dequesWords (placesIn image)) W) in
-      e ∙ ap₂ (λ (a b : ℕ). take a (framesIn image) ++ drop b fs) (ep ∙ ek ∙ sym lg) (ep ∙ sym l)
-      ∙ ap₂ _++_ (take-length (framesIn image)) (drop-length fs) ∙ append-nil (framesIn image)
+      let W : List ℕ = wordsIn twoWords image in
+      let lg : length (framesIn twoWords image) ≡ placesIn image = length-records (placesIn image) (drop (numberCount + dequesWords (placesIn image)) W) in
+      e ∙ ap₂ (λ (a b : ℕ). take a (framesIn twoWords image) ++ drop b fs) (ep ∙ ek ∙ sym lg) (ep ∙ sym l)
+      ∙ ap₂ _++_ (take-length (framesIn twoWords image)) (drop-length fs) ∙ append-nil (framesIn twoWords image)

@@ -19,6 +19,8 @@ use Rattle.image.specs.Theory.Round.{after-numbers}
 use Rattle.image.proofs.Stores.{put-next}
 use Rattle.image.proofs.Loops.{length-data-words}
 use Rattle.image.proofs.Ends.{fits, these}
+use Rattle.soundness.specs.Layout.{twoWords}
+use Rattle.image.specs.Theory.Version.{two-version}
 
 -- worker w's words are among those of all workers
 pub one-more : (w k : ℕ) → w < maxWorkers → w * (1 + k) + (1 + k) ≤ dequesWords k
@@ -47,7 +49,7 @@ deque-stored t u v ds k w i h l b ei eu ev =
 
 -- the deques of the first w workers, then zeros
 abbrev pub readSoFar : List ℕ → ℕ → ℕ → List ℕ
-readSoFar image k w = lentDeques w k (drop numberCount (wordsIn image)) ++ replicate (dequeStride * (maxWorkers - w)) 0
+readSoFar image k w = lentDeques w k (drop numberCount (wordsIn twoWords image)) ++ replicate (dequeStride * (maxWorkers - w)) 0
 
 -- n words stored where zeros stand
 over-zeros : (L vs : List ℕ) (a n r q m : ℕ) → length L ≡ a → length vs ≡ n → m ≡ n + (r + q) → sets (L ++ replicate m 0) a vs ≡ L ++ (vs ++ replicate r 0) ++ replicate q 0
@@ -63,7 +65,7 @@ over-zeros L vs a n r q m la lv em =
     ∙ ap₂ (λ (x y : List ℕ). x ++ vs ++ y) (take-at L (replicate m 0) a la) d
     ∙ sym (append-assoc (L ++ vs) R Q) ∙ ap (λ (l : List ℕ). l ++ Q) (append-assoc L vs R)
 
-module _ (image : List ℕ) (good : imageCheck image ≡ Good) (k : ℕ) (ek : k ≡ placesIn image) (most : k ≤ dequePlaces) where
+module _ (image : List ℕ) (good : imageCheck twoWords image ≡ Good) (k : ℕ) (ek : k ≡ placesIn image) (most : k ≤ dequePlaces) where
   pub none-read : (u : List ℕ) → u ≡ replicate dequeWords 0 → u ≡ readSoFar image k 0
   unfolding lentDeques
   none-read u e = e
@@ -74,11 +76,11 @@ module _ (image : List ℕ) (good : imageCheck image ≡ Good) (k : ℕ) (ek : k
 
     pub deque-read : (u v : List ℕ) → u ≡ readSoFar image k w → v ≡ sets u (dequeStride * w) (readWords (1 + k) image i) → v ≡ readSoFar image k (w + 1)
     deque-read u v eu ev =
-        let W : List ℕ = wordsIn image in
+        let W : List ℕ = wordsIn twoWords image in
         let X : List ℕ = drop numberCount W in
         let L : List ℕ = lentDeques w k X in
         let vs : List ℕ = readWords (1 + k) image i in
-        let ll : length L ≡ dequeStride * w = length-lent w k X most (omega (arith, ek, one-more w k b, after-numbers image good (omega (arith, ek, most)))) in
+        let ll : length L ≡ dequeStride * w = length-lent w k X most (omega (arith, ek, one-more w k b, after-numbers twoWords two-version image good (omega (arith, ek, most)))) in
         let es : vs ≡ take (1 + k) (drop (w * (1 + k)) X) =
         these image good (1 + k) i (omega (arith, ei, ek, one-more w k b)) ∙ ap (λ (m : ℕ). take (1 + k) (drop m W)) ei ∙ ap (take (1 + k)) (sym (drop-drop (w * (1 + k)) numberCount W)) in
         let q : ℕ = dequeStride * (maxWorkers - (w + 1)) in
@@ -87,5 +89,5 @@ module _ (image : List ℕ) (good : imageCheck image ≡ Good) (k : ℕ) (ek : k
         ∙ ap (λ (l : List ℕ). L ++ (l ++ replicate (dequePlaces - k) 0) ++ replicate q 0) es
         ∙ ap (λ (l : List ℕ). l ++ replicate q 0) (sym (lent-snoc w k X) ∙ ap (λ (m : ℕ). lentDeques m k X) (sym (add-one w)))
 
-  pub all-deques : (u : List ℕ) (w : ℕ) → w ≡ maxWorkers → u ≡ readSoFar image k w → u ≡ dequesIn image
-  all-deques u w ew e = e ∙ ap (readSoFar image k) ew ∙ append-nil (lentDeques maxWorkers k (drop numberCount (wordsIn image))) ∙ ap (λ (m : ℕ). lentDeques maxWorkers m (drop numberCount (wordsIn image))) ek
+  pub all-deques : (u : List ℕ) (w : ℕ) → w ≡ maxWorkers → u ≡ readSoFar image k w → u ≡ dequesIn twoWords image
+  all-deques u w ew e = e ∙ ap (readSoFar image k) ew ∙ append-nil (lentDeques maxWorkers k (drop numberCount (wordsIn twoWords image))) ∙ ap (λ (m : ℕ). lentDeques maxWorkers m (drop numberCount (wordsIn twoWords image))) ek

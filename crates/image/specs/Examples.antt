@@ -13,6 +13,7 @@ use Rattle.soundness.specs.Numbers.{numberCount}
 use Rattle.image.specs.declared.ImageCheck.the-variants.{WrongLength}
 use Rattle.image.specs.Widths.{dequesWords, stateWords}
 use Rattle.image.specs.Image.{wordBytes, bytesOf, wordsOf, wordAt, check, block, blocksOf, blocksFor, asBlocks, dequesOf, tableWords, imageWords, imageBytes, noForm, blocksCalled, wrongLength, checksHold, imageCheck, unversioned, dataOf, lentDeques, recordsIn, dequesIn, framesIn, poolIn}
+use Rattle.soundness.specs.Layout.{twoWords}
 
 -- ---- bytes and checks
 
@@ -56,14 +57,14 @@ just-one = refl
 one-more : blocksFor 128 ≡ 2
 one-more = refl
 
--- 64 places and one node: 1,302 words; 256 places and 16,384 nodes; as many as words can say
-bytes-1 : imageBytes 64 1 ≡ 5632
+-- 64 places and one node: 1,300 words; 256 places and 16,384 nodes; as many as words can say
+bytes-1 : imageBytes twoWords 64 1 ≡ 5632
 bytes-1 = refl
 
-bytes-16384 : imageBytes maxPlaces 16384 ≡ 285184
+bytes-16384 : imageBytes twoWords maxPlaces 16384 ≡ 153088
 bytes-16384 = refl
 
-bytes-most : imageBytes 4294967295 4294967295 ≡ 415563449856
+bytes-most : imageBytes twoWords 4294967295 4294967295 ≡ 380933162496
 bytes-most = refl
 
 -- ---- the image of a start with one worker and one splitter, of value 7, in one node, with a table of 8 places
@@ -76,13 +77,13 @@ table : List Frame
 table = initFrames (replicate 8 (freePlace 0))
 
 words : List ℕ
-words = imageWords (1 ∷ 1 ∷ 1 ∷ none ∷ 1 ∷ 0 ∷ 0 ∷ 0 ∷ 0 ∷ 8 ∷ []) deques table (1 ∷ none ∷ none ∷ 7 ∷ [])
+words = imageWords twoWords (1 ∷ 1 ∷ 1 ∷ none ∷ 1 ∷ 0 ∷ 0 ∷ 0 ∷ 0 ∷ 8 ∷ []) deques table (1 ∷ 7 ∷ [])
 
 image : List ℕ
 image = asBlocks words
 
--- the numbers, the first with 768 added, the totals and "the length as a word before the deques", then worker 0's deque of length 1, with Main in place 0
-first-words : take 12 words ≡ 769 ∷ 1 ∷ 1 ∷ none ∷ 1 ∷ 0 ∷ 0 ∷ 0 ∷ 0 ∷ 8 ∷ 1 ∷ 0 ∷ []
+-- the numbers, the first with 1,024 added, the totals and "the length as a word before the deques", then worker 0's deque of length 1, with Main in place 0
+first-words : take 12 words ≡ 1025 ∷ 1 ∷ 1 ∷ none ∷ 1 ∷ 0 ∷ 0 ∷ 0 ∷ 0 ∷ 8 ∷ 1 ∷ 0 ∷ []
 unfolding words deques table dequesOf tableWords initDeques push size setSize setPlace initFrames initPlaces setFrame
 first-words = refl
 
@@ -93,40 +94,40 @@ unfolding words deques table dequesOf tableWords initDeques push size setSize se
 records = refl
 
 -- the nodes come last
-last-words : drop (stateWords 8) words ≡ 1 ∷ none ∷ none ∷ 7 ∷ []
+last-words : drop (stateWords 8) words ≡ 1 ∷ 7 ∷ []
 unfolding words deques table dequesOf tableWords initDeques push size setSize setPlace initFrames initPlaces setFrame
 last-words = refl
 
-begins : take 16 image ≡ 1 ∷ 3 ∷ 0 ∷ 0 ∷ 1 ∷ 0 ∷ 0 ∷ 0 ∷ 1 ∷ 0 ∷ 0 ∷ 0 ∷ 255 ∷ 255 ∷ 255 ∷ 255 ∷ []
+begins : take 16 image ≡ 1 ∷ 4 ∷ 0 ∷ 0 ∷ 1 ∷ 0 ∷ 0 ∷ 0 ∷ 1 ∷ 0 ∷ 0 ∷ 0 ∷ 255 ∷ 255 ∷ 255 ∷ 255 ∷ []
 unfolding image words deques table dequesOf tableWords asBlocks blocksOf bytesOf check initDeques push size setSize setPlace initFrames initPlaces setFrame
 begins = refl
 
--- its length; the first block's check: the numbers, 769 + 1 + 1 + none + 1 + 8, the deque, 1, Main, 1 + none + none + 1 + none, and the links 2, 3 and 4; and
--- the last one's: the links 5, 6, 7 and none, then the node, 1 + none + none + 7
-known : length image ∷ wordAt image 508 ∷ wordAt image (512 + 508) ∷ [] ≡ 1024 ∷ 788 ∷ 23 ∷ []
+-- its length; the first block's check: the numbers, 1,025 + 1 + 1 + none + 1 + 8, the deque, 1, Main, 1 + none + none + 1 + none, and the links 2, 3 and 4; and
+-- the last one's: the links 5, 6, 7 and none, then the node, 1 + 7
+known : length image ∷ wordAt image 508 ∷ wordAt image (512 + 508) ∷ [] ≡ 1024 ∷ 1044 ∷ 25 ∷ []
 unfolding image words deques table dequesOf tableWords asBlocks blocksOf bytesOf wordAt check initDeques push size setSize setPlace initFrames initPlaces setFrame
 known = refl
 
 -- what it says: the lent deques, zero past 8 places, the table and the node
-says-deques : dequesIn image ≡ deques
+says-deques : dequesIn twoWords image ≡ deques
 unfolding image words deques table dequesOf tableWords asBlocks blocksOf bytesOf wordsOf dataOf lentDeques check initDeques push size setSize setPlace initFrames initPlaces setFrame
 says-deques = refl
 
-says-table : framesIn image ≡ table
+says-table : framesIn twoWords image ≡ table
 unfolding image words deques table dequesOf tableWords asBlocks blocksOf bytesOf wordsOf dataOf recordsIn check initDeques push size setSize setPlace initFrames initPlaces setFrame
 says-table = refl
 
-says-node : poolIn image ≡ 1 ∷ none ∷ none ∷ 7 ∷ []
+says-node : poolIn twoWords image ≡ 1 ∷ 7 ∷ []
 unfolding image words deques table dequesOf tableWords asBlocks blocksOf bytesOf wordsOf dataOf check initDeques push size setSize setPlace initFrames initPlaces setFrame
 says-node = refl
 
 -- a block less or more, a byte less, nothing
-wrong-lengths : map imageCheck (take 512 image ∷ (image ++ replicate 512 0) ∷ take 1023 image ∷ [] ∷ []) ≡ WrongLength ∷ WrongLength ∷ WrongLength ∷ WrongLength ∷ []
+wrong-lengths : map (imageCheck twoWords) (take 512 image ∷ (image ++ replicate 512 0) ∷ take 1023 image ∷ [] ∷ []) ≡ WrongLength ∷ WrongLength ∷ WrongLength ∷ WrongLength ∷ []
 unfolding image words deques table dequesOf tableWords asBlocks blocksOf bytesOf wordsOf check wrongLength imageCheck initDeques push size setSize setPlace initFrames initPlaces setFrame
 wrong-lengths = refl
 
 -- the totals once Main has returned: "the sum, the minimum, the multiplier and the addend"; then the length
-totals : take numberCount (imageWords (1 ∷ 1 ∷ 1 ∷ 0 ∷ 0 ∷ 12 ∷ 5 ∷ 6 ∷ 7 ∷ 2 ∷ []) [] [] []) ≡ 769 ∷ 1 ∷ 1 ∷ 0 ∷ 0 ∷ 12 ∷ 5 ∷ 6 ∷ 7 ∷ 2 ∷ []
+totals : take numberCount (imageWords twoWords (1 ∷ 1 ∷ 1 ∷ 0 ∷ 0 ∷ 12 ∷ 5 ∷ 6 ∷ 7 ∷ 2 ∷ []) [] [] []) ≡ 1025 ∷ 1 ∷ 1 ∷ 0 ∷ 0 ∷ 12 ∷ 5 ∷ 6 ∷ 7 ∷ 2 ∷ []
 totals = refl
 
 -- ---- the first word
@@ -135,38 +136,38 @@ totals = refl
 with-first : ℕ → List ℕ
 with-first w = asBlocks (set words 0 w)
 
--- one worker in R-1's form, in R-3's, in R-5's, and in one that is not known yet: as many blocks as are called for, and right checks
-other-forms : map imageCheck (with-first 1 ∷ with-first 257 ∷ with-first 513 ∷ with-first 1025 ∷ []) ≡ WrongLength ∷ WrongLength ∷ WrongLength ∷ WrongLength ∷ []
+-- one worker in R-1's form, in R-3's, in R-5's, in R-6's, and in one that is not known yet: as many blocks as are called for, and right checks
+other-forms : map (imageCheck twoWords) (with-first 1 ∷ with-first 257 ∷ with-first 513 ∷ with-first 769 ∷ with-first 1281 ∷ []) ≡ WrongLength ∷ WrongLength ∷ WrongLength ∷ WrongLength ∷ WrongLength ∷ []
 unfolding with-first words deques table dequesOf tableWords asBlocks blocksOf bytesOf wordsOf check wrongLength imageCheck initDeques push size setSize setPlace initFrames initPlaces setFrame
 other-forms = refl
 
--- a first block with this first word, 26 nodes and k places: 122 words and 20 for each place
+-- a first block with this first word, 52 nodes and k places: 122 words and 20 for each place
 firstBlock : ℕ → ℕ → List ℕ
-firstBlock k w = bytesOf (w ∷ 1 ∷ 26 ∷ 0 ∷ 0 ∷ 0 ∷ 0 ∷ 0 ∷ 0 ∷ k ∷ []) ++ replicate 472 0
+firstBlock k w = bytesOf (w ∷ 1 ∷ 52 ∷ 0 ∷ 0 ∷ 0 ∷ 0 ∷ 0 ∷ 0 ∷ k ∷ []) ++ replicate 472 0
 
 firsts : List (List ℕ)
-firsts = map (firstBlock 1) (0 ∷ 255 ∷ 256 ∷ 511 ∷ 512 ∷ 767 ∷ 768 ∷ 1023 ∷ 1024 ∷ [])
+firsts = map (firstBlock 1) (0 ∷ 255 ∷ 256 ∷ 511 ∷ 512 ∷ 767 ∷ 768 ∷ 1023 ∷ 1024 ∷ 1279 ∷ 1280 ∷ [])
 
 -- "reads only its own form"
-no-forms : map noForm firsts ≡ true ∷ true ∷ true ∷ true ∷ true ∷ true ∷ false ∷ false ∷ true ∷ []
+no-forms : map (noForm twoWords) firsts ≡ true ∷ true ∷ true ∷ true ∷ true ∷ true ∷ true ∷ true ∷ false ∷ false ∷ true ∷ []
 unfolding firsts firstBlock bytesOf wordsOf
 no-forms = refl
 
 -- what is called for follows the length as it stands: 17 does not ask that it is 1 to 256
-blocks-called : map (λ (k : ℕ). blocksCalled (firstBlock k 768)) (0 ∷ 1 ∷ 64 ∷ 256 ∷ 257 ∷ 4294967295 ∷ []) ≡ 1 ∷ 2 ∷ 12 ∷ 42 ∷ 42 ∷ 676372804 ∷ []
+blocks-called : map (λ (k : ℕ). blocksCalled twoWords (firstBlock k 1024)) (0 ∷ 1 ∷ 64 ∷ 256 ∷ 257 ∷ 4294967295 ∷ []) ≡ 1 ∷ 2 ∷ 12 ∷ 42 ∷ 42 ∷ 676372804 ∷ []
 unfolding firstBlock bytesOf wordsOf
 blocks-called = refl
 
 -- as many blocks as are called for pass 17, one less does not; the checks are not looked at
-seventeen : map wrongLength ((firstBlock 1 768 ++ replicate 512 0) ∷ (firstBlock 1 1023 ++ replicate 512 0) ∷ firstBlock 0 768 ∷ firstBlock 1 768 ∷ []) ≡ false ∷ false ∷ false ∷ true ∷ []
+seventeen : map (wrongLength twoWords) ((firstBlock 1 1024 ++ replicate 512 0) ∷ (firstBlock 1 1279 ++ replicate 512 0) ∷ firstBlock 0 1024 ∷ firstBlock 1 1024 ∷ []) ≡ false ∷ false ∷ false ∷ true ∷ []
 unfolding firstBlock bytesOf wordsOf wrongLength
 seventeen = refl
 
--- images of the forms before, as many blocks as 26 nodes had there: 8, from R-3 on 9, and from R-5 on 12
-seventeen-before : map wrongLength ((firstBlock 0 1 ++ replicate 3584 0) ∷ (firstBlock 0 257 ++ replicate 4096 0) ∷ (firstBlock 0 513 ++ replicate 5632 0) ∷ []) ≡ true ∷ true ∷ true ∷ []
+-- images of the forms before, as many blocks as 52 nodes had there: 9, from R-3 on 10, from R-5 on 12, and with R-6's table of no place 2
+seventeen-before : map (wrongLength twoWords) ((firstBlock 0 1 ++ replicate 4096 0) ∷ (firstBlock 0 257 ++ replicate 4608 0) ∷ (firstBlock 0 513 ++ replicate 5632 0) ∷ (firstBlock 0 769 ++ replicate 512 0) ∷ []) ≡ true ∷ true ∷ true ∷ true ∷ []
 unfolding firstBlock bytesOf wordsOf wrongLength
 seventeen-before = refl
 
 -- the workers that are read
-workers-read : map unversioned ((768 ∷ []) ∷ (776 ∷ []) ∷ (1023 ∷ []) ∷ []) ≡ (0 ∷ []) ∷ (8 ∷ []) ∷ (255 ∷ []) ∷ []
+workers-read : map unversioned ((1024 ∷ []) ∷ (1032 ∷ []) ∷ (1279 ∷ []) ∷ []) ≡ (0 ∷ []) ∷ (8 ∷ []) ∷ (255 ∷ []) ∷ []
 workers-read = refl

@@ -16,7 +16,8 @@ use Rattle.frames.specs.Deques.{place}
 use Rattle.soundness.specs.Numbers.{numberCount, numbersIn}
 use Rattle.image.specs.declared.ImageCheck.{ImageCheck}
 use Rattle.image.specs.declared.ImageCheck.the-variants.{WrongLength, WrongCheck, Good}
-use Rattle.image.specs.Widths.{nodeWords, blockBytes, dataBytes, dataWords, dequesWords, stateWords, wordsFor, version, versionStep}
+use Rattle.image.specs.Widths.{blockBytes, dataBytes, dataWords, dequesWords, stateWords, wordsFor, version, versionStep}
+use Rattle.soundness.specs.Layout.{Layout}
 
 -- ---- the words of an image
 
@@ -29,8 +30,8 @@ abbrev pub placeCount : List ℕ → ℕ
 placeCount ns = numbersIn ns .places
 
 -- R-3: "The first word of an image has 256 added .. Each later change of the image adds 256 again"
-abbrev pub versioned : List ℕ → List ℕ
-versioned ns = set ns 0 (plus (getD ns 0 0) version)
+abbrev pub versioned : Layout → List ℕ → List ℕ
+versioned L ns = set ns 0 (plus (getD ns 0 0) (version L))
 
 -- n workers' deques, each with its length and the first k of its lent places
 unfoldable pub dequesOf : ℕ → ℕ → List ℕ → List ℕ
@@ -49,8 +50,8 @@ tableWords (f ∷ fs) = wordsOfRecord f ++ tableWords fs
 -- "workers, splitters, nodes, first free node, first free frame place", by R-5 "the four totals, in that order, after the first free frame
 -- place", by R-6 "the length as a word before the deques"; "for each of 8 workers its deque length and .. places ..; .. frame records ..; then the
 -- pool's nodes", and "that many records and deque places"
-abbrev pub imageWords : List ℕ → List ℕ → List Frame → List ℕ → List ℕ
-imageWords ns ds fs ws = versioned ns ++ dequesFor (placeCount ns) ds ++ tableWords fs ++ take (nodeWords * nodeCount ns) ws
+abbrev pub imageWords : Layout → List ℕ → List ℕ → List Frame → List ℕ → List ℕ
+imageWords L ns ds fs ws = versioned L ns ++ dequesFor (placeCount ns) ds ++ tableWords fs ++ take (L .words * nodeCount ns) ws
 
 -- ---- bytes
 
@@ -103,15 +104,15 @@ unfoldable pub asBlocks : List ℕ → List ℕ
 asBlocks words = let n = blocksFor (length words) in blocksOf n (bytesOf (filled n words))
 
 -- "Write a whole run as blocks"
-abbrev pub imageOf : List ℕ → List ℕ → List Frame → List ℕ → List ℕ
-imageOf ns ds fs ws = asBlocks (imageWords ns ds fs ws)
+abbrev pub imageOf : Layout → List ℕ → List ℕ → List Frame → List ℕ → List ℕ
+imageOf L ns ds fs ws = asBlocks (imageWords L ns ds fs ws)
 
 -- the blocks and the bytes of an image of k places and so many nodes
-abbrev pub imageBlocks : ℕ → ℕ → ℕ
-imageBlocks k nodes = blocksFor (wordsFor k nodes)
+abbrev pub imageBlocks : Layout → ℕ → ℕ → ℕ
+imageBlocks L k nodes = blocksFor (wordsFor L k nodes)
 
-abbrev pub imageBytes : ℕ → ℕ → ℕ
-imageBytes k nodes = blockBytes * imageBlocks k nodes
+abbrev pub imageBytes : Layout → ℕ → ℕ → ℕ
+imageBytes L k nodes = blockBytes * imageBlocks L k nodes
 
 -- ---- what an image is refused for
 
@@ -127,19 +128,19 @@ abbrev pub placesIn : List ℕ → ℕ
 placesIn image = placeCount (wordsOf (take dataBytes image))
 
 -- R-3: "Each later change of the image adds 256 again and reads only its own form. A first word of no readable form gives 17."
-abbrev pub noForm : List ℕ → Bool
-noForm image = ltb (firstIn image) version || not (ltb (firstIn image) (version + versionStep))
+abbrev pub noForm : Layout → List ℕ → Bool
+noForm L image = ltb (firstIn image) (version L) || not (ltb (firstIn image) (version L + versionStep))
 
 -- the words and the blocks that "its first block calls for"
-abbrev pub wordsCalled : List ℕ → ℕ
-wordsCalled image = wordsFor (placesIn image) (nodesIn image)
+abbrev pub wordsCalled : Layout → List ℕ → ℕ
+wordsCalled L image = wordsFor L (placesIn image) (nodesIn image)
 
-abbrev pub blocksCalled : List ℕ → ℕ
-blocksCalled image = blocksFor (wordsCalled image)
+abbrev pub blocksCalled : Layout → List ℕ → ℕ
+blocksCalled L image = blocksFor (wordsCalled L image)
 
 -- "17, the image is not just as many whole blocks as its first block calls for, or has no whole block", or has no readable form
-unfoldable pub wrongLength : List ℕ → Bool
-wrongLength image = ltb (length image) blockBytes || noForm image || not (eqb (length image) (blockBytes * blocksCalled image))
+unfoldable pub wrongLength : Layout → List ℕ → Bool
+wrongLength L image = ltb (length image) blockBytes || noForm L image || not (eqb (length image) (blockBytes * blocksCalled L image))
 
 -- the data of the first n blocks
 unfoldable pub dataOf : ℕ → List ℕ → List ℕ
@@ -156,22 +157,22 @@ allZero [] = true
 allZero (b ∷ bs) = eqb b 0 && allZero bs
 
 -- "the rest of the last block": the data past the words that are called for
-abbrev pub restOf : List ℕ → List ℕ
-restOf image = drop (4 * wordsCalled image) (dataOf (blocksCalled image) image)
+abbrev pub restOf : Layout → List ℕ → List ℕ
+restOf L image = drop (4 * wordsCalled L image) (dataOf (blocksCalled L image) image)
 
 -- "18, a check is wrong or the rest of the last block is not zero"
-unfoldable pub wrongCheck : List ℕ → Bool
-wrongCheck image = not (checksHold (blocksCalled image) image) || not (allZero (restOf image))
+unfoldable pub wrongCheck : Layout → List ℕ → Bool
+wrongCheck L image = not (checksHold (blocksCalled L image) image) || not (allZero (restOf L image))
 
 -- "reading checks 17, 18"
-unfoldable pub imageCheck : List ℕ → ImageCheck
-imageCheck image = cond (wrongLength image) WrongLength (cond (wrongCheck image) WrongCheck Good)
+unfoldable pub imageCheck : Layout → List ℕ → ImageCheck
+imageCheck L image = cond (wrongLength L image) WrongLength (cond (wrongCheck L image) WrongCheck Good)
 
 -- ---- what an accepted image says
 
 -- the words of its data
-abbrev pub wordsIn : List ℕ → List ℕ
-wordsIn image = wordsOf (dataOf (blocksCalled image) image)
+abbrev pub wordsIn : Layout → List ℕ → List ℕ
+wordsIn L image = wordsOf (dataOf (blocksCalled L image) image)
 
 -- the numbers without the version
 abbrev pub unversioned : List ℕ → List ℕ
@@ -188,17 +189,17 @@ recordsIn zero ks = []
 recordsIn (suc n) ks = recordIn (take recordWords ks) ∷ recordsIn n (drop recordWords ks)
 
 -- the words of the numbers, the deques, the frame table and the words of the nodes
-abbrev pub numberWordsIn : List ℕ → List ℕ
-numberWordsIn image = unversioned (take numberCount (wordsIn image))
+abbrev pub numberWordsIn : Layout → List ℕ → List ℕ
+numberWordsIn L image = unversioned (take numberCount (wordsIn L image))
 
-abbrev pub dequesIn : List ℕ → List ℕ
-dequesIn image = lentDeques maxWorkers (placesIn image) (drop numberCount (wordsIn image))
+abbrev pub dequesIn : Layout → List ℕ → List ℕ
+dequesIn L image = lentDeques maxWorkers (placesIn image) (drop numberCount (wordsIn L image))
 
-abbrev pub framesIn : List ℕ → List Frame
-framesIn image = recordsIn (placesIn image) (drop (numberCount + dequesWords (placesIn image)) (wordsIn image))
+abbrev pub framesIn : Layout → List ℕ → List Frame
+framesIn L image = recordsIn (placesIn image) (drop (numberCount + dequesWords (placesIn image)) (wordsIn L image))
 
-abbrev pub poolIn : List ℕ → List ℕ
-poolIn image = take (nodeWords * nodesIn image) (drop (stateWords (placesIn image)) (wordsIn image))
+abbrev pub poolIn : Layout → List ℕ → List ℕ
+poolIn L image = take (L .words * nodesIn image) (drop (stateWords (placesIn image)) (wordsIn L image))
 
 -- ---- lent slices
 
@@ -218,8 +219,8 @@ abbrev pub stored : List ℕ → List ℕ → List ℕ
 stored new old = new ++ drop (length new) old
 
 -- ns, ds, fs and ws' are the parts and the pool after a reading into the pool ws
-pub record IsRead (image ns ds : List ℕ) (fs : List Frame) (ws ws' : List ℕ) : Type 0 where
-  pub numbers : ns ≡ numberWordsIn image
-  pub deques : ds ≡ dequesIn image
-  pub frames : fs ≡ framesIn image
-  pub pool : ws' ≡ stored (poolIn image) ws
+pub record IsRead (L : Layout) (image ns ds : List ℕ) (fs : List Frame) (ws ws' : List ℕ) : Type 0 where
+  pub numbers : ns ≡ numberWordsIn L image
+  pub deques : ds ≡ dequesIn L image
+  pub frames : fs ≡ framesIn L image
+  pub pool : ws' ≡ stored (poolIn L image) ws

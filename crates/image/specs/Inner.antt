@@ -5,8 +5,9 @@ use Prim.Native.Nat.{ℕ, zero, suc, _+_, _-_, _*_, _/_, _%_}
 use lib.ListN.{take, drop, replicate}
 use lib.Seq.{sets}
 use lib.Dec.{eqb}
-use Rattle.image.specs.Widths.{nodeWords, blockBytes, dataBytes, dataWords, wordsFor}
+use Rattle.image.specs.Widths.{blockBytes, dataBytes, dataWords, wordsFor}
 use Rattle.image.specs.Image.{wordBytes, wordAt, check, imageBlocks}
+use Rattle.soundness.specs.Layout.{Layout}
 
 -- where the word i of the data stands: the checks of the blocks before lie between
 abbrev pub placeOf : ℕ → ℕ
@@ -30,8 +31,8 @@ putWords t i [] = t
 putWords t i (w ∷ ws) = putWords (afterWord (sets t (placeOf i) (wordBytes w)) i) (suc i) ws
 
 -- the words of an image of k places after its table: the nodes, and zeros up to the end of the last block
-abbrev pub lastWords : ℕ → ℕ → List ℕ → List ℕ
-lastWords k nodes ws = take (nodeWords * nodes) ws ++ replicate (dataWords * imageBlocks k nodes - wordsFor k nodes) 0
+abbrev pub lastWords : Layout → ℕ → ℕ → List ℕ → List ℕ
+lastWords L k nodes ws = take (L .words * nodes) ws ++ replicate (dataWords * imageBlocks L k nodes - wordsFor L k nodes) 0
 
 -- n words side by side from a place on
 unfoldable pub wordsAt : ℕ → List ℕ → ℕ → List ℕ

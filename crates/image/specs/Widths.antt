@@ -3,10 +3,11 @@
 use Prim.Native.Nat.{ℕ, _+_, _*_}
 use Rattle.frames.specs.Widths.{maxWorkers, recordWords}
 use Rattle.soundness.specs.Numbers.{numberCount}
+use Rattle.soundness.specs.Layout.{Layout, twoWords}
 
--- document 01: "A node is four words: holders, left, right, value."
+-- R-8: "A node becomes two words"
 abbrev pub nodeWords : ℕ
-nodeWords = 4
+nodeWords = twoWords .words
 
 -- document 02: "blocks of 512 bytes: 508 of data, then a 32-bit check"
 abbrev pub blockBytes : ℕ
@@ -28,13 +29,13 @@ abbrev pub stateWords : ℕ → ℕ
 stateWords k = numberCount + dequesWords k + recordWords * k
 
 -- the words of an image of k places and so many nodes
-abbrev pub wordsFor : ℕ → ℕ → ℕ
-wordsFor k nodes = stateWords k + nodeWords * nodes
+abbrev pub wordsFor : Layout → ℕ → ℕ → ℕ
+wordsFor L k nodes = stateWords k + L .words * nodes
 
 -- R-3: "The first word of an image has 256 added"
 abbrev pub versionStep : ℕ
 versionStep = 256
 
--- "Each later change of the image adds 256 again": R-6's is the third change
-abbrev pub version : ℕ
-version = 3 * versionStep
+-- "Each later change of the image adds 256 again": what is added for the images of a layout
+abbrev pub version : Layout → ℕ
+version L = L .version * versionStep

@@ -5,6 +5,7 @@ ghost use lib.ListN.{length, take, drop};
 ghost use lib.Dec.{eqb};
 ghost use Rattle.image.specs.Widths.{blockBytes, dataBytes};
 ghost use Rattle.image.specs.Image.{check, wordAt, wordsCalled, blocksCalled, checksHold, allZero, wrongCheck, imageCheck};
+ghost use Rattle.soundness.specs.Layout.{twoWords};
 use crate::BLOCK_BYTES;
 use crate::DATA_BYTES;
 use crate::DATA_WORDS;
@@ -58,8 +59,8 @@ fn zeros(image: &[u8], at: usize, n: usize) -> bool
 
 // Is a check wrong, or the rest of the last block not zero? The rest stands just before the last check.
 fn wrong_check(image: &[u8], words: usize, blocks: usize) -> bool
-    requires { ⌜ (words ≡ wordsCalled (now image)) × (blocks ≡ blocksCalled (now image)) × (length (now image) ≡ blockBytes * blocks) ⌝ }
-    ensures { λ r. ⌜ r ≡ wrongCheck (now (image .entry)) ⌝ }
+    requires { ⌜ (words ≡ wordsCalled twoWords (now image)) × (blocks ≡ blocksCalled twoWords (now image)) × (length (now image) ≡ blockBytes * blocks) ⌝ }
+    ensures { λ r. ⌜ r ≡ wrongCheck twoWords (now (image .entry)) ⌝ }
 {
     if !checks_right(image, blocks) {
         return true;
@@ -70,7 +71,7 @@ fn wrong_check(image: &[u8], words: usize, blocks: usize) -> bool
 
 // 17, 18, or neither.
 pub fn check_image(image: &[u8]) -> ImageCheck
-    ensures { λ r. ⌜ r ≡ imageCheck (now (image .entry)) ⌝ }
+    ensures { λ r. ⌜ r ≡ imageCheck twoWords (now (image .entry)) ⌝ }
 {
     if image.len() < BLOCK_BYTES {
         return ImageCheck::WrongLength;

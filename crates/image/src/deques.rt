@@ -8,6 +8,7 @@ ghost use Rattle.image.specs.declared.ImageCheck.the-variants.{Good};
 ghost use Rattle.image.specs.Widths.{blockBytes, dequesWords};
 ghost use Rattle.image.specs.Image.{blocksFor, dequesFor, placesIn, imageCheck, dequesIn};
 ghost use Rattle.image.specs.Inner.{putWords, sumBefore};
+ghost use Rattle.soundness.specs.Layout.{twoWords};
 use crate::NUMBER_COUNT;
 use crate::read::read_words;
 use crate::write::write_words;
@@ -36,8 +37,8 @@ pub fn write_deques(target: &mut [u8], deques: &[u32], k: u32, before: u32) -> u
 
 // Reads the deques, k places of each; the lent places past them become zero.
 pub fn read_deques(image: &[u8], deques: &mut [u32], k: u32)
-    requires { ⌜ (imageCheck (now image) ≡ Good) × (length (now deques) ≡ dequeWords) × (k ≡ placesIn (now image)) × (k ≤ dequePlaces) ⌝ }
-    ensures { λ _. ⌜ now (deques .exit) ≡ dequesIn (now (image .entry)) ⌝ }
+    requires { ⌜ (imageCheck twoWords (now image) ≡ Good) × (length (now deques) ≡ dequeWords) × (k ≡ placesIn (now image)) × (k ≤ dequePlaces) ⌝ }
+    ensures { λ _. ⌜ now (deques .exit) ≡ dequesIn twoWords (now (image .entry)) ⌝ }
 {
     words::clear_all(deques);
     let words = 1 + (k as usize);

@@ -19,9 +19,7 @@ pub use write::write_image;
 // The words of a state's numbers: specs/Numbers.antt of crate soundness.
 pub const NUMBER_COUNT: usize = 10;
 
-// The widths of specs/Widths.antt.
-pub const NODE_WORDS: usize = 4;
-
+// The widths of specs/Widths.antt; packed::NODE_WORDS is that of a node.
 pub const BLOCK_BYTES: usize = 512;
 
 pub const DATA_BYTES: usize = 508;
@@ -30,7 +28,7 @@ pub const DATA_WORDS: usize = 127;
 
 pub const VERSION_STEP: u32 = 256;
 
-pub const VERSION: u32 = 3 * VERSION_STEP;
+pub const VERSION: u32 = 4 * VERSION_STEP;
 
 // What an image is found to be.
 pub enum ImageCheck {

@@ -9,10 +9,10 @@ ghost use Rattle.image.specs.declared.ImageCheck.the-variants.{Good};
 ghost use Rattle.image.specs.Widths.{nodeWords, blockBytes, dataWords};
 ghost use Rattle.image.specs.Image.{blocksFor, firstIn, nodesIn, placesIn, wordsCalled, imageCheck, numberWordsIn, dequesIn, framesIn, poolIn, Lengths, stored, IsRead};
 ghost use Rattle.image.specs.Inner.{wordsAt, readWords};
+ghost use Rattle.soundness.specs.Layout.{twoWords};
 use crate::BLOCK_BYTES;
 use crate::DATA_BYTES;
 use crate::DATA_WORDS;
-use crate::NODE_WORDS;
 use crate::NUMBER_COUNT;
 use crate::VERSION_STEP;
 use crate::bytes::read_four;
@@ -29,6 +29,7 @@ use crate::widths::words_for;
 use frames::Frame;
 use frames::RECORD_WORDS;
 use frames::put_frame;
+use packed::NODE_WORDS;
 
 // The first word, which tells the form.
 pub fn first_in(image: &[u8]) -> u32
@@ -57,7 +58,7 @@ pub fn places_in(image: &[u8]) -> u32
 // The words that its first block calls for.
 pub fn words_called(image: &[u8]) -> usize
     requires { ⌜ blockBytes ≤ length (now image) ⌝ }
-    ensures { λ r. ⌜ (r ≡ wordsCalled (now (image .entry))) × (r < 2 ^ 37) ⌝ }
+    ensures { λ r. ⌜ (r ≡ wordsCalled twoWords (now (image .entry))) × (r < 2 ^ 37) ⌝ }
 {
     let places = places_in(image);
     let nodes = nodes_in(image);
@@ -101,8 +102,8 @@ pub fn read_words(image: &[u8], i: usize, to: &mut [u32], j: usize, n: usize)
 
 // Reads the numbers, the first one without the version.
 fn read_numbers(image: &[u8], numbers: &mut [u32])
-    requires { ⌜ (imageCheck (now image) ≡ Good) × (length (now numbers) ≡ numberCount) ⌝ }
-    ensures { λ _. ⌜ now (numbers .exit) ≡ numberWordsIn (now (image .entry)) ⌝ }
+    requires { ⌜ (imageCheck twoWords (now image) ≡ Good) × (length (now numbers) ≡ numberCount) ⌝ }
+    ensures { λ _. ⌜ now (numbers .exit) ≡ numberWordsIn twoWords (now (image .entry)) ⌝ }
 {
     read_words(image, 0, numbers, 0, NUMBER_COUNT);
     numbers[0] = numbers[0] % VERSION_STEP;
@@ -110,10 +111,10 @@ fn read_numbers(image: &[u8], numbers: &mut [u32])
 
 // Reads all but the frame table of an image that is not refused by 17 or 18 and records at most 256 places. Words of the pool past the nodes never change.
 pub fn read_beside(image: &[u8], numbers: &mut [u32], deques: &mut [u32], pool: &mut [u32])
-    requires { ⌜ (imageCheck (now image) ≡ Good) × (length (now numbers) ≡ numberCount) × (length (now deques) ≡ dequeWords)
+    requires { ⌜ (imageCheck twoWords (now image) ≡ Good) × (length (now numbers) ≡ numberCount) × (length (now deques) ≡ dequeWords)
         × (placesIn (now image) ≤ maxPlaces) × (nodeWords * nodesIn (now image) ≤ length (now pool)) ⌝ }
-    ensures { λ _. ⌜ (now (numbers .exit) ≡ numberWordsIn (now (image .entry))) × (now (deques .exit) ≡ dequesIn (now (image .entry)))
-        × (now (pool .exit) ≡ stored (poolIn (now (image .entry))) (now (pool .entry))) ⌝ }
+    ensures { λ _. ⌜ (now (numbers .exit) ≡ numberWordsIn twoWords (now (image .entry))) × (now (deques .exit) ≡ dequesIn twoWords (now (image .entry)))
+        × (now (pool .exit) ≡ stored (poolIn twoWords (now (image .entry))) (now (pool .entry))) ⌝ }
 {
     let places = places_in(image);
     let nodes = nodes_in(image);
@@ -130,8 +131,8 @@ pub fn read_beside(image: &[u8], numbers: &mut [u32], deques: &mut [u32], pool: 
 
 // Reads the records into a table of as many places.
 pub fn read_table(image: &[u8], frames: &mut [Frame])
-    requires { ⌜ (imageCheck (now image) ≡ Good) × (length (now frames) ≡ placesIn (now image)) ⌝ }
-    ensures { λ _. ⌜ now (frames .exit) ≡ framesIn (now (image .entry)) ⌝ }
+    requires { ⌜ (imageCheck twoWords (now image) ≡ Good) × (length (now frames) ≡ placesIn (now image)) ⌝ }
+    ensures { λ _. ⌜ now (frames .exit) ≡ framesIn twoWords (now (image .entry)) ⌝ }
 {
     let places = places_in(image);
     let from = NUMBER_COUNT + deques_words(places);
@@ -152,9 +153,9 @@ pub fn read_parts(
     frames: &mut [Frame],
     pool: &mut [u32],
 )
-    requires { ⌜ (imageCheck (now image) ≡ Good) × (length (now numbers) ≡ numberCount) × Lengths (numberWordsIn (now image)) (now deques) (now frames)
+    requires { ⌜ (imageCheck twoWords (now image) ≡ Good) × (length (now numbers) ≡ numberCount) × Lengths (numberWordsIn twoWords (now image)) (now deques) (now frames)
         × (nodeWords * nodesIn (now image) ≤ length (now pool)) ⌝ }
-    ensures { λ _. ⌜ IsRead (now (image .entry)) (now (numbers .exit)) (now (deques .exit)) (now (frames .exit)) (now (pool .entry)) (now (pool .exit)) ⌝ }
+    ensures { λ _. ⌜ IsRead twoWords (now (image .entry)) (now (numbers .exit)) (now (deques .exit)) (now (frames .exit)) (now (pool .entry)) (now (pool .exit)) ⌝ }
 {
     read_beside(image, numbers, deques, pool);
     read_table(image, frames);

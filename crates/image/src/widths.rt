@@ -4,12 +4,13 @@ ghost use Prim.Native.Nat.{_<_, _*_, _^_, min, _-_, _%_};
 ghost use Rattle.image.specs.Widths.{dataWords, dequesWords, stateWords, wordsFor};
 ghost use Rattle.image.specs.Image.{blocksFor, imageBytes};
 ghost use Rattle.image.specs.Inner.{placeOf};
+ghost use Rattle.soundness.specs.Layout.{twoWords};
 use crate::BLOCK_BYTES;
 use crate::DATA_WORDS;
-use crate::NODE_WORDS;
 use crate::NUMBER_COUNT;
 use frames::MAX_WORKERS;
 use frames::RECORD_WORDS;
+use packed::NODE_WORDS;
 
 // The words of the deques in an image of so many places.
 pub fn deques_words(places: u32) -> usize
@@ -27,7 +28,7 @@ pub fn state_words(places: u32) -> usize
 
 // The words of an image of so many places and nodes, in 64 bits.
 pub fn words_for(places: u32, nodes: u32) -> usize
-    ensures { λ r. ⌜ (r ≡ wordsFor places nodes) × (r < 2 ^ 37) ⌝ }
+    ensures { λ r. ⌜ (r ≡ wordsFor twoWords places nodes) × (r < 2 ^ 37) ⌝ }
 {
     state_words(places) + NODE_WORDS * (nodes as usize)
 }
@@ -42,7 +43,7 @@ pub fn blocks_for(words: usize) -> usize
 
 // The bytes of an image of so many places and nodes.
 pub fn image_bytes(places: u32, nodes: u32) -> u64
-    ensures { λ r. ⌜ r ≡ imageBytes places nodes ⌝ }
+    ensures { λ r. ⌜ r ≡ imageBytes twoWords places nodes ⌝ }
 {
     (BLOCK_BYTES * blocks_for(words_for(places, nodes))) as u64
 }

@@ -8,10 +8,10 @@ ghost use Rattle.soundness.specs.Numbers.{numberCount};
 ghost use Rattle.image.specs.Widths.{nodeWords, blockBytes, dataWords, dequesWords, stateWords};
 ghost use Rattle.image.specs.Image.{nodeCount, placeCount, versioned, dequesFor, tableWords, blocksFor, imageOf, imageBytes, Lengths, stored};
 ghost use Rattle.image.specs.Inner.{putWords, sumBefore, lastWords};
+ghost use Rattle.soundness.specs.Layout.{twoWords};
 use crate::BLOCK_BYTES;
 use crate::DATA_BYTES;
 use crate::DATA_WORDS;
-use crate::NODE_WORDS;
 use crate::NUMBER_COUNT;
 use crate::VERSION;
 use crate::bytes::put_run;
@@ -27,6 +27,7 @@ use crate::widths::state_words;
 use frames::Frame;
 use frames::RECORD_WORDS;
 use frames::frame_at;
+use packed::NODE_WORDS;
 
 // Stores n words of `from`, from j on, as the data's words from i on, all in one block, whose words before them sum up to `before`. After
 // the last word of a block stores its check. Gives the sum for the words that follow.
@@ -83,7 +84,7 @@ pub fn write_words(target: &mut [u8], i: usize, from: &[u32], n: usize, before: 
 // Stores the numbers, the first one with the version.
 fn write_numbers(target: &mut [u8], numbers: &[u32]) -> u32
     requires { ⌜ (length (now numbers) ≡ numberCount) × (blockBytes ≤ length (now target)) ⌝ }
-    ensures { λ r. ⌜ (now (target .exit) ≡ putWords (now (target .entry)) 0 (versioned (now (numbers .entry)))) × (r ≡ sumBefore (now (target .exit)) numberCount) ⌝ }
+    ensures { λ r. ⌜ (now (target .exit) ≡ putWords (now (target .entry)) 0 (versioned twoWords (now (numbers .entry)))) × (r ≡ sumBefore (now (target .exit)) numberCount) ⌝ }
 {
     let first = words::add(numbers[0], VERSION);
     put_word(target, 0, first);
@@ -108,7 +109,7 @@ fn write_rest(target: &mut [u8], end: usize, blocks: usize, sum: u32)
 pub fn write_before(target: &mut [u8], numbers: &[u32], deques: &[u32]) -> u32
     requires { ⌜ (length (now numbers) ≡ numberCount) × (length (now deques) ≡ dequeWords) × (placeCount (now numbers) ≤ maxPlaces)
         × (blockBytes * blocksFor (numberCount + dequesWords (placeCount (now numbers))) ≤ length (now target)) ⌝ }
-    ensures { λ r. ⌜ (now (target .exit) ≡ putWords (now (target .entry)) 0 (versioned (now (numbers .entry)) ++ dequesFor (placeCount (now (numbers .entry))) (now (deques .entry))))
+    ensures { λ r. ⌜ (now (target .exit) ≡ putWords (now (target .entry)) 0 (versioned twoWords (now (numbers .entry)) ++ dequesFor (placeCount (now (numbers .entry))) (now (deques .entry))))
         × (r ≡ sumBefore (now (target .exit)) (numberCount + dequesWords (placeCount (now (numbers .entry))))) ⌝ }
 {
     let places = numbers[NUMBER_COUNT - 1];
@@ -119,10 +120,10 @@ pub fn write_before(target: &mut [u8], numbers: &[u32], deques: &[u32]) -> u32
 // Stores what stands after the frame table: the nodes, then zeros up to the end of the last block, and its check.
 pub fn write_after(target: &mut [u8], numbers: &[u32], pool: &[u32], sum: u32)
     requires { ⌜ (length (now numbers) ≡ numberCount) × (nodeWords * nodeCount (now numbers) ≤ length (now pool))
-        × (imageBytes (placeCount (now numbers)) (nodeCount (now numbers)) ≤ length (now target))
+        × (imageBytes twoWords (placeCount (now numbers)) (nodeCount (now numbers)) ≤ length (now target))
         × (sum ≡ sumBefore (now target) (stateWords (placeCount (now numbers)))) ⌝ }
     ensures { λ _. ⌜ now (target .exit) ≡ putWords (now (target .entry)) (stateWords (placeCount (now (numbers .entry))))
-        (lastWords (placeCount (now (numbers .entry))) (nodeCount (now (numbers .entry))) (now (pool .entry))) ⌝ }
+        (lastWords twoWords (placeCount (now (numbers .entry))) (nodeCount (now (numbers .entry))) (now (pool .entry))) ⌝ }
 {
     let places = numbers[NUMBER_COUNT - 1];
     let nodes = numbers[2];
@@ -159,8 +160,8 @@ pub fn write_image(
     target: &mut [u8],
 )
     requires { ⌜ Lengths (now numbers) (now deques) (now frames) × (nodeWords * nodeCount (now numbers) ≤ length (now pool))
-        × (imageBytes (placeCount (now numbers)) (nodeCount (now numbers)) ≤ length (now target)) ⌝ }
-    ensures { λ _. ⌜ now (target .exit) ≡ stored (imageOf (now (numbers .entry)) (now (deques .entry)) (now (frames .entry)) (now (pool .entry))) (now (target .entry)) ⌝ }
+        × (imageBytes twoWords (placeCount (now numbers)) (nodeCount (now numbers)) ≤ length (now target)) ⌝ }
+    ensures { λ _. ⌜ now (target .exit) ≡ stored (imageOf twoWords (now (numbers .entry)) (now (deques .entry)) (now (frames .entry)) (now (pool .entry))) (now (target .entry)) ⌝ }
 {
     let places = frames.len() as u32;
     let before = write_before(target, numbers, deques);

@@ -41,6 +41,7 @@ use Rattle.image.specs.Image.{placeCount, versioned, dequesFor, blocksFo
 use Rattle.image.specs.Inner.{putWords, sumBefore}
 use Rattle.frames.proofs.Lent.{at-list, Mine, Yours, Lent, Shown, lend, home, show, back, give}
 use Rattle.image.proofs.write.write_before as callee′
+use Rattle.soundness.specs.Layout.{twoWords}
 
 module _ {M : Type 1} (𝓤 : URA M) (H : Heap 𝓤) (A : Atoms 𝓤) (mem : Memory → SProp 𝓤) (run : Routine → Fun 𝓤) where
   abbrev pub Asked : Contract 𝓤
@@ -57,14 +58,14 @@ module _ {M : Type 1} {𝓤 : URA M} {H : Heap 𝓤} {A : Atoms 𝓤} {K : Type 
     {Γ : List (Item 𝓤)} {E : Env 𝓤 H} {C : Calls 𝓤 H} {Λ : Loops 𝓤 H} {post′ : Post 𝓤 H} {dest′ : Place} {name′ : Name} {opds′ : List Operand} {rest′ : Body} where
   pub step-gg : K → FmC 𝓤 H (W .laws) C → Triple 𝓤 (C name′) (Asked 𝓤 H A mem run) → {κ-target : Lft} {q-target : Share} {γ-target : GName} {κ-numbers : Lft} {q-numbers : Share} {γ-numbers : GName} {κ-deques : Lft} {q-deques : Share} {γ-deques : GName} → (b-target o-target n-target : ℕ) (target : List ℕ) (b-numbers o-numbers n-numbers : ℕ) (numbers : List ℕ) (b-deques o-deques n-deques : ℕ) (deques : List ℕ) → (length numbers ≡ numberCount) × (length deques ≡ dequeWords) × (placeCount numbers ≤ maxPlaces) × (blockBytes * blocksFor (numberCount + dequesWords (placeCount numbers)) ≤ length target) → length target ≡ n-target → Room u8 n-target →
       ((ν-target : ℕ) (δ-target : GName) → Opds K W (raw ((Asked 𝓤 H A mem run) .pre (to-step-gg 𝓤 H A mem run ν-target δ-target κ-numbers q-numbers γ-numbers κ-deques q-deques γ-deques b-target o-target n-target target b-numbers o-numbers n-numbers numbers b-deques o-deques n-deques deques)) ∷ ‵ (ShrSlice (named 0) κ-deques u32 .own (at-list b-deques o-deques γ-deques deques) (sliceVal (b-deques, o-deques) n-deques ∷ [])) ∷ ‵ (ShrSlice (named 0) κ-numbers u32 .own (at-list b-numbers o-numbers γ-numbers numbers) (sliceVal (b-numbers, o-numbers) n-numbers ∷ [])) ∷ ‵ (Lent u8 κ-target (ν-target ∷ []) q-target γ-target b-target o-target δ-target target) ∷ Γ) E opds′ (sliceVal (b-target, o-target) n-target ∷ sliceVal (b-numbers, o-numbers) n-numbers ∷ sliceVal (b-deques, o-deques) n-deques ∷ [])) →
-      ((res′ : ℕ) (zs-target : List ℕ) → res′ < 2 ^ 32 → (zs-target ≡ putWords target 0 (versioned numbers ++ dequesFor (placeCount numbers) deques)) × (res′ ≡ sumBefore zs-target (numberCount + dequesWords (placeCount numbers))) → length zs-target ≡ length target → Seq K W (‵ (Mine u8 κ-target q-target γ-target b-target o-target n-target zs-target) ∷ ‵ (Yours u32 κ-numbers q-numbers γ-numbers b-numbers o-numbers n-numbers numbers) ∷ ‵ (Yours u32 κ-deques q-deques γ-deques b-deques o-deques n-deques deques) ∷ Γ) (lands C Λ E dest′ (vint w32 res′) rest′ post′)) →
+      ((res′ : ℕ) (zs-target : List ℕ) → res′ < 2 ^ 32 → (zs-target ≡ putWords target 0 (versioned twoWords numbers ++ dequesFor (placeCount numbers) deques)) × (res′ ≡ sumBefore zs-target (numberCount + dequesWords (placeCount numbers))) → length zs-target ≡ length target → Seq K W (‵ (Mine u8 κ-target q-target γ-target b-target o-target n-target zs-target) ∷ ‵ (Yours u32 κ-numbers q-numbers γ-numbers b-numbers o-numbers n-numbers numbers) ∷ ‵ (Yours u32 κ-deques q-deques γ-deques b-deques o-deques n-deques deques) ∷ Γ) (lands C Λ E dest′ (vint w32 res′) rest′ post′)) →
       Seq K W (‵ (Mine u8 κ-target q-target γ-target b-target o-target n-target target) ∷ ‵ (Yours u32 κ-numbers q-numbers γ-numbers b-numbers o-numbers n-numbers numbers) ∷ ‵ (Yours u32 κ-deques q-deques γ-deques b-deques o-deques n-deques deques) ∷ Γ) (runs C Λ E (seq (call name′ opds′ dest′) rest′) post′)
   step-gg t′ fm′ known′ {κ-target} {q-target} {γ-target} {κ-numbers} {q-numbers} {γ-numbers} {κ-deques} {q-deques} {γ-deques} b-target o-target n-target target b-numbers o-numbers n-numbers numbers b-deques o-deques n-deques deques ok′ len-target room-target os′ k′ =
       lend t′ tt u8 b-target o-target n-target target len-target (λ ν-target δ-target. move t′ (3 ∷ []) $ give t′ u32 b-numbers o-numbers n-numbers numbers $ move t′ (6 ∷ []) $ give t′ u32 b-deques o-deques n-deques deques $
       move t′ (6 ∷ 3 ∷ 0 ∷ 7 ∷ 4 ∷ 1 ∷ []) $ group t′ 6 $ use1 W (raw ((Asked 𝓤 H A mem run) .pre (to-step-gg 𝓤 H A mem run ν-target δ-target κ-numbers q-numbers γ-numbers κ-deques q-deques γ-deques b-target o-target n-target target b-numbers o-numbers n-numbers numbers b-deques o-deques n-deques deques))) (goes-step-gg 𝓤 H A mem run W ν-target δ-target κ-numbers q-numbers γ-numbers κ-deques q-deques γ-deques b-target o-target n-target target b-numbers o-numbers n-numbers numbers b-deques o-deques n-deques deques ok′) $
       calls-at t′ fm′ (Asked 𝓤 H A mem run) known′ (to-step-gg 𝓤 H A mem run ν-target δ-target κ-numbers q-numbers γ-numbers κ-deques q-deques γ-deques b-target o-target n-target target b-numbers o-numbers n-numbers numbers b-deques o-deques n-deques deques) (os′ ν-target δ-target) (λ w′.
       use1 W (later (some (λ (res′ : ℕ). ((‵ (flft (ν-target ∷ []) fullShare) ⊛ (‵ (flft κ-numbers q-numbers) ⊛ (‵ (flft κ-deques q-deques) ⊛ ‵ ftrue))) ⊛ ‵ (u32 .own res′ (w′ ∷ []))) ⊛ raw (ensured 𝓤 H A callee′.ended (callee′.clauses 𝓤 H A mem run) ((ν-target ∷ []), (κ-numbers, (κ-deques, tt))) (at-list b-target o-target δ-target target, (at-list b-numbers o-numbers γ-numbers numbers, (at-list b-deques o-deques γ-deques deques, tt))) tt res′)))) (id⊢ 𝓤 _) $ await t′ tt $ pick t′ (λ res′. split t′ $ move t′ (1 ∷ []) $
-      use1 W (some (λ (zs′ : List ℕ × (Unit {0} × (Unit {0} × Unit {0}))). ‵ (lasts callee′.ended ((ν-target ∷ []), (κ-numbers, (κ-deques, tt))) (at-list b-target o-target δ-target target, (at-list b-numbers o-numbers γ-numbers numbers, (at-list b-deques o-deques γ-deques deques, tt))) zs′) ⊛ raw (fact 𝓤 (((zs′ .0) ≡ putWords target 0 (versioned numbers ++ dequesFor (placeCount numbers) deques)) × (res′ ≡ sumBefore (zs′ .0) (numberCount + dequesWords (placeCount numbers))))))) (id⊢ 𝓤 _) $ pick t′ (λ zs′. split t′ $ move t′ (1 ∷ []) $ heard t′ (((zs′ .0) ≡ putWords target 0 (versioned numbers ++ dequesFor (placeCount numbers) deques)) × (res′ ≡ sumBefore (zs′ .0) (numberCount + dequesWords (placeCount numbers)))) (λ e′.
+      use1 W (some (λ (zs′ : List ℕ × (Unit {0} × (Unit {0} × Unit {0}))). ‵ (lasts callee′.ended ((ν-target ∷ []), (κ-numbers, (κ-deques, tt))) (at-list b-target o-target δ-target target, (at-list b-numbers o-numbers γ-numbers numbers, (at-list b-deques o-deques γ-deques deques, tt))) zs′) ⊛ raw (fact 𝓤 (((zs′ .0) ≡ putWords target 0 (versioned twoWords numbers ++ dequesFor (placeCount numbers) deques)) × (res′ ≡ sumBefore (zs′ .0) (numberCount + dequesWords (placeCount numbers))))))) (id⊢ 𝓤 _) $ pick t′ (λ zs′. split t′ $ move t′ (1 ∷ []) $ heard t′ (((zs′ .0) ≡ putWords target 0 (versioned twoWords numbers ++ dequesFor (placeCount numbers) deques)) × (res′ ≡ sumBefore (zs′ .0) (numberCount + dequesWords (placeCount numbers)))) (λ e′.
       fsplit t′ $ fsplit t′ $ move t′ (1 ∷ []) $ feqL t′ (λ same-target. move t′ (1 ∷ []) $ fsplit t′ $ drop t′ $ fsplit t′ $ drop t′ $ drop t′ $
       move t′ (1 ∷ []) $ split t′ $ move t′ (1 ∷ []) $ peeks t′ u32 (Is u32) (shows 𝓤 H A u32) res′ (w′ ∷ []) (λ is′. drop t′ $ split t′ $ move t′ (1 ∷ []) $ split t′ $ move t′ (1 ∷ []) $ split t′ $ move t′ (1 ∷ []) $ drop t′ $
       move t′ (4 ∷ 0 ∷ []) $ fjoin t′ $ move t′ (4 ∷ 1 ∷ []) $ fjoin t′ $ move t′ (2 ∷ 4 ∷ 3 ∷ []) $ home t′ tt u8 b-target o-target n-target target (zs′ .0) len-target room-target same-target $

@@ -6,6 +6,7 @@ use Rattle.image.specs.Image.{blocksFor, blocksCalled}
 use Rattle.image.proofs.Ends.{too-short, form-before, form-after, other-length, is-wrong, is-right}
 use Rattle.image.proofs.accept.check_image.Statement.{statement}
 use Rattle.image.proofs.accept.check_image.Tie as tie
+use Rattle.soundness.specs.Layout.{twoWords}
 
 abbrev first-of : tie.After-blocks-for → tie.After-first-in
 first-of b = b .before .before .before .before
@@ -13,7 +14,7 @@ first-of b = b .before .before .before .before
 abbrev start-of : tie.After-first-in → tie.Start
 start-of f = f .before .before .before
 
-called : (b : tie.After-blocks-for) → b .blocks-for .result ≡ blocksCalled (start-of (first-of b) .args .image .now)
+called : (b : tie.After-blocks-for) → b .blocks-for .result ≡ blocksCalled twoWords (start-of (first-of b) .args .image .now)
 called b = b .blocks-for .ensures ∙ ap blocksFor (b .before .words-called .ensures .0)
 
 returns : tie.Need-returns

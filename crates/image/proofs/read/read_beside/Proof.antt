@@ -8,6 +8,8 @@ use Rattle.image.specs.Theory.Promises.{whole-block}
 use Rattle.image.proofs.Ends.{fits, nodes-read}
 use Rattle.image.proofs.read.read_beside.Statement.{statement}
 use Rattle.image.proofs.read.read_beside.Tie as tie
+use Rattle.soundness.specs.Layout.{twoWords}
+use Rattle.image.specs.Theory.Version.{two-version}
 
 abbrev start-of : tie.After-places-in → tie.Start
 start-of p = p .before .before .before .before .before
@@ -24,10 +26,10 @@ deques-of s = s .before .before .before
 places-in-requires : tie.Need-places-in-requires
 places-in-requires c κs =
     let start = c .before .before .before .before in
-    whole-block (start .args .image .now) (start .pre .0)
+    whole-block twoWords two-version (start .args .image .now) (start .pre .0)
 
 nodes-in-requires : tie.Need-nodes-in-requires
-nodes-in-requires c κs = let start = start-of c in whole-block (start .args .image .now) (start .pre .0)
+nodes-in-requires c κs = let start = start-of c in whole-block twoWords two-version (start .args .image .now) (start .pre .0)
 
 read-words-requires : tie.Need-read-words-requires
 read-words-requires c κs =

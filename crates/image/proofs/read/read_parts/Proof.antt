@@ -65,6 +65,7 @@ use Rattle.image.proofs.read.read_parts.Proof.Facts as F
 use Rattle.frames.proofs.Frame as M-Frame
 use Rattle.frames.proofs.Frame.Laws as L-Frame
 use Rattle.frames.specs.declared.Frame.{Frame}
+use Rattle.soundness.specs.Layout.{twoWords}
 
 abbrev R-Frame : RattleType
 R-Frame = M-Frame.the-row
@@ -104,7 +105,7 @@ module _ {M : Type 1} (𝓤 : URA M) (H : Heap 𝓤) (A : Atoms 𝓤) (W : Given
   abbrev Post : Val → SProp 𝓤
   Post = walkOf 𝓤 H A f′.ended stayed (f′.clauses 𝓤 H A mem run) .post bound′
 
-  exits′ : (zs-numbers : List ℕ) (zs-deques : List ℕ) (zs-frames : List Frame) (zs-pool : List ℕ) → IsRead image zs-numbers zs-deques zs-frames pool zs-pool → length zs-numbers ≡ length numbers → length zs-deques ≡ length deques → length zs-frames ≡ length frames → length zs-pool ≡ length pool → ent 𝓤 (⋆ 𝓤 H A (‵ (Yours u8 κ-image q-image γ-image b-image o-image n-image image) ∷ ‵ (Mine u32 κ-numbers q-numbers γ-numbers b-numbers o-numbers n-numbers zs-numbers) ∷ ‵ (Mine u32 κ-deques q-deques γ-deques b-deques o-deques n-deques zs-deques) ∷ ‵ (Mine R-Frame κ-frames q-frames γ-frames b-frames o-frames n-frames zs-frames) ∷ ‵ (Mine u32 κ-pool q-pool γ-pool b-pool o-pool n-pool zs-pool) ∷ [])) (Post (vunit))
+  exits′ : (zs-numbers : List ℕ) (zs-deques : List ℕ) (zs-frames : List Frame) (zs-pool : List ℕ) → IsRead twoWords image zs-numbers zs-deques zs-frames pool zs-pool → length zs-numbers ≡ length numbers → length zs-deques ≡ length deques → length zs-frames ≡ length frames → length zs-pool ≡ length pool → ent 𝓤 (⋆ 𝓤 H A (‵ (Yours u8 κ-image q-image γ-image b-image o-image n-image image) ∷ ‵ (Mine u32 κ-numbers q-numbers γ-numbers b-numbers o-numbers n-numbers zs-numbers) ∷ ‵ (Mine u32 κ-deques q-deques γ-deques b-deques o-deques n-deques zs-deques) ∷ ‵ (Mine R-Frame κ-frames q-frames γ-frames b-frames o-frames n-frames zs-frames) ∷ ‵ (Mine u32 κ-pool q-pool γ-pool b-pool o-pool n-pool zs-pool) ∷ [])) (Post (vunit))
   exits′ zs-numbers zs-deques zs-frames zs-pool e′ same-numbers same-deques same-frames same-pool =
       qed W (‵ (Yours u8 κ-image q-image γ-image b-image o-image n-image image) ∷ ‵ (Mine u32 κ-numbers q-numbers γ-numbers b-numbers o-numbers n-numbers zs-numbers) ∷ ‵ (Mine u32 κ-deques q-deques γ-deques b-deques o-deques n-deques zs-deques) ∷ ‵ (Mine R-Frame κ-frames q-frames γ-frames b-frames o-frames n-frames zs-frames) ∷ ‵ (Mine u32 κ-pool q-pool γ-pool b-pool o-pool n-pool zs-pool) ∷ []) ∵
       suffices ! _ (ends-at 𝓤 H A f′.ended stayed (f′.clauses 𝓤 H A mem run) W bound′ (vunit) tt (tt, (zs-numbers, (zs-deques, (zs-frames, (zs-pool, tt))))) (tt, (same-numbers, (same-deques, (same-frames, (same-pool, tt)))))) $ says ! e′ $
@@ -116,7 +117,7 @@ module _ {M : Type 1} (𝓤 : URA M) (H : Heap 𝓤) (A : Atoms 𝓤) (W : Given
     abbrev fm : FmC 𝓤 H (W .laws) (𝓣 .C)
     fm = fmOf 𝓤 H (W .laws) 𝓣
 
-    walk : (imageCheck image ≡ Good) × (length numbers ≡ numberCount) × Lengths (numberWordsIn image) deques frames × (nodeWords * nodesIn image ≤ length pool) → ent 𝓤 (onEntry 𝓤 H A f′.signature (κ-image, (κ-numbers, (κ-deques, (κ-frames, (κ-pool, tt))))) (q-image, (q-numbers, (q-deques, (q-frames, (q-pool, tt))))) args′ vals′) (WpFn 𝓤 H (𝓣 .C) (𝓣 .Λ) code.function (sliceVal (b-image, o-image) (length image) ∷ sliceVal (b-numbers, o-numbers) (length numbers) ∷ sliceVal (b-deques, o-deques) (length deques) ∷ sliceVal (b-frames, o-frames) (length frames) ∷ sliceVal (b-pool, o-pool) (length pool) ∷ []) Post)
+    walk : (imageCheck twoWords image ≡ Good) × (length numbers ≡ numberCount) × Lengths (numberWordsIn twoWords image) deques frames × (nodeWords * nodesIn image ≤ length pool) → ent 𝓤 (onEntry 𝓤 H A f′.signature (κ-image, (κ-numbers, (κ-deques, (κ-frames, (κ-pool, tt))))) (q-image, (q-numbers, (q-deques, (q-frames, (q-pool, tt))))) args′ vals′) (WpFn 𝓤 H (𝓣 .C) (𝓣 .Λ) code.function (sliceVal (b-image, o-image) (length image) ∷ sliceVal (b-numbers, o-numbers) (length numbers) ∷ sliceVal (b-deques, o-deques) (length deques) ∷ sliceVal (b-frames, o-frames) (length frames) ∷ sliceVal (b-pool, o-pool) (length pool) ∷ []) Post)
     walk ok′ =
         qed W ((‵ (flft κ-image q-image) ⊛ ‵ (flft κ-numbers q-numbers) ⊛ ‵ (flft κ-deques q-deques) ⊛ ‵ (flft κ-frames q-frames) ⊛ ‵ (flft κ-pool q-pool) ⊛ ‵ ftrue) ∷ ‵ (owns (ShrSlice (named 0) κ-image u8 ∷ MutSlice (named 1) κ-numbers u32 ∷ MutSlice (named 2) κ-deques u32 ∷ MutSlice (named 3) κ-frames R-Frame ∷ MutSlice (named 4) κ-pool u32 ∷ []) args′ vals′) ∷ []) ∵ enter ! (𝓣 .C) (𝓣 .Λ) code.function (sliceVal (b-image, o-image) (length image) ∷ sliceVal (b-numbers, o-numbers) (length numbers) ∷ sliceVal (b-deques, o-deques) (length deques) ∷ sliceVal (b-frames, o-frames) (length frames) ∷ sliceVal (b-pool, o-pool) (length pool) ∷ []) _ $
         alloc1 ! (λ l₀. alloc1 ! (λ l₁. alloc1 ! (λ l₂. alloc1 ! (λ l₃. alloc1 ! (λ l₄. alloc1 ! (λ l₅. alloc1 ! (λ l₆. alloc1 ! (λ l₇. alloc1 ! (λ l₈. alloc1 ! (λ l₉. alloc1 ! (λ l₁₀. alloc1 ! (λ l₁₁. alloc1 ! (λ l₁₂. alloc1 ! (λ l₁₃. alloc1 ! (λ l₁₄. alloc0 ! $ params1 ! $
@@ -152,7 +153,7 @@ module _ {M : Type 1} (𝓤 : URA M) (H : Heap 𝓤) (A : Atoms 𝓤) (W : Given
   walks known-read-beside known-read-table = walked 𝓤 H A f′.ended stayed (f′.clauses 𝓤 H A mem run) (WpFn 𝓤 H (𝓣 .C) (𝓣 .Λ) code.function)
       (λ κs. (slice-vals, (slice-vals, (slice-vals, (slice-vals, (slice-vals, tt))))))
       (λ κs. (shr-slice-tells (named 0) (κs .0) u8, (mut-slice-tells (named 1) (κs .1 .0) u32, (mut-slice-tells (named 2) (κs .1 .1 .0) u32, (mut-slice-tells (named 3) (κs .1 .1 .1 .0) R-Frame, (mut-slice-tells (named 4) (κs .1 .1 .1 .1 .0) u32, tt))))))
-      (λ κs qs bounds a g are. needs 𝓤 ((imageCheck (a .0 .now) ≡ Good) × (length (a .1 .0 .now) ≡ numberCount) × Lengths (numberWordsIn (a .0 .now)) (a .1 .1 .0 .now) (a .1 .1 .1 .0 .now) × (nodeWords * nodesIn (a .0 .now) ≤ length (a .1 .1 .1 .1 .0 .now))) _
+      (λ κs qs bounds a g are. needs 𝓤 ((imageCheck twoWords (a .0 .now) ≡ Good) × (length (a .1 .0 .now) ≡ numberCount) × Lengths (numberWordsIn twoWords (a .0 .now)) (a .1 .1 .0 .now) (a .1 .1 .1 .0 .now) × (nodeWords * nodesIn (a .0 .now) ≤ length (a .1 .1 .1 .1 .0 .now))) _
       (walk 𝓤 H A W mem run (κs .0) (qs .0) (a .0 .ptr .0) (a .0 .ptr .1) (a .0 .name) (a .0 .now) (κs .1 .0) (qs .1 .0) (a .1 .0 .ptr .0) (a .1 .0 .ptr .1) (a .1 .0 .name) (a .1 .0 .now) (κs .1 .1 .0) (qs .1 .1 .0) (a .1 .1 .0 .ptr .0) (a .1 .1 .0 .ptr .1) (a .1 .1 .0 .name) (a .1 .1 .0 .now) (κs .1 .1 .1 .0) (qs .1 .1 .1 .0) (a .1 .1 .1 .0 .ptr .0) (a .1 .1 .1 .0 .ptr .1) (a .1 .1 .1 .0 .name) (a .1 .1 .1 .0 .now) (κs .1 .1 .1 .1 .0) (qs .1 .1 .1 .1 .0) (a .1 .1 .1 .1 .0 .ptr .0) (a .1 .1 .1 .1 .0 .ptr .1) (a .1 .1 .1 .1 .0 .name) (a .1 .1 .1 .1 .0 .now) (are .0 .0 .1) (are .1 .0 .0 .1) (are .1 .1 .0 .0 .1) (are .1 .1 .1 .0 .0 .1) (are .1 .1 .1 .1 .0 .0 .1) 𝓣 known-read-beside known-read-table))
 
   meets : Triple 𝓤 (𝓣 .C #read-beside) (S-read-beside.Asked 𝓤 H A mem run) → Triple 𝓤 (𝓣 .C #read-table) (S-read-table.Asked 𝓤 H A mem run) → Meets 𝓤 H A f′.signature (WpFn 𝓤 H (𝓣 .C) (𝓣 .Λ) code.function) (f′.spec 𝓤 H A mem run)

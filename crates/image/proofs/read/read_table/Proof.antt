@@ -78,6 +78,7 @@ use Rattle.image.proofs.read.read_table.Proof.Facts as F
 use Rattle.frames.proofs.Frame as M-Frame
 use Rattle.frames.proofs.Frame.Laws as L-Frame
 use Rattle.frames.specs.declared.Frame.{Frame}
+use Rattle.soundness.specs.Layout.{twoWords}
 
 abbrev R-Frame : RattleType
 R-Frame = M-Frame.the-row
@@ -99,7 +100,7 @@ abbrev rest′ : Code
 rest′ = after 5 (code.function .body)
 
 -- where a turn of the loop begins
-record State′ (image : List ℕ) (frames : List Frame) (image-fits : length image < 2 ^ 64) (frames-fits : length frames < 2 ^ 64) (ok : (imageCheck image ≡ Good) × (length frames ≡ placesIn image)) (places : ℕ) (places-fits : places < 2 ^ 32) (places-is : places ≡ placesIn image) (r-2 : ℕ) (r-2-fits : r-2 < 2 ^ 64) (r-2-is : (r-2 ≡ dequesWords places) × (r-2 < 2 ^ 36)) : Type 0 where
+record State′ (image : List ℕ) (frames : List Frame) (image-fits : length image < 2 ^ 64) (frames-fits : length frames < 2 ^ 64) (ok : (imageCheck twoWords image ≡ Good) × (length frames ≡ placesIn image)) (places : ℕ) (places-fits : places < 2 ^ 32) (places-is : places ≡ placesIn image) (r-2 : ℕ) (r-2-fits : r-2 < 2 ^ 64) (r-2-is : (r-2 ≡ dequesWords places) × (r-2 < 2 ^ 36)) : Type 0 where
   v-p : ℕ
   g-p : v-p < 2 ^ 32
   l-frames : List Frame
@@ -126,7 +127,7 @@ module _ {M : Type 1} (𝓤 : URA M) (H : Heap 𝓤) (A : Atoms 𝓤) (W : Given
   abbrev Post : Val → SProp 𝓤
   Post = walkOf 𝓤 H A f′.ended stayed (f′.clauses 𝓤 H A mem run) .post bound′
 
-  exits′ : (zs-frames : List Frame) → zs-frames ≡ framesIn image → length zs-frames ≡ length frames → ent 𝓤 (⋆ 𝓤 H A (‵ (Yours u8 κ-image q-image γ-image b-image o-image n-image image) ∷ ‵ (Mine R-Frame κ-frames q-frames γ-frames b-frames o-frames n-frames zs-frames) ∷ [])) (Post (vunit))
+  exits′ : (zs-frames : List Frame) → zs-frames ≡ framesIn twoWords image → length zs-frames ≡ length frames → ent 𝓤 (⋆ 𝓤 H A (‵ (Yours u8 κ-image q-image γ-image b-image o-image n-image image) ∷ ‵ (Mine R-Frame κ-frames q-frames γ-frames b-frames o-frames n-frames zs-frames) ∷ [])) (Post (vunit))
   exits′ zs-frames e′ same-frames =
       qed W (‵ (Yours u8 κ-image q-image γ-image b-image o-image n-image image) ∷ ‵ (Mine R-Frame κ-frames q-frames γ-frames b-frames o-frames n-frames zs-frames) ∷ []) ∵
       suffices ! _ (ends-at 𝓤 H A f′.ended stayed (f′.clauses 𝓤 H A mem run) W bound′ (vunit) tt (tt, (zs-frames, tt)) (tt, (same-frames, tt))) $ says ! e′ $
@@ -138,7 +139,7 @@ module _ {M : Type 1} (𝓤 : URA M) (H : Heap 𝓤) (A : Atoms 𝓤) (W : Given
     abbrev fm : FmC 𝓤 H (W .laws) (𝓣 .C)
     fm = fmOf 𝓤 H (W .laws) 𝓣
 
-    module _ (ok′ : (imageCheck image ≡ Good) × (length frames ≡ placesIn image)) (places : ℕ) (places-fits : places < 2 ^ 32) (places-is : places ≡ placesIn image) (r-2 : ℕ) (r-2-fits : r-2 < 2 ^ 64) (r-2-is : (r-2 ≡ dequesWords places) × (r-2 < 2 ^ 36)) (l₀ l₁ l₂ l₃ l₄ l₅ l₆ l₇ l₈ l₉ l₁₀ l₁₁ l₁₂ l₁₃ l₁₄ : ℕ) where
+    module _ (ok′ : (imageCheck twoWords image ≡ Good) × (length frames ≡ placesIn image)) (places : ℕ) (places-fits : places < 2 ^ 32) (places-is : places ≡ placesIn image) (r-2 : ℕ) (r-2-fits : r-2 < 2 ^ 64) (r-2-is : (r-2 ≡ dequesWords places) × (r-2 < 2 ^ 36)) (l₀ l₁ l₂ l₃ l₄ l₅ l₆ l₇ l₈ l₉ l₁₀ l₁₁ l₁₂ l₁₃ l₁₄ : ℕ) where
       abbrev S′ : Type 0
       S′ = State′ image frames (room-image .0) (room-frames .0) ok′ places places-fits places-is r-2 r-2-fits r-2-is
 
@@ -194,7 +195,7 @@ module _ {M : Type 1} (𝓤 : URA M) (H : Heap 𝓤) (A : Atoms 𝓤) (W : Given
       unfolding afterTurn
       loop′ = loops ! 𝓣 Less′ less-wf Inv′ (λ s′. turn′ (s′ .v-p) (s′ .l-frames) (s′ .g-p) (s′ .s-frames) (s′ .holds)) (record { v-p = 0; g-p = (lit< tt); l-frames = frames; s-frames = refl; holds = (F.begins image frames (room-image .0) (room-frames .0) ok′ places places-fits places-is r-2 r-2-fits r-2-is) })
 
-    walk : (imageCheck image ≡ Good) × (length frames ≡ placesIn image) → ent 𝓤 (onEntry 𝓤 H A f′.signature (κ-image, (κ-frames, tt)) (q-image, (q-frames, tt)) args′ vals′) (WpFn 𝓤 H (𝓣 .C) (𝓣 .Λ) code.function (sliceVal (b-image, o-image) (length image) ∷ sliceVal (b-frames, o-frames) (length frames) ∷ []) Post)
+    walk : (imageCheck twoWords image ≡ Good) × (length frames ≡ placesIn image) → ent 𝓤 (onEntry 𝓤 H A f′.signature (κ-image, (κ-frames, tt)) (q-image, (q-frames, tt)) args′ vals′) (WpFn 𝓤 H (𝓣 .C) (𝓣 .Λ) code.function (sliceVal (b-image, o-image) (length image) ∷ sliceVal (b-frames, o-frames) (length frames) ∷ []) Post)
     walk ok′ =
         qed W ((‵ (flft κ-image q-image) ⊛ ‵ (flft κ-frames q-frames) ⊛ ‵ ftrue) ∷ ‵ (owns (ShrSlice (named 0) κ-image u8 ∷ MutSlice (named 1) κ-frames R-Frame ∷ []) args′ vals′) ∷ []) ∵ enter ! (𝓣 .C) (𝓣 .Λ) code.function (sliceVal (b-image, o-image) (length image) ∷ sliceVal (b-frames, o-frames) (length frames) ∷ []) _ $
         alloc1 ! (λ l₀. alloc1 ! (λ l₁. alloc1 ! (λ l₂. alloc1 ! (λ l₃. alloc1 ! (λ l₄. alloc1 ! (λ l₅. alloc1 ! (λ l₆. alloc1 ! (λ l₇. alloc1 ! (λ l₈. alloc1 ! (λ l₉. alloc1 ! (λ l₁₀. alloc1 ! (λ l₁₁. alloc1 ! (λ l₁₂. alloc1 ! (λ l₁₃. alloc1 ! (λ l₁₄. alloc0 ! $ params1 ! $
@@ -218,7 +219,7 @@ module _ {M : Type 1} (𝓤 : URA M) (H : Heap 𝓤) (A : Atoms 𝓤) (W : Given
   walks known-places-in known-deques-words known-read-record known-put-frame = walked 𝓤 H A f′.ended stayed (f′.clauses 𝓤 H A mem run) (WpFn 𝓤 H (𝓣 .C) (𝓣 .Λ) code.function)
       (λ κs. (slice-vals, (slice-vals, tt)))
       (λ κs. (shr-slice-tells (named 0) (κs .0) u8, (mut-slice-tells (named 1) (κs .1 .0) R-Frame, tt)))
-      (λ κs qs bounds a g are. needs 𝓤 ((imageCheck (a .0 .now) ≡ Good) × (length (a .1 .0 .now) ≡ placesIn (a .0 .now))) _
+      (λ κs qs bounds a g are. needs 𝓤 ((imageCheck twoWords (a .0 .now) ≡ Good) × (length (a .1 .0 .now) ≡ placesIn (a .0 .now))) _
       (walk 𝓤 H A W mem run (κs .0) (qs .0) (a .0 .ptr .0) (a .0 .ptr .1) (a .0 .name) (a .0 .now) (κs .1 .0) (qs .1 .0) (a .1 .0 .ptr .0) (a .1 .0 .ptr .1) (a .1 .0 .name) (a .1 .0 .now) (are .0 .0 .1) (are .1 .0 .0 .1) 𝓣 known-places-in known-deques-words known-read-record known-put-frame))
 
   meets : Triple 𝓤 (𝓣 .C #places-in) (S-places-in.Asked 𝓤 H A mem run) → Triple 𝓤 (𝓣 .C #deques-words) (S-deques-words.Asked 𝓤 H A mem run) → Triple 𝓤 (𝓣 .C #read-record) (S-read-record.Asked 𝓤 H A mem run) → Triple 𝓤 (𝓣 .C #put-frame) (S-put-frame.Asked 𝓤 H A mem run) → Meets 𝓤 H A f′.signature (WpFn 𝓤 H (𝓣 .C) (𝓣 .Λ) code.function) (f′.spec 𝓤 H A mem run)

@@ -22,7 +22,7 @@ abbrev pool-of : tie.After-blocks-for → tie.After-write-words
 pool-of b = b .before .before .before
 
 -- the sum of the words is in 64 bits
-small : (s : tie.After-state-words) → s .state-words .result + 4 * getD (start-of (nodes-of s) .args .numbers .now) 2 0 < 137438953472
+small : (s : tie.After-state-words) → s .state-words .result + 2 * getD (start-of (nodes-of s) .args .numbers .now) 2 0 < 137438953472
 small s =
     let k = nodes-of s in
     let a = start-of k .args in

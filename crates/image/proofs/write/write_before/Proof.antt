@@ -7,6 +7,8 @@ use Rattle.image.specs.Theory.Version.{length-versioned}
 use Rattle.image.proofs.Stores.{put-next}
 use Rattle.image.proofs.write.write_before.Statement.{statement}
 use Rattle.image.proofs.write.write_before.Tie as tie
+use Rattle.soundness.specs.Layout.{twoWords}
+use Rattle.image.specs.Theory.Version.{two-version}
 
 abbrev numbers-of : tie.After-write-deques → tie.After-write-numbers
 numbers-of d = d .before .before .before .before
@@ -21,7 +23,7 @@ returns c =
     let start = start-of n in
     let a = start .args in
     let ns = a .numbers .now in (
-      put-next (a .target .now) _ _ (versioned ns) (dequesFor (getD ns 9 0) (a .deques .now)) 0 10 (n .write-numbers .ensures .0) (omega (arith, length-versioned ns, start .pre .0)) (d .write-deques .ensures .0),
+      put-next (a .target .now) _ _ (versioned twoWords ns) (dequesFor (getD ns 9 0) (a .deques .now)) 0 10 (n .write-numbers .ensures .0) (omega (arith, length-versioned twoWords two-version ns, start .pre .0)) (d .write-deques .ensures .0),
       d .write-deques .ensures .1,
     )
 

@@ -71,6 +71,7 @@ use Rattle.image.proofs.write.write_image.Proof.Facts as F
 use Rattle.frames.proofs.Frame as M-Frame
 use Rattle.frames.proofs.Frame.Laws as L-Frame
 use Rattle.frames.specs.declared.Frame.{Frame}
+use Rattle.soundness.specs.Layout.{twoWords}
 
 abbrev R-Frame : RattleType
 R-Frame = M-Frame.the-row
@@ -110,7 +111,7 @@ module _ {M : Type 1} (𝓤 : URA M) (H : Heap 𝓤) (A : Atoms 𝓤) (W : Given
   abbrev Post : Val → SProp 𝓤
   Post = walkOf 𝓤 H A f′.ended stayed (f′.clauses 𝓤 H A mem run) .post bound′
 
-  exits′ : (zs-target : List ℕ) → zs-target ≡ stored (imageOf numbers deques frames pool) target → length zs-target ≡ length target → ent 𝓤 (⋆ 𝓤 H A (‵ (Yours u32 κ-numbers q-numbers γ-numbers b-numbers o-numbers n-numbers numbers) ∷ ‵ (Yours u32 κ-deques q-deques γ-deques b-deques o-deques n-deques deques) ∷ ‵ (Yours R-Frame κ-frames q-frames γ-frames b-frames o-frames n-frames frames) ∷ ‵ (Yours u32 κ-pool q-pool γ-pool b-pool o-pool n-pool pool) ∷ ‵ (Mine u8 κ-target q-target γ-target b-target o-target n-target zs-target) ∷ [])) (Post (vunit))
+  exits′ : (zs-target : List ℕ) → zs-target ≡ stored (imageOf twoWords numbers deques frames pool) target → length zs-target ≡ length target → ent 𝓤 (⋆ 𝓤 H A (‵ (Yours u32 κ-numbers q-numbers γ-numbers b-numbers o-numbers n-numbers numbers) ∷ ‵ (Yours u32 κ-deques q-deques γ-deques b-deques o-deques n-deques deques) ∷ ‵ (Yours R-Frame κ-frames q-frames γ-frames b-frames o-frames n-frames frames) ∷ ‵ (Yours u32 κ-pool q-pool γ-pool b-pool o-pool n-pool pool) ∷ ‵ (Mine u8 κ-target q-target γ-target b-target o-target n-target zs-target) ∷ [])) (Post (vunit))
   exits′ zs-target e′ same-target =
       qed W (‵ (Yours u32 κ-numbers q-numbers γ-numbers b-numbers o-numbers n-numbers numbers) ∷ ‵ (Yours u32 κ-deques q-deques γ-deques b-deques o-deques n-deques deques) ∷ ‵ (Yours R-Frame κ-frames q-frames γ-frames b-frames o-frames n-frames frames) ∷ ‵ (Yours u32 κ-pool q-pool γ-pool b-pool o-pool n-pool pool) ∷ ‵ (Mine u8 κ-target q-target γ-target b-target o-target n-target zs-target) ∷ []) ∵
       suffices ! _ (ends-at 𝓤 H A f′.ended stayed (f′.clauses 𝓤 H A mem run) W bound′ (vunit) tt (tt, (tt, (tt, (tt, (zs-target, tt))))) (tt, (tt, (tt, (tt, (same-target, tt)))))) $ says ! e′ $
@@ -122,7 +123,7 @@ module _ {M : Type 1} (𝓤 : URA M) (H : Heap 𝓤) (A : Atoms 𝓤) (W : Given
     abbrev fm : FmC 𝓤 H (W .laws) (𝓣 .C)
     fm = fmOf 𝓤 H (W .laws) 𝓣
 
-    walk : Lengths numbers deques frames × (nodeWords * nodeCount numbers ≤ length pool) × (imageBytes (placeCount numbers) (nodeCount numbers) ≤ length target) → ent 𝓤 (onEntry 𝓤 H A f′.signature (κ-numbers, (κ-deques, (κ-frames, (κ-pool, (κ-target, tt))))) (q-numbers, (q-deques, (q-frames, (q-pool, (q-target, tt))))) args′ vals′) (WpFn 𝓤 H (𝓣 .C) (𝓣 .Λ) code.function (sliceVal (b-numbers, o-numbers) (length numbers) ∷ sliceVal (b-deques, o-deques) (length deques) ∷ sliceVal (b-frames, o-frames) (length frames) ∷ sliceVal (b-pool, o-pool) (length pool) ∷ sliceVal (b-target, o-target) (length target) ∷ []) Post)
+    walk : Lengths numbers deques frames × (nodeWords * nodeCount numbers ≤ length pool) × (imageBytes twoWords (placeCount numbers) (nodeCount numbers) ≤ length target) → ent 𝓤 (onEntry 𝓤 H A f′.signature (κ-numbers, (κ-deques, (κ-frames, (κ-pool, (κ-target, tt))))) (q-numbers, (q-deques, (q-frames, (q-pool, (q-target, tt))))) args′ vals′) (WpFn 𝓤 H (𝓣 .C) (𝓣 .Λ) code.function (sliceVal (b-numbers, o-numbers) (length numbers) ∷ sliceVal (b-deques, o-deques) (length deques) ∷ sliceVal (b-frames, o-frames) (length frames) ∷ sliceVal (b-pool, o-pool) (length pool) ∷ sliceVal (b-target, o-target) (length target) ∷ []) Post)
     walk ok′ =
         qed W ((‵ (flft κ-numbers q-numbers) ⊛ ‵ (flft κ-deques q-deques) ⊛ ‵ (flft κ-frames q-frames) ⊛ ‵ (flft κ-pool q-pool) ⊛ ‵ (flft κ-target q-target) ⊛ ‵ ftrue) ∷ ‵ (owns (ShrSlice (named 0) κ-numbers u32 ∷ ShrSlice (named 1) κ-deques u32 ∷ ShrSlice (named 2) κ-frames R-Frame ∷ ShrSlice (named 3) κ-pool u32 ∷ MutSlice (named 4) κ-target u8 ∷ []) args′ vals′) ∷ []) ∵ enter ! (𝓣 .C) (𝓣 .Λ) code.function (sliceVal (b-numbers, o-numbers) (length numbers) ∷ sliceVal (b-deques, o-deques) (length deques) ∷ sliceVal (b-frames, o-frames) (length frames) ∷ sliceVal (b-pool, o-pool) (length pool) ∷ sliceVal (b-target, o-target) (length target) ∷ []) _ $
         alloc1 ! (λ l₀. alloc1 ! (λ l₁. alloc1 ! (λ l₂. alloc1 ! (λ l₃. alloc1 ! (λ l₄. alloc1 ! (λ l₅. alloc1 ! (λ l₆. alloc1 ! (λ l₇. alloc1 ! (λ l₈. alloc1 ! (λ l₉. alloc1 ! (λ l₁₀. alloc1 ! (λ l₁₁. alloc1 ! (λ l₁₂. alloc1 ! (λ l₁₃. alloc1 ! (λ l₁₄. alloc1 ! (λ l₁₅. alloc1 ! (λ l₁₆. alloc1 ! (λ l₁₇. alloc0 ! $ params1 ! $
@@ -168,7 +169,7 @@ module _ {M : Type 1} (𝓤 : URA M) (H : Heap 𝓤) (A : Atoms 𝓤) (W : Given
   walks known-write-before known-deques-words known-write-table known-write-after = walked 𝓤 H A f′.ended stayed (f′.clauses 𝓤 H A mem run) (WpFn 𝓤 H (𝓣 .C) (𝓣 .Λ) code.function)
       (λ κs. (slice-vals, (slice-vals, (slice-vals, (slice-vals, (slice-vals, tt))))))
       (λ κs. (shr-slice-tells (named 0) (κs .0) u32, (shr-slice-tells (named 1) (κs .1 .0) u32, (shr-slice-tells (named 2) (κs .1 .1 .0) R-Frame, (shr-slice-tells (named 3) (κs .1 .1 .1 .0) u32, (mut-slice-tells (named 4) (κs .1 .1 .1 .1 .0) u8, tt))))))
-      (λ κs qs bounds a g are. needs 𝓤 (Lengths (a .0 .now) (a .1 .0 .now) (a .1 .1 .0 .now) × (nodeWords * nodeCount (a .0 .now) ≤ length (a .1 .1 .1 .0 .now)) × (imageBytes (placeCount (a .0 .now)) (nodeCount (a .0 .now)) ≤ length (a .1 .1 .1 .1 .0 .now))) _
+      (λ κs qs bounds a g are. needs 𝓤 (Lengths (a .0 .now) (a .1 .0 .now) (a .1 .1 .0 .now) × (nodeWords * nodeCount (a .0 .now) ≤ length (a .1 .1 .1 .0 .now)) × (imageBytes twoWords (placeCount (a .0 .now)) (nodeCount (a .0 .now)) ≤ length (a .1 .1 .1 .1 .0 .now))) _
       (walk 𝓤 H A W mem run (κs .0) (qs .0) (a .0 .ptr .0) (a .0 .ptr .1) (a .0 .name) (a .0 .now) (κs .1 .0) (qs .1 .0) (a .1 .0 .ptr .0) (a .1 .0 .ptr .1) (a .1 .0 .name) (a .1 .0 .now) (κs .1 .1 .0) (qs .1 .1 .0) (a .1 .1 .0 .ptr .0) (a .1 .1 .0 .ptr .1) (a .1 .1 .0 .name) (a .1 .1 .0 .now) (κs .1 .1 .1 .0) (qs .1 .1 .1 .0) (a .1 .1 .1 .0 .ptr .0) (a .1 .1 .1 .0 .ptr .1) (a .1 .1 .1 .0 .name) (a .1 .1 .1 .0 .now) (κs .1 .1 .1 .1 .0) (qs .1 .1 .1 .1 .0) (a .1 .1 .1 .1 .0 .ptr .0) (a .1 .1 .1 .1 .0 .ptr .1) (a .1 .1 .1 .1 .0 .name) (a .1 .1 .1 .1 .0 .now) (are .0 .0 .1) (are .1 .0 .0 .1) (are .1 .1 .0 .0 .1) (are .1 .1 .1 .0 .0 .1) (are .1 .1 .1 .1 .0 .0 .1) 𝓣 known-write-before known-deques-words known-write-table known-write-after))
 
   meets : Triple 𝓤 (𝓣 .C #write-before) (S-write-before.Asked 𝓤 H A mem run) → Triple 𝓤 (𝓣 .C #deques-words) (S-deques-words.Asked 𝓤 H A mem run) → Triple 𝓤 (𝓣 .C #write-table) (S-write-table.Asked 𝓤 H A mem run) → Triple 𝓤 (𝓣 .C #write-after) (S-write-after.Asked 𝓤 H A mem run) → Meets 𝓤 H A f′.signature (WpFn 𝓤 H (𝓣 .C) (𝓣 .Λ) code.function) (f′.spec 𝓤 H A mem run)

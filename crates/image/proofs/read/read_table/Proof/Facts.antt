@@ -18,12 +18,14 @@ use Rattle.frames.specs.Frames.{setFrame}
 use Rattle.frames.specs.declared.Frame.{Frame}
 use Rattle.image.specs.Theory.Promises.{whole-block}
 use Rattle.image.proofs.Table.{stored-at, tableSoFar, record-fits, record-read, table-read}
+use Rattle.soundness.specs.Layout.{twoWords}
+use Rattle.image.specs.Theory.Version.{two-version}
 
 module _
-    (image : List ℕ) (frames : List Frame) (image-fits : length image < 2 ^ 64) (frames-fits : length frames < 2 ^ 64) (ok : (imageCheck image ≡ Good) × (length frames ≡ placesIn image)) where
+    (image : List ℕ) (frames : List Frame) (image-fits : length image < 2 ^ 64) (frames-fits : length frames < 2 ^ 64) (ok : (imageCheck twoWords image ≡ Good) × (length frames ≡ placesIn image)) where
   -- image::read::places_in asks
   pub needs-1 : blockBytes ≤ length image
-  needs-1 = whole-block image (ok .0)
+  needs-1 = whole-block twoWords two-version image (ok .0)
 
   module _
       -- image::read::places_in(image)
@@ -36,7 +38,7 @@ module _
 
     -- the loop's invariant, of what holds where a turn begins
     abbrev pub Inv : (p : ℕ) (frames-l : List Frame) → Type 0
-    Inv p frames-l = (p ≤ places) × (frames-l ≡ tableSoFar (framesIn image) frames p)
+    Inv p frames-l = (p ≤ places) × (frames-l ≡ tableSoFar (framesIn twoWords image) frames p)
 
     -- what gets smaller with each turn
     abbrev pub left : (p : ℕ) (frames-l : List Frame) → ℕ
@@ -52,7 +54,7 @@ module _
       module _
           (test-5 : places ≤ p) where
         -- a way out: what the function ensures
-        pub out-6 : frames-l ≡ framesIn image
+        pub out-6 : frames-l ≡ framesIn twoWords image
         out-6 = table-read image (ok .0) places places-is frames frames-l p (omega (arith, inv .0, test-5)) (ok .1 ∙ sym places-is) (inv .1)
 
       module _
