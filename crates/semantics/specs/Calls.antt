@@ -6,7 +6,6 @@ use Prim.Native.Nat.{ℕ, zero, suc, _+_}
 use lib.ListN.{getD, take}
 use lib.Dec.{eqb, leb}
 use Rattle.sizes.specs.Sizes.{height}
-use Rattle.pool.specs.Pool.{rest}
 use Rattle.model.specs.declared.Step.the-variants.{Spawn, Return, Steal, Sync, Read, Write, Fold}
 use Rattle.model.specs.declared.Decoded.{Decoded}
 use Rattle.model.specs.declared.Decoded.the-variants.{Valid, Invalid}
@@ -18,6 +17,7 @@ use Rattle.semantics.specs.Answers.{wordsIn}
 use Rattle.semantics.specs.Core.{Core, actingIn}
 use Rattle.semantics.specs.Entries.{State, StartResult, startOn, OutsideResult, outsideOn, recordOn, TapeResult, tapeOn, recordsOf, coreOf, stateOf, chainFree}
 use Rattle.semantics.specs.Images.{SaveResult, savedBytes, saveOn, LoadResult, loadOn}
+use Rattle.soundness.specs.Layout.{Layout}
 
 -- ---- calls
 
@@ -28,8 +28,8 @@ pub record Start : Type 0 where
   pub values : List ℕ
   pub pool : List ℕ
 
-abbrev pub startResult : Start → StartResult
-startResult b = startOn (b .parts) (b .workers) (b .values) (b .pool)
+abbrev pub startResult : Layout → Start → StartResult
+startResult L b = startOn L (b .parts) (b .workers) (b .values) (b .pool)
 
 -- document 01: "a list of calls, each a step entered from outside or a tape", with the slices that the host lends
 pub data HostCall : Type 0 where
@@ -41,19 +41,19 @@ pub record StateAndPool : Type 0 where
   pub state : State
   pub pool : List ℕ
 
-abbrev pub afterStart : Start → StateAndPool
-afterStart b = let o : StartResult = startResult b in record { state = o .state; pool = o .pool }
+abbrev pub afterStart : Layout → Start → StateAndPool
+afterStart L b = let o : StartResult = startResult L b in record { state = o .state; pool = o .pool }
 
-abbrev pub outsideResult : StateAndPool → (kind worker field value : ℕ) (work : List ℕ) → OutsideResult
-outsideResult h kind worker field value work = outsideOn (h .state) (h .pool) work (recordOf kind worker field value)
+abbrev pub outsideResult : Layout → StateAndPool → (kind worker field value : ℕ) (work : List ℕ) → OutsideResult
+outsideResult L h kind worker field value work = outsideOn L (h .state) (h .pool) work (recordOf kind worker field value)
 
-abbrev pub tapeResult : StateAndPool → (bytes work answers : List ℕ) → TapeResult
-tapeResult h bytes work answers = tapeOn (h .state) (h .pool) work bytes answers
+abbrev pub tapeResult : Layout → StateAndPool → (bytes work answers : List ℕ) → TapeResult
+tapeResult L h bytes work answers = tapeOn L (h .state) (h .pool) work bytes answers
 
-abbrev pub afterCall : StateAndPool → HostCall → StateAndPool
-afterCall h (outside kind worker field value work) =
-    let o : OutsideResult = outsideResult h kind worker field value work in record { state = o .state; pool = o .pool }
-afterCall h (tape bytes work answers) = let o : TapeResult = tapeResult h bytes work answers in record { state = o .state; pool = o .pool }
+abbrev pub afterCall : Layout → StateAndPool → HostCall → StateAndPool
+afterCall L h (outside kind worker field value work) =
+    let o : OutsideResult = outsideResult L h kind worker field value work in record { state = o .state; pool = o .pool }
+afterCall L h (tape bytes work answers) = let o : TapeResult = tapeResult L h bytes work answers in record { state = o .state; pool = o .pool }
 
 -- ---- exchanges: a record and the two words that the engine answered
 
@@ -70,13 +70,13 @@ exchangesFrom answers k [] = []
 exchangesFrom answers k (d ∷ ds) = (d, (getD answers k 0, getD answers (suc k) 0)) ∷ exchangesFrom answers (k + 2) ds
 
 -- what a call feeds to the plain machine, with the engine's answers
-abbrev pub exchangesOf : StateAndPool → HostCall → List Exchange
-exchangesOf h (outside kind worker field value work) =
-    let a : ℕ × ℕ = wordsIn (outsideResult h kind worker field value work .result) in
+abbrev pub exchangesOf : Layout → StateAndPool → HostCall → List Exchange
+exchangesOf L h (outside kind worker field value work) =
+    let a : ℕ × ℕ = wordsIn (outsideResult L h kind worker field value work .result) in
     let one : List Exchange = (recordOf kind worker field value, a) ∷ [] in
     cond (refusedWhole a) [] one
-exchangesOf h (tape bytes work answers) =
-    let o : TapeResult = tapeResult h bytes work answers in
+exchangesOf L h (tape bytes work answers) =
+    let o : TapeResult = tapeResult L h bytes work answers in
     cond (eqb (o .result) 0) (exchangesFrom (o .answers) 0 (recordsOf bytes)) []
 
 abbrev pub recordsIn : List Exchange → List Decoded
@@ -94,27 +94,27 @@ pub record PoolAt : Type 0 where
   pub free : ℕ
 
 -- of a worker's bottom frame, whatever it is
-abbrev pub restIn : Core → Decoded → ℕ
-restIn c Invalid = 0
-restIn c (Valid (Spawn w)) = 0
-restIn c (Valid (Return w)) = 0
-restIn c (Valid (Steal w v)) = 0
-restIn c (Valid (Sync w)) = 0
-restIn c (Valid (Read w x)) = 0
-restIn c (Valid (Write w x v)) = rest (height (c .head .numbers .splitters)) (c .pool) (actingIn c w .root) x
-restIn c (Valid (Fold w r v)) = 0
+abbrev pub restIn : Layout → Core → Decoded → ℕ
+restIn L c Invalid = 0
+restIn L c (Valid (Spawn w)) = 0
+restIn L c (Valid (Return w)) = 0
+restIn L c (Valid (Steal w v)) = 0
+restIn L c (Valid (Sync w)) = 0
+restIn L c (Valid (Read w x)) = 0
+restIn L c (Valid (Write w x v)) = L .rest (height (c .head .numbers .splitters)) (c .pool) (actingIn c w .root) x
+restIn L c (Valid (Fold w r v)) = 0
 
-abbrev pub poolAt : Core → Decoded → PoolAt
-poolAt c d = record { rest = restIn c d; free = chainFree (stateOf (recordOn c d .core)) (recordOn c d .core .pool) }
+abbrev pub poolAt : Layout → Core → Decoded → PoolAt
+poolAt L c d = record { rest = restIn L c d; free = chainFree L (stateOf (recordOn L c d .core)) (recordOn L c d .core .pool) }
 
 -- of the records ds, from the core c on
-abbrev pub poolsAt : Core → List Decoded → List PoolAt
-poolsAt c [] = []
-poolsAt c (d ∷ ds) = poolAt c d ∷ poolsAt (recordOn c d .core) ds
+abbrev pub poolsAt : Layout → Core → List Decoded → List PoolAt
+poolsAt L c [] = []
+poolsAt L c (d ∷ ds) = poolAt L c d ∷ poolsAt L (recordOn L c d .core) ds
 
 -- the engine's words, with the free nodes counted
-abbrev pub coreIn : StateAndPool → Core
-coreIn h = coreOf (h .state) (h .pool) (chainFree (h .state) (h .pool))
+abbrev pub coreIn : Layout → StateAndPool → Core
+coreIn L h = coreOf (h .state) (h .pool) (chainFree L (h .state) (h .pool))
 
 -- ---- a run, with saves and readings among its calls
 
@@ -156,34 +156,34 @@ imageAt [] i = record { bytes = []; past = nothing }
 imageAt (v ∷ vs) zero = v
 imageAt (v ∷ vs) (suc i) = imageAt vs i
 
-abbrev pub pastAfter : StateAndPool → Past → HostCall → Past
-pastAfter h p k =
-    let es : List Exchange = exchangesOf h k in
-    record { exchanges = p .exchanges ++ es; pools = p .pools ++ poolsAt (coreIn h) (recordsIn es) }
+abbrev pub pastAfter : Layout → StateAndPool → Past → HostCall → Past
+pastAfter L h p k =
+    let es : List Exchange = exchangesOf L h k in
+    record { exchanges = p .exchanges ++ es; pools = p .pools ++ poolsAt L (coreIn L h) (recordsIn es) }
 
-abbrev pub saveResult : StateAndPool → List ℕ → List ℕ → SaveResult
-saveResult h work target = saveOn (h .state) (h .pool) work target
+abbrev pub saveResult : Layout → StateAndPool → List ℕ → List ℕ → SaveResult
+saveResult L h work target = saveOn L (h .state) (h .pool) work target
 
 -- R-6: "In a run each call has the table too as the call before it left it"
 abbrev pub intoTable : Run → List ℕ → List ℕ → State
 intoTable r ns ds = record { numbers = ns; deques = ds; frames = r .now .state .frames }
 
-abbrev pub loadResult : Run → ℕ → List ℕ → List ℕ → List ℕ → List ℕ → LoadResult
-loadResult r i ns ds ws work = loadOn (intoTable r ns ds) ws work (imageAt (r .images) i .bytes)
+abbrev pub loadResult : Layout → Run → ℕ → List ℕ → List ℕ → List ℕ → List ℕ → LoadResult
+loadResult L r i ns ds ws work = loadOn L (intoTable r ns ds) ws work (imageAt (r .images) i .bytes)
 
 -- the image that an accepted save has written
-abbrev pub imagesAfter : Run → List ℕ → List ℕ → List Saved
-imagesAfter r work target =
-    let o : SaveResult = saveResult (r .now) work target in
-    let new : List Saved = record { bytes = take (savedBytes (r .now .state)) (o .target); past = r .past } ∷ [] in
+abbrev pub imagesAfter : Layout → Run → List ℕ → List ℕ → List Saved
+imagesAfter L r work target =
+    let o : SaveResult = saveResult L (r .now) work target in
+    let new : List Saved = record { bytes = take (savedBytes L (r .now .state)) (o .target); past = r .past } ∷ [] in
     cond (eqb (o .result) 0) (r .images ++ new) (r .images)
 
 -- "Reading back gives the same state, and a run goes on from its saved history; what came after the save is forgotten."
-abbrev pub runAfter : Run → Call → Run
-runAfter r (call k) = record { now = afterCall (r .now) k; past = pastAfter (r .now) (r .past) k; images = r .images; stateless = r .stateless; lent = r .lent }
-runAfter r (save work target) = record { now = r .now; past = r .past; images = imagesAfter r work target; stateless = r .stateless; lent = r .lent }
-runAfter r (load i ns ds ws work) =
-    let o : LoadResult = loadResult r i ns ds ws work in
+abbrev pub runAfter : Layout → Run → Call → Run
+runAfter L r (call k) = record { now = afterCall L (r .now) k; past = pastAfter L (r .now) (r .past) k; images = r .images; stateless = r .stateless; lent = r .lent }
+runAfter L r (save work target) = record { now = r .now; past = r .past; images = imagesAfter L r work target; stateless = r .stateless; lent = r .lent }
+runAfter L r (load i ns ds ws work) =
+    let o : LoadResult = loadResult L r i ns ds ws work in
     record {
       now = record { state = o .state; pool = o .pool };
       past = cond (eqb (o .result) 0) (imageAt (r .images) i .past) (r .past);
@@ -192,9 +192,9 @@ runAfter r (load i ns ds ws work) =
       lent = ws;
     }
 
-abbrev pub runOf : Run → List Call → Run
-runOf r [] = r
-runOf r (c ∷ cs) = runOf (runAfter r c) cs
+abbrev pub runOf : Layout → Run → List Call → Run
+runOf L r [] = r
+runOf L r (c ∷ cs) = runOf L (runAfter L r c) cs
 
 -- ---- what frames did and read, by the engine's answers; frames and names are those of the plain machine fed the same
 

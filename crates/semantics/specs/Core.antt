@@ -1,11 +1,10 @@
 -- What a step does to the state and the pool, and what it answers: refusals 8 to 16 and 20 in checking order, then the step.
--- Definitions only; every one is total.
+-- L is the layout of the pool (crate soundness, Layout): R-8. Definitions only; every one is total.
 use mathlib.Core.Bool.{Bool, cond, not, _||_}
 use mathlib.Core.List.{List, [], _∷_, _++_}
 use Prim.Native.Nat.{ℕ, zero, suc}
 use lib.Dec.{eqb, ltb}
 use Rattle.words.specs.Basics.{none, plus, all}
-use Rattle.pool.specs.Pool.{readAt, retain, release, rest, write}
 use Rattle.reducers.specs.Reducers.{viewWords}
 use Rattle.frames.specs.declared.Frame.{Frame}
 use Rattle.frames.specs.declared.Returned.{Returned}
@@ -23,6 +22,7 @@ use Rattle.semantics.specs.declared.Refusal.{Refusal}
 use Rattle.semantics.specs.declared.Refusal.the-variants.{NoWorker, MainReturned, WorkerIdle, ThiefBusy, NoVictim, FramesFull, NoSplitter, PoolFull, NoReducer}
 use Rattle.semantics.specs.declared.Answer.{Answer}
 use Rattle.semantics.specs.declared.Answer.the-variants.{Accepted, Refused}
+use Rattle.soundness.specs.Layout.{Layout}
 
 -- what steps act on: the numbers, the words of the totals and of the deques, the frame table, and the pool's words
 pub record Core : Type 0 where
@@ -84,10 +84,10 @@ actingTests c w = (noWorker c w, NoWorker) ∷ (allIdle c, MainReturned) ∷ (id
 
 -- ---- the seven kinds
 
-unfoldable pub spawnOn : Core → ℕ → StepResult
-spawnOn c w =
+unfoldable pub spawnOn : Layout → Core → ℕ → StepResult
+spawnOn L c w =
     let t : Table = spawn (tableOf c) w in
-    stepResult (withFreePlace (c .head) (t .«free_place»)) (c .totals) (t .deques) (t .frames) (retain (c .pool) (actingIn c w .root)) (Accepted (Spawned (plus (actingIn c w .depth) 1)))
+    stepResult (withFreePlace (c .head) (t .«free_place»)) (c .totals) (t .deques) (t .frames) (L .retain (c .pool) (actingIn c w .root)) (Accepted (Spawned (plus (actingIn c w .depth) 1)))
 
 -- a return that left the core c, with the outcome o
 abbrev pub returned : Core → Returned → StepResult
@@ -98,9 +98,9 @@ abbrev pub totalsAfter : Core → Frame → List ℕ
 totalsAfter c f = cond (eqb (f .parent) none) (viewWords (f .view)) (c .totals)
 
 -- the frame at place p ends: its tree is released, and its place is the first free one
-unfoldable pub endAt : Core → ℕ → Core
-endAt c p =
-    let r : List ℕ × ℕ × ℕ = release (c .head .height) (c .pool) (c .head .numbers .«free_node») (c .head .«free_count») (frameAt (c .frames) p .root) in
+unfoldable pub endAt : Layout → Core → ℕ → Core
+endAt L c p =
+    let r : List ℕ × ℕ × ℕ = L .release (c .head .numbers .nodes) (c .head .height) (c .pool) (c .head .numbers .«free_node») (c .head .«free_count») (frameAt (c .frames) p .root) in
     record {
       head = withFreeNodes (withFreePlace (c .head) p) (r .1) (r .2);
       totals = totalsAfter c (frameAt (c .frames) p);
@@ -111,11 +111,11 @@ endAt c p =
 
 -- a frame of depth d, whose parent is at place q, has ended on worker w, whose deque is empty. R-3: if that was the last child of a frame
 -- that waits in its return, "it ends too on that child's worker, and so on upward; the answer shows where that stopped: 1, 2 or 3"
-unfoldable pub upward : ℕ → Core → ℕ → ℕ → StepResult
-upward zero c w q = returned c Finished
-upward (suc d) c w q =
+unfoldable pub upward : Layout → ℕ → Core → ℕ → ℕ → StepResult
+upward L zero c w q = returned c Finished
+upward L (suc d) c w q =
     let f : Frame = frameAt (c .frames) q in
-    let ends = upward d (endAt c q) w (f .parent) in
+    let ends = upward L d (endAt L c q) w (f .parent) in
     cond (endsToo f) ends (returned (withTable c (goOn (tableOf c) w q)) (wentOn (tableOf c) q))
 
 -- worker w's bottom frame leaves its deque
@@ -123,17 +123,17 @@ abbrev pub popped : Core → ℕ → Core
 popped c w = record { head = c .head; totals = c .totals; deques = pop (c .deques) w; frames = c .frames; pool = c .pool }
 
 -- worker w's bottom frame ends; "If its parent is then the bottom, the outcome is 0"
-unfoldable pub endBottom : Core → ℕ → StepResult
-endBottom c w =
+unfoldable pub endBottom : Layout → Core → ℕ → StepResult
+endBottom L c w =
     let f : Frame = actingIn c w in
-    let c′ : Core = endAt (popped c w) (bottom (c .deques) w) in
-    let ends = upward (f .depth) c′ w (f .parent) in
+    let c′ : Core = endAt L (popped c w) (bottom (c .deques) w) in
+    let ends = upward L (f .depth) c′ w (f .parent) in
     cond (eqb (size (c′ .deques) w) 0) ends (returned c′ Continued)
 
 -- R-3: "A return with a live child now suspends the frame as returning and gives outcome 4; its worker goes idle, and its tree is held."
-unfoldable pub returnOn : Core → ℕ → StepResult
-returnOn c w =
-    let ends = endBottom c w in
+unfoldable pub returnOn : Layout → Core → ℕ → StepResult
+returnOn L c w =
+    let ends = endBottom L c w in
     cond (eqb (actingIn c w .outstanding) 0) ends (returned (withTable c (suspend (tableOf c) w (asReturning (actingIn c w)))) Waiting)
 
 unfoldable pub stealOn : Core → ℕ → ℕ → StepResult
@@ -146,12 +146,12 @@ syncOn c w =
     let t : Table = sync (tableOf c) w in
     stepResult (c .head) (c .totals) (t .deques) (t .frames) (c .pool) (Accepted (Waited (synced (tableOf c) w)))
 
-unfoldable pub readOn : Core → ℕ → ℕ → StepResult
-readOn c w x = record { core = c; answer = Accepted (Value (readAt (c .head .height) (c .pool) (actingIn c w .root) x)) }
+unfoldable pub readOn : Layout → Core → ℕ → ℕ → StepResult
+readOn L c w x = record { core = c; answer = Accepted (Value (L .read (c .head .height) (c .pool) (actingIn c w .root) x)) }
 
-unfoldable pub writeOn : Core → ℕ → ℕ → ℕ → StepResult
-writeOn c w x v =
-    let p : List ℕ × ℕ × ℕ × ℕ = write (c .head .height) (c .pool) (c .head .numbers .«free_node») (c .head .«free_count») (actingIn c w .root) x v in
+unfoldable pub writeOn : Layout → Core → ℕ → ℕ → ℕ → StepResult
+writeOn L c w x v =
+    let p : List ℕ × ℕ × ℕ × ℕ = L .write (c .head .height) (c .pool) (c .head .numbers .«free_node») (c .head .«free_count») (actingIn c w .root) x v in
     stepResult (withFreeNodes (c .head) (p .1) (p .2)) (c .totals) (c .deques) (setFrame (c .frames) (bottom (c .deques) w) (withRoot (actingIn c w) (p .3))) (p .0)
     (Accepted (Written (p .2)))
 
@@ -162,38 +162,38 @@ foldOn c w r v = stepResult (c .head) (c .totals) (c .deques) (fold (tableOf c) 
 -- ---- a step
 
 -- refusals 13, 15, 16 and 20, of the kind alone; 13, by R-6: as many frames live as the table has places, so that none is free; "14 no longer occurs" (R-3). 20 stands "in the place of 15" (R-5). 16, by R-2: "when fewer nodes are free than that rest has", of the path to the splitter
-abbrev pub kindTests : Core → Step → List (Bool × Refusal)
-kindTests c (Spawn w) = (eqb (c .head .numbers .«free_place») none, FramesFull) ∷ []
-kindTests c (Return w) = []
-kindTests c (Steal w v) = []
-kindTests c (Sync w) = []
-kindTests c (Read w x) = (not (ltb x (c .head .numbers .splitters)), NoSplitter) ∷ []
-kindTests c (Write w x v) = (not (ltb x (c .head .numbers .splitters)), NoSplitter) ∷ (ltb (c .head .«free_count») (rest (c .head .height) (c .pool) (actingIn c w .root) x), PoolFull) ∷ []
-kindTests c (Fold w r v) = (not (ltb r reducers), NoReducer) ∷ []
+abbrev pub kindTests : Layout → Core → Step → List (Bool × Refusal)
+kindTests L c (Spawn w) = (eqb (c .head .numbers .«free_place») none, FramesFull) ∷ []
+kindTests L c (Return w) = []
+kindTests L c (Steal w v) = []
+kindTests L c (Sync w) = []
+kindTests L c (Read w x) = (not (ltb x (c .head .numbers .splitters)), NoSplitter) ∷ []
+kindTests L c (Write w x v) = (not (ltb x (c .head .numbers .splitters)), NoSplitter) ∷ (ltb (c .head .«free_count») (L .rest (c .head .height) (c .pool) (actingIn c w .root) x), PoolFull) ∷ []
+kindTests L c (Fold w r v) = (not (ltb r reducers), NoReducer) ∷ []
 
 -- refusals 8, 9, 11 and 12
 abbrev pub stealTests : Core → ℕ → ℕ → List (Bool × Refusal)
 stealTests c w v = (noWorker c w, NoWorker) ∷ (allIdle c, MainReturned) ∷ (not (idle c w), ThiefBusy) ∷ (noWorker c v || ltb (size (c .deques) v) 2, NoVictim) ∷ []
 
 -- its refusals, in checking order
-abbrev pub testsOf : Core → Step → List (Bool × Refusal)
-testsOf c (Spawn w) = actingTests c w ++ kindTests c (Spawn w)
-testsOf c (Return w) = actingTests c w ++ kindTests c (Return w)
-testsOf c (Steal w v) = stealTests c w v
-testsOf c (Sync w) = actingTests c w ++ kindTests c (Sync w)
-testsOf c (Read w x) = actingTests c w ++ kindTests c (Read w x)
-testsOf c (Write w x v) = actingTests c w ++ kindTests c (Write w x v)
-testsOf c (Fold w r v) = actingTests c w ++ kindTests c (Fold w r v)
+abbrev pub testsOf : Layout → Core → Step → List (Bool × Refusal)
+testsOf L c (Spawn w) = actingTests c w ++ kindTests L c (Spawn w)
+testsOf L c (Return w) = actingTests c w ++ kindTests L c (Return w)
+testsOf L c (Steal w v) = stealTests c w v
+testsOf L c (Sync w) = actingTests c w ++ kindTests L c (Sync w)
+testsOf L c (Read w x) = actingTests c w ++ kindTests L c (Read w x)
+testsOf L c (Write w x v) = actingTests c w ++ kindTests L c (Write w x v)
+testsOf L c (Fold w r v) = actingTests c w ++ kindTests L c (Fold w r v)
 
 -- what it does if none holds
-abbrev pub doneBy : Core → Step → StepResult
-doneBy c (Spawn w) = spawnOn c w
-doneBy c (Return w) = returnOn c w
-doneBy c (Steal w v) = stealOn c w v
-doneBy c (Sync w) = syncOn c w
-doneBy c (Read w x) = readOn c w x
-doneBy c (Write w x v) = writeOn c w x v
-doneBy c (Fold w r v) = foldOn c w r v
+abbrev pub doneBy : Layout → Core → Step → StepResult
+doneBy L c (Spawn w) = spawnOn L c w
+doneBy L c (Return w) = returnOn L c w
+doneBy L c (Steal w v) = stealOn c w v
+doneBy L c (Sync w) = syncOn c w
+doneBy L c (Read w x) = readOn L c w x
+doneBy L c (Write w x v) = writeOn L c w x v
+doneBy L c (Fold w r v) = foldOn c w r v
 
-unfoldable pub stepOn : Core → Step → StepResult
-stepOn c st = judged (testsOf c st) c (doneBy c st)
+unfoldable pub stepOn : Layout → Core → Step → StepResult
+stepOn L c st = judged (testsOf L c st) c (doneBy L c st)

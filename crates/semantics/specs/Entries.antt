@@ -5,7 +5,6 @@ use Prim.Native.Nat.{ℕ, zero, suc, _+_, _*_, _/_, _%_}
 use lib.ListN.{length, set, replicate}
 use lib.Dec.{eqb, ltb}
 use Rattle.sizes.specs.Sizes.{height, treeNodes}
-use Rattle.pool.specs.Pool.{initPool}
 use Rattle.frames.specs.Widths.{maxPlaces, dequeWords}
 use Rattle.frames.specs.declared.Frame.{Frame}
 use Rattle.frames.specs.Frames.{initFrames, firstFree}
@@ -25,6 +24,7 @@ use Rattle.semantics.specs.declared.Answer.{Answer}
 use Rattle.semantics.specs.declared.Answer.the-variants.{Refused}
 use Rattle.semantics.specs.Answers.{refusalNumber, answerWords, bothWords}
 use Rattle.semantics.specs.Core.{Core, StepResult, stepOn}
+use Rattle.soundness.specs.Layout.{Layout}
 
 -- ---- the state that a host lends, in three parts, in the order of document 02's R-1
 
@@ -56,14 +56,14 @@ abbrev pub stateOf : Core → State
 stateOf c = record { numbers = numberWords (c .head .numbers) (c .totals); deques = c .deques; frames = c .frames }
 
 -- soundness of a state with the pool ws, the check's answer with the work slice ks, and the nodes on the free chain
-abbrev pub isSound : State → List ℕ → Bool
-isSound s ws = sound (numbersOf s) (totalsOf s) (s .deques) (s .frames) ws
+abbrev pub isSound : Layout → State → List ℕ → Bool
+isSound L s ws = sound L (numbersOf s) (totalsOf s) (s .deques) (s .frames) ws
 
-abbrev pub checkedState : State → List ℕ → List ℕ → Checked
-checkedState s ws ks = checked (numbersOf s) (totalsOf s) (s .deques) (s .frames) ws ks
+abbrev pub checkedState : Layout → State → List ℕ → List ℕ → Checked
+checkedState L s ws ks = checked L (numbersOf s) (totalsOf s) (s .deques) (s .frames) ws ks
 
-abbrev pub chainFree : State → List ℕ → ℕ
-chainFree s ws = freeCount (numbersOf s) ws
+abbrev pub chainFree : Layout → State → List ℕ → ℕ
+chainFree L s ws = freeCount L (numbersOf s) ws
 
 -- ---- start
 
@@ -78,8 +78,8 @@ pub record StartResult : Type 0 where
   pub result : ℕ
 
 -- "the pool's whole nodes"
-abbrev pub wholeNodes : List ℕ → ℕ
-wholeNodes ws = length ws / 4
+abbrev pub wholeNodes : Layout → List ℕ → ℕ
+wholeNodes L ws = length ws / L .words
 
 -- document 01's start: "Main, depth 0, is alone on worker 0's deque", in place 0; R-6: the table's length is recorded
 abbrev pub firstNumbers : ℕ → ℕ → ℕ → ℕ → ℕ → Numbers
@@ -91,10 +91,10 @@ abbrev pub firstState : ℕ → ℕ → ℕ → ℕ → List Frame → State
 firstState workers n nodes free fs =
     record { numbers = numberWords (firstNumbers workers n nodes free (length fs)) (replicate totalCount 0); deques = initDeques (replicate dequeWords 0); frames = initFrames fs }
 
-abbrev pub startAccepted : ℕ → List ℕ → List Frame → List ℕ → StartResult
-startAccepted workers vs fs ws =
-    let p : List ℕ × ℕ = initPool ws (length vs) (wholeNodes ws) vs in
-    record { state = firstState workers (length vs) (wholeNodes ws) (p .1) fs; pool = p .0; result = 0 }
+abbrev pub startAccepted : Layout → ℕ → List ℕ → List Frame → List ℕ → StartResult
+startAccepted L workers vs fs ws =
+    let p : List ℕ × ℕ = L .start ws (length vs) (wholeNodes L ws) vs in
+    record { state = firstState workers (length vs) (wholeNodes L ws) (p .1) fs; pool = p .0; result = 0 }
 
 -- table and pool are left as they were
 abbrev pub startRefused : Refusal → List Frame → List ℕ → StartResult
@@ -102,23 +102,23 @@ startRefused r fs ws = record { state = zeros fs; pool = ws; result = refusalNum
 
 -- 1. "there are 0 or more than 256 initial values" 2. "there are 0 or more than 8 workers" 21. "the table has 0 or more than 256 places, after 2"
 -- 3. "the pool has fewer than T(n) or more than 16,384 nodes"
-unfoldable pub startWith : ℕ → List ℕ → List Frame → List ℕ → StartResult
-startWith workers vs fs ws =
+unfoldable pub startWith : Layout → ℕ → List ℕ → List Frame → List ℕ → StartResult
+startWith L workers vs fs ws =
     cond (eqb (length vs) 0 || ltb 256 (length vs)) (startRefused Values fs ws)
     (cond (eqb workers 0 || ltb 8 workers) (startRefused Workers fs ws)
     (cond (eqb (length fs) 0 || ltb maxPlaces (length fs)) (startRefused Places fs ws)
-    (cond (ltb (wholeNodes ws) (treeNodes (length vs)) || ltb 16384 (wholeNodes ws)) (startRefused Nodes fs ws) (startAccepted workers vs fs ws))))
+    (cond (ltb (wholeNodes L ws) (treeNodes (length vs)) || ltb 16384 (wholeNodes L ws)) (startRefused Nodes fs ws) (startAccepted L workers vs fs ws))))
 
 -- the start, over the lent parts s, whatever they hold
-unfoldable pub startOn : State → ℕ → List ℕ → List ℕ → StartResult
-startOn s workers vs ws = cond (fits s) (startWith workers vs (s .frames) ws) (record { state = s; pool = ws; result = refusalNumber Lengths })
+unfoldable pub startOn : Layout → State → ℕ → List ℕ → List ℕ → StartResult
+startOn L s workers vs ws = cond (fits s) (startWith L workers vs (s .frames) ws) (record { state = s; pool = ws; result = refusalNumber Lengths })
 
 -- ---- a step from outside
 
 -- a record's step, or refusal 7
-abbrev pub recordOn : Core → Decoded → StepResult
-recordOn c (Valid st) = stepOn c st
-recordOn c Invalid = record { core = c; answer = Refused Record }
+abbrev pub recordOn : Layout → Core → Decoded → StepResult
+recordOn L c (Valid st) = stepOn L c st
+recordOn L c Invalid = record { core = c; answer = Refused Record }
 
 -- what a step leaves: the state, the pool's words and the work slice; and its result, the two answer words in one number
 pub record OutsideResult : Type 0 where
@@ -137,17 +137,17 @@ abbrev pub outsideRefused : State → List ℕ → List ℕ → Refusal → Outs
 outsideRefused s ws work r = record { state = s; pool = ws; work = work; result = answerResult (Refused r) }
 
 -- the check's answer, then the step
-abbrev pub outsideChecked : Checked → State → List ℕ → List ℕ → Decoded → OutsideResult
-outsideChecked NoRoom s ws work d = outsideRefused s ws work Work
-outsideChecked Checked.Unsound s ws work d = outsideRefused s ws (cleared (numbersOf s .nodes) work) Refusal.Unsound
-outsideChecked (Sound k) s ws work d = outsideDone (recordOn (coreOf s ws k) d) (cleared (numbersOf s .nodes) work)
+abbrev pub outsideChecked : Layout → Checked → State → List ℕ → List ℕ → Decoded → OutsideResult
+outsideChecked L NoRoom s ws work d = outsideRefused s ws work Work
+outsideChecked L Checked.Unsound s ws work d = outsideRefused s ws (cleared (numbersOf s .nodes) work) Refusal.Unsound
+outsideChecked L (Sound k) s ws work d = outsideDone (recordOn L (coreOf s ws k) d) (cleared (numbersOf s .nodes) work)
 
 -- "A step entered from outside checks soundness first"
-unfoldable pub outsideWith : State → List ℕ → List ℕ → Decoded → OutsideResult
-outsideWith s ws work d = outsideChecked (checkedState s ws work) s ws work d
+unfoldable pub outsideWith : Layout → State → List ℕ → List ℕ → Decoded → OutsideResult
+outsideWith L s ws work d = outsideChecked L (checkedState L s ws work) s ws work d
 
-unfoldable pub outsideOn : State → List ℕ → List ℕ → Decoded → OutsideResult
-outsideOn s ws work d = cond (fits s) (outsideWith s ws work d) (outsideRefused s ws work Lengths)
+unfoldable pub outsideOn : Layout → State → List ℕ → List ℕ → Decoded → OutsideResult
+outsideOn L s ws work d = cond (fits s) (outsideWith L s ws work d) (outsideRefused s ws work Lengths)
 
 -- ---- a tape
 
@@ -172,9 +172,9 @@ abbrev pub recordsResult : Core → List ℕ → RecordsResult
 recordsResult c answers = record { core = c; answers = answers }
 
 -- the records in order, their answer words from place k on; "and the tape goes on"
-unfoldable pub runOn : RecordsResult → ℕ → List Decoded → RecordsResult
-runOn r k [] = r
-runOn r k (d ∷ ds) = let o : StepResult = recordOn (r .core) d in runOn (recordsResult (o .core) (putAnswer (r .answers) k (o .answer))) (k + 2) ds
+unfoldable pub runOn : Layout → RecordsResult → ℕ → List Decoded → RecordsResult
+runOn L r k [] = r
+runOn L r k (d ∷ ds) = let o : StepResult = recordOn L (r .core) d in runOn L (recordsResult (o .core) (putAnswer (r .answers) k (o .answer))) (k + 2) ds
 
 -- what a tape leaves: the state, the pool's words, the work slice and the answer words; and its result, 0 or a refusal
 pub record TapeResult : Type 0 where
@@ -190,18 +190,18 @@ tapeDone r work = record { state = stateOf (r .core); pool = r .core .pool; work
 abbrev pub tapeRefused : State → List ℕ → List ℕ → List ℕ → Refusal → TapeResult
 tapeRefused s ws work answers r = record { state = s; pool = ws; work = work; answers = answers; result = refusalNumber r }
 
-abbrev pub tapeChecked : Checked → State → List ℕ → List ℕ → List ℕ → List ℕ → TapeResult
-tapeChecked NoRoom s ws work tape answers = tapeRefused s ws work answers Work
-tapeChecked Checked.Unsound s ws work tape answers = tapeRefused s ws (cleared (numbersOf s .nodes) work) answers Refusal.Unsound
-tapeChecked (Sound k) s ws work tape answers = tapeDone (runOn (recordsResult (coreOf s ws k) answers) 0 (recordsOf tape)) (cleared (numbersOf s .nodes) work)
+abbrev pub tapeChecked : Layout → Checked → State → List ℕ → List ℕ → List ℕ → List ℕ → TapeResult
+tapeChecked L NoRoom s ws work tape answers = tapeRefused s ws work answers Work
+tapeChecked L Checked.Unsound s ws work tape answers = tapeRefused s ws (cleared (numbersOf s .nodes) work) answers Refusal.Unsound
+tapeChecked L (Sound k) s ws work tape answers = tapeDone (runOn L (recordsResult (coreOf s ws k) answers) 0 (recordsOf tape)) (cleared (numbersOf s .nodes) work)
 
 -- 4. "The tape is not a multiple of 8 bytes, or the answer slice has fewer than two words per record."
 abbrev pub unfitTape : List ℕ → List ℕ → Bool
 unfitTape tape answers = not (eqb (length tape % 8) 0) || ltb (length answers) (2 * (length tape / 8))
 
 -- "a tape checks once"
-unfoldable pub tapeWith : State → List ℕ → List ℕ → List ℕ → List ℕ → TapeResult
-tapeWith s ws work tape answers = cond (unfitTape tape answers) (tapeRefused s ws work answers Tape) (tapeChecked (checkedState s ws work) s ws work tape answers)
+unfoldable pub tapeWith : Layout → State → List ℕ → List ℕ → List ℕ → List ℕ → TapeResult
+tapeWith L s ws work tape answers = cond (unfitTape tape answers) (tapeRefused s ws work answers Tape) (tapeChecked L (checkedState L s ws work) s ws work tape answers)
 
-unfoldable pub tapeOn : State → List ℕ → List ℕ → List ℕ → List ℕ → TapeResult
-tapeOn s ws work tape answers = cond (fits s) (tapeWith s ws work tape answers) (tapeRefused s ws work answers Lengths)
+unfoldable pub tapeOn : Layout → State → List ℕ → List ℕ → List ℕ → List ℕ → TapeResult
+tapeOn L s ws work tape answers = cond (fits s) (tapeWith L s ws work tape answers) (tapeRefused s ws work answers Lengths)

@@ -12,4 +12,6 @@ pub mod Calls
 pub mod Demands
 -- R-7
 pub mod ReportDemands
+-- R-8
+pub mod Matching
 pub mod Theory

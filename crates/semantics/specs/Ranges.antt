@@ -3,33 +3,34 @@
 use mathlib.Core.Path.{_≡_}
 use mathlib.Core.Logic.{_≢_, _⊎_}
 use mathlib.Core.Bool.{true}
-use Prim.Native.Nat.{ℕ, zero, suc, _≤_, _<_}
+use Prim.Native.Nat.{ℕ, zero, suc, _*_, _≤_, _<_}
 use lib.ListN.{length}
 use Rattle.words.specs.Basics.{none}
 use Rattle.sizes.specs.Sizes.{height}
-use Rattle.pool.specs.Pool.{firstShared, rest}
-use Rattle.pool.specs.Links.{Link, LinksIn, PathIn, WriteIn}
+use Rattle.pool.specs.Links.{Link}
+use Rattle.packed.specs.Pool.{firstShared, rest}
+use Rattle.packed.specs.Links.{PathIn, WriteIn}
 use Rattle.frames.specs.Widths.{maxWorkers, maxPlaces, dequePlaces, dequeWords}
 use Rattle.frames.specs.Deques.{size, place, bottom}
 use Rattle.frames.specs.Frames.{frameAt}
 use Rattle.frames.specs.Steps.{endsToo}
 use Rattle.frames.specs.Ranges.{ParentOf, ParentCounts, EndsIn}
 use Rattle.soundness.specs.Numbers.{totalCount}
+use Rattle.soundness.specs.Layout.{Layout, twoWords}
 use Rattle.soundness.specs.Soundness.{sound, freeCount}
 use Rattle.semantics.specs.Core.{Core, actingIn, popped, endAt}
 
 -- a sound core: what every step keeps
-pub record Kept (c : Core) : Type 0 where
-  pub is-sound : sound (c .head .numbers) (c .totals) (c .deques) (c .frames) (c .pool) ≡ true
-  pub counted : c .head .«free_count» ≡ freeCount (c .head .numbers) (c .pool)
+pub record Kept (L : Layout) (c : Core) : Type 0 where
+  pub is-sound : sound L (c .head .numbers) (c .totals) (c .deques) (c .frames) (c .pool) ≡ true
+  pub counted : c .head .«free_count» ≡ freeCount L (c .head .numbers) (c .pool)
   pub height-is : c .head .height ≡ height (c .head .numbers .splitters)
   pub long-totals : length (c .totals) ≡ totalCount
   pub long-deques : length (c .deques) ≡ dequeWords
 
 -- the frame at place p can end: its tree can be released; its parent, if it has one, is at another place and has a live child
 pub record EndsAt (c : Core) (p : ℕ) : Type 0 where
-  pub links : LinksIn (c .head .numbers .nodes) (c .pool)
-  pub free-node : Link (c .head .numbers .nodes) (c .head .numbers .«free_node»)
+  pub room : 2 * c .head .numbers .nodes ≤ length (c .pool)
   pub root : frameAt (c .frames) p .root < c .head .numbers .nodes
   pub frame : EndsIn (c .frames) p (frameAt (c .frames) p .parent)
 
@@ -38,7 +39,7 @@ abbrev pub EndsUpward : ℕ → Core → ℕ → Type 0
 EndsUpward zero c q = Unit
 EndsUpward (suc d) c q =
     (q < length (c .frames))
-    × (endsToo (frameAt (c .frames) q) ≡ true → EndsAt c q × (frameAt (c .frames) q .depth ≡ d) × EndsUpward d (endAt c q) (frameAt (c .frames) q .parent))
+    × (endsToo (frameAt (c .frames) q) ≡ true → EndsAt c q × (frameAt (c .frames) q .depth ≡ d) × EndsUpward d (endAt twoWords c q) (frameAt (c .frames) q .parent))
 
 -- what a sound core gives: each index of the step's code has its range
 pub record Ready (c : Core) : Type 0 where
@@ -49,7 +50,8 @@ pub record Ready (c : Core) : Type 0 where
   pub long-deques : length (c .deques) ≡ dequeWords
   pub table : length (c .frames) ≡ c .head .numbers .places
   pub few-places : length (c .frames) ≤ maxPlaces
-  pub links : LinksIn (c .head .numbers .nodes) (c .pool)
+  pub nodes-le : c .head .numbers .nodes ≤ 16384
+  pub pool-room : 2 * c .head .numbers .nodes ≤ length (c .pool)
   pub free-node : Link (c .head .numbers .nodes) (c .head .numbers .«free_node»)
   pub free-place : (c .head .numbers .«free_place» < length (c .frames)) ⊎ (c .head .numbers .«free_place» ≡ none)
   pub sizes : (w : ℕ) → w < maxWorkers → size (c .deques) w ≤ dequePlaces
@@ -63,7 +65,7 @@ pub record Ready (c : Core) : Type 0 where
   -- a bottom frame that is not the top has its parent above it
   pub below : (w : ℕ) → w < maxWorkers → 1 < size (c .deques) w → actingIn c w .parent ≢ none
   pub upward : (w : ℕ) → w < maxWorkers → 0 < size (c .deques) w → actingIn c w .outstanding ≡ 0
-      → EndsUpward (actingIn c w .depth) (endAt (popped c w) (bottom (c .deques) w)) (actingIn c w .parent)
+      → EndsUpward (actingIn c w .depth) (endAt twoWords (popped c w) (bottom (c .deques) w)) (actingIn c w .parent)
   pub path : (w x : ℕ) → w < maxWorkers → 0 < size (c .deques) w → x < c .head .numbers .splitters → PathIn (c .head .numbers .nodes) (c .pool) (c .head .height) (actingIn c w .root) x
   pub writes : (w x : ℕ) → w < maxWorkers → 0 < size (c .deques) w → x < c .head .numbers .splitters → rest (c .head .height) (c .pool) (actingIn c w .root) x ≤ c .head .«free_count»
       → WriteIn (c .head .numbers .nodes) (c .head .height) (c .pool) (c .head .numbers .«free_node») x (firstShared (c .head .height) (c .pool) (actingIn c w .root) (actingIn c w .root) x)

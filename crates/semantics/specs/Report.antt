@@ -4,11 +4,11 @@ use mathlib.Core.List.{List, [], _∷_}
 use Prim.Native.Nat.{ℕ, _*_, _/_, _%_}
 use lib.ListN.{length}
 use lib.Dec.{eqb, ltb}
-use Rattle.semantics.specs.declared.Refusal.{Refusal}
 use Rattle.semantics.specs.declared.Refusal.the-variants.{Tape, Work, Span, Lengths}
 use Rattle.semantics.specs.Answers.{refusalNumber}
 use Rattle.semantics.specs.Entries.{State, fits, zeros, wholeNodes, chainFree, coreOf, StartResult, startWith, TapeResult, tapeWith, recordsOf, unfitTape}
 use Rattle.semantics.specs.Timing.{Timing, timingAtStart, timedOver}
+use Rattle.soundness.specs.Layout.{Layout}
 
 -- the slices that a report is lent beside a start's: the work slice, the answer words, the clock words and the report's four words
 pub record Lent : Type 0 where
@@ -47,21 +47,21 @@ reportDone o t words =
     }
 
 -- the clocks of a tape from the state s with the pool ws
-abbrev pub timingOf : State → List ℕ → List ℕ → List ℕ → Timing
-timingOf s ws tape clocks = timedOver (coreOf s ws (chainFree s ws)) (recordsOf tape) (timingAtStart clocks)
+abbrev pub timingOf : Layout → State → List ℕ → List ℕ → List ℕ → Timing
+timingOf L s ws tape clocks = timedOver L (coreOf s ws (chainFree L s ws)) (recordsOf tape) (timingAtStart clocks)
 
 -- a tape after the start o
-abbrev pub reportStarted : StartResult → List ℕ → Lent → ReportResult
-reportStarted o tape l = reportDone (tapeWith (o .state) (o .pool) (l .work) tape (l .answers)) (timingOf (o .state) (o .pool) tape (l .clocks)) (l .report)
+abbrev pub reportStarted : Layout → StartResult → List ℕ → Lent → ReportResult
+reportStarted L o tape l = reportDone (tapeWith L (o .state) (o .pool) (l .work) tape (l .answers)) (timingOf L (o .state) (o .pool) tape (l .clocks)) (l .report)
 
-unfoldable pub reportWith : State → ℕ → List ℕ → List ℕ → List ℕ → Lent → ReportResult
-reportWith s workers vs ws tape l =
-    let o : StartResult = startWith workers vs (s .frames) ws in
+unfoldable pub reportWith : Layout → State → ℕ → List ℕ → List ℕ → List ℕ → Lent → ReportResult
+reportWith L s workers vs ws tape l =
+    let o : StartResult = startWith L workers vs (s .frames) ws in
     cond (eqb (o .result) 0)
     (cond (unfitTape tape (l .answers)) (reportRefused s ws l (refusalNumber Tape))
-    (cond (ltb (length (l .work)) (wholeNodes ws)) (reportRefused s ws l (refusalNumber Work)) (reportStarted o tape l)))
+    (cond (ltb (length (l .work)) (wholeNodes L ws)) (reportRefused s ws l (refusalNumber Work)) (reportStarted L o tape l)))
     (reportRefused s ws l (o .result))
 
 -- over the lent parts s, whatever they hold
-unfoldable pub reportOn : State → ℕ → List ℕ → List ℕ → List ℕ → Lent → ReportResult
-reportOn s workers vs ws tape l = cond (fitsReport s l) (reportWith s workers vs ws tape l) (record { state = s; pool = ws; lent = l; result = refusalNumber Lengths })
+unfoldable pub reportOn : Layout → State → ℕ → List ℕ → List ℕ → List ℕ → Lent → ReportResult
+reportOn L s workers vs ws tape l = cond (fitsReport s l) (reportWith L s workers vs ws tape l) (record { state = s; pool = ws; lent = l; result = refusalNumber Lengths })

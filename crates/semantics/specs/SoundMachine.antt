@@ -7,13 +7,13 @@ use lib.ListN.{length}
 use lib.Dec.{eqb}
 use Rattle.words.specs.Basics.{joined, range}
 use Rattle.sizes.specs.Sizes.{height}
-use Rattle.pool.specs.Pool.{readAt}
 use Rattle.frames.specs.declared.Frame.{Frame as FrameRecord}
 use Rattle.frames.specs.Deques.{dequeList}
 use Rattle.frames.specs.Frames.{frameAt}
 use Rattle.soundness.specs.declared.Numbers.{Numbers}
 use Rattle.soundness.specs.Soundness.{lives, inDeques, freeCount}
 use Rattle.model.specs.Machine.{Name, Frame, Machine, inUse}
+use Rattle.soundness.specs.Layout.{Layout}
 
 -- ---- names: a frame has its parent's name with its own place after it, counted from 1
 
@@ -32,11 +32,11 @@ placeOf m (k ∷ r) = k - 1
 
 -- ---- frames: no history, and as many spawns as there are places, so that the children to come have names that are not there; R-3: "1 on a frame waiting so"
 
-abbrev pub frameOf : ℕ → List FrameRecord → List ℕ → ℕ → Frame
-frameOf n fs ws p = record { name = nameOf fs p; values = map (readAt (height n) ws (frameAt fs p .root)) (range n 0); history = []; spawned = length fs; returning = eqb (frameAt fs p .returning) 1 }
+abbrev pub frameOf : Layout → ℕ → List FrameRecord → List ℕ → ℕ → Frame
+frameOf L n fs ws p = record { name = nameOf fs p; values = map (L .read (height n) ws (frameAt fs p .root)) (range n 0); history = []; spawned = length fs; returning = eqb (frameAt fs p .returning) 1 }
 
-abbrev pub framesOf : ℕ → List FrameRecord → List ℕ → List ℕ → List Frame
-framesOf n fs ws ps = map (frameOf n fs ws) ps
+abbrev pub framesOf : Layout → ℕ → List FrameRecord → List ℕ → List ℕ → List Frame
+framesOf L n fs ws ps = map (frameOf L n fs ws) ps
 
 -- ---- places
 
@@ -57,12 +57,12 @@ livePlaces workers ds fs = waitingPlaces ds fs ++ joined (runningPlaces workers 
 
 -- ---- the machine; its pool has the nodes in use and those on the free chain, and it has as many places as the table
 
-abbrev pub machineOf : Numbers → List ℕ → List FrameRecord → List ℕ → Machine
-machineOf s ds fs ws =
+abbrev pub machineOf : Layout → Numbers → List ℕ → List FrameRecord → List ℕ → Machine
+machineOf L s ds fs ws =
     record {
       splitters = s .splitters;
-      nodes = inUse (s .splitters) (framesOf (s .splitters) fs ws (livePlaces (s .workers) ds fs)) + freeCount s ws;
+      nodes = inUse (s .splitters) (framesOf L (s .splitters) fs ws (livePlaces (s .workers) ds fs)) + freeCount L s ws;
       places = length fs;
-      deques = map (framesOf (s .splitters) fs ws) (runningPlaces (s .workers) ds);
-      suspended = framesOf (s .splitters) fs ws (waitingPlaces ds fs);
+      deques = map (framesOf L (s .splitters) fs ws) (runningPlaces (s .workers) ds);
+      suspended = framesOf L (s .splitters) fs ws (waitingPlaces ds fs);
     }

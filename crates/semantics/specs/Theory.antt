@@ -48,10 +48,10 @@ pub mod NumbersKept
 -- all seven kinds
 pub mod Simulation
 -- ---- pools, soundness
--- the two predicates on pools
+-- what the theory asks of a layout's pools, and of each layout that they have it
 pub mod Pools
--- the sentences on trees, of live pools
-pub mod PoolSentences
+pub mod FourPools
+pub mod TwoPools
 -- from a sound state to a plain machine
 pub mod FromSoundNames
 pub mod FromSoundPlaces
@@ -130,3 +130,12 @@ pub mod Reports
 pub mod SameReports
 -- for the engine: the start before a report, bounds, records that move no deque
 pub mod TimedWords
+-- ---- R-8: the two layouts beside one another
+-- a step in both
+pub mod MatchingSteps
+-- sound pools that match; starts, steps and tapes
+pub mod Matching
+pub mod MatchingCalls
+-- saves and readings; R-7's reports
+pub mod MatchingImages
+pub mod MatchingReports

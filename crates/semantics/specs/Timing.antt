@@ -1,7 +1,7 @@
 -- R-7: clocks beside a run of the engine, two words for each place of the frame table; work and span. Definitions only; every one is total.
 use mathlib.Core.Bool.{Bool, false, cond, _&&_}
 use mathlib.Core.List.{List, [], _∷_}
-use Prim.Native.Nat.{ℕ, zero, suc, _+_, _*_, max}
+use Prim.Native.Nat.{ℕ, zero, suc, _*_, max}
 use lib.ListN.{length, getD, set, replicate}
 use lib.Dec.{eqb, leb}
 use Rattle.words.specs.Basics.{none}
@@ -16,6 +16,7 @@ use Rattle.semantics.specs.declared.Rise.{Rise}
 use Rattle.semantics.specs.Answers.{answerWords}
 use Rattle.semantics.specs.Core.{Core}
 use Rattle.semantics.specs.Entries.{recordOn}
+use Rattle.soundness.specs.Layout.{Layout}
 
 -- ---- the clock words ks: of the frame at place p its own clock, then the latest of its ended children's
 
@@ -122,10 +123,10 @@ abbrev pub workerIn : Decoded → ℕ
 workerIn (Valid st) = workerOf st
 workerIn Invalid = 0
 
-abbrev pub timedRecord : Core → Decoded → Timing → Timing
-timedRecord c d t = timedBy c (workerIn d) (answerWords (recordOn c d .answer)) t
+abbrev pub timedRecord : Layout → Core → Decoded → Timing → Timing
+timedRecord L c d t = timedBy c (workerIn d) (answerWords (recordOn L c d .answer)) t
 
 -- the records in order, beside runOn
-unfoldable pub timedOver : Core → List Decoded → Timing → Timing
-timedOver c [] t = t
-timedOver c (d ∷ ds) t = timedOver (recordOn c d .core) ds (timedRecord c d t)
+unfoldable pub timedOver : Layout → Core → List Decoded → Timing → Timing
+timedOver L c [] t = t
+timedOver L c (d ∷ ds) t = timedOver L (recordOn L c d .core) ds (timedRecord L c d t)

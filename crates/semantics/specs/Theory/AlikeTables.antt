@@ -1,22 +1,19 @@
 -- Only views and links of live frames are stored: the relation stays.
 use mathlib.Core.Path.{_≡_, refl, sym, ap, _∙_, subst}
 use mathlib.Core.Logic.{_≢_}
-use mathlib.Core.List.{List·Memᴰ as In}
 use mathlib.Core.List.{List}
-use Prim.Native.Nat.{ℕ, _<_}
+use Prim.Native.Nat.{ℕ}
 use native.Mathlib.Omega.{arith}
-use lib.ListN.{getD}
-use Rattle.words.specs.Counting.{count}
 use Rattle.sizes.specs.Sizes.{height}
-use Rattle.pool.specs.Pool.{readAt}
 use Rattle.frames.specs.declared.Frame.{Frame as FrameRecord}
 use Rattle.frames.specs.Frames.{frameAt, freePlace}
 use Rattle.frames.specs.Theory.Alike.{Alike, formed-alike}
 use Rattle.model.specs.Machine.{Name, Frame, Machine, live}
 use Rattle.semantics.specs.Core.{Core}
-use Rattle.semantics.specs.Theory.Relation.{Trees, rootOf, rootsOf, Recorded, Relates}
+use Rattle.semantics.specs.Theory.Relation.{Trees, rootOf, Recorded, Relates}
 use Rattle.semantics.specs.Theory.Places.{same-numbers}
 use Rattle.semantics.specs.Theory.RelationFacts.{roots-same}
+use Rattle.soundness.specs.Layout.{Layout}
 
 -- the core with another frame table
 abbrev pub withFrameTable : Core → List FrameRecord → Core
@@ -35,25 +32,26 @@ recorded-alike {at = at} {f = f} a R =
       returning = S .returning ∙ R .returning;
     }
 
-module _ {P : Trees} {M : Machine} {c : Core} (r : Relates P M c) (fs′ : List FrameRecord) (a : Alike (c .frames) fs′) where
-  pub same-root : (f : Frame) → rootOf fs′ (r .at) f ≡ rootOf (c .frames) (r .at) f
-  same-root f = a .same (r .at (f .name)) .root
+module _ (layout : Layout) where
+  module _ {P : Trees} {M : Machine} {c : Core} (r : Relates layout P M c) (fs′ : List FrameRecord) (a : Alike (c .frames) fs′) where
+    pub same-root : (f : Frame) → rootOf fs′ (r .at) f ≡ rootOf (c .frames) (r .at) f
+    same-root f = a .same (r .at (f .name)) .root
 
-  pub not-live : (p n : ℕ) → frameAt (c .frames) p ≡ freePlace n → frameAt (c .frames) p .live ≢ 1
-  not-live p n e l = omega (arith, l, ap (λ (F : FrameRecord). F .live) e)
+    pub not-live : (p n : ℕ) → frameAt (c .frames) p ≡ freePlace n → frameAt (c .frames) p .live ≢ 1
+    not-live p n e l = omega (arith, l, ap (λ (F : FrameRecord). F .live) e)
 
-  abbrev pub relates-alike : Relates P M (withFrameTable c fs′)
-  relates-alike = record {
-    at = r .at;
-    gs = r .gs;
-    numbers = same-numbers M c (withFrameTable c fs′) (M .deques) (M .suspended) refl (r .numbers) refl refl refl refl refl (a .same-length);
-    formed = formed-alike (r .formed) a;
-    deques = r .deques;
-    running = λ f m. recorded-alike a (r .running f m);
-    waiting = λ f m. recorded-alike a (r .waiting f m);
-    once = λ p b. r .once p (omega (arith, a .same-length, b));
-    vacant = λ p b h. let x = r .vacant p (omega (arith, a .same-length, b)) h in (x .0, a .rest p (not-live p (x .0) (x .1)) ∙ x .1);
-    totals = r .totals;
-    trees = subst (P (c .pool) (c .head .numbers .«free_node») (c .head .«free_count»)) (sym (roots-same (c .frames) fs′ (r .at) (live M) (λ f m. same-root f))) (r .trees);
-    values = λ f m x b. ap (λ (z : ℕ). readAt (height (M .splitters)) (c .pool) z x) (same-root f) ∙ r .values f m x b;
-  }
+    abbrev pub relates-alike : Relates layout P M (withFrameTable c fs′)
+    relates-alike = record {
+      at = r .at;
+      gs = r .gs;
+      numbers = same-numbers M c (withFrameTable c fs′) (M .deques) (M .suspended) refl (r .numbers) refl refl refl refl refl (a .same-length);
+      formed = formed-alike (r .formed) a;
+      deques = r .deques;
+      running = λ f m. recorded-alike a (r .running f m);
+      waiting = λ f m. recorded-alike a (r .waiting f m);
+      once = λ p b. r .once p (omega (arith, a .same-length, b));
+      vacant = λ p b h. let x = r .vacant p (omega (arith, a .same-length, b)) h in (x .0, a .rest p (not-live p (x .0) (x .1)) ∙ x .1);
+      totals = r .totals;
+      trees = subst (P (c .pool) (c .head .numbers .«free_node») (c .head .«free_count»)) (sym (roots-same (c .frames) fs′ (r .at) (live M) (λ f m. same-root f))) (r .trees);
+      values = λ f m x b. ap (λ (z : ℕ). layout .read (height (M .splitters)) (c .pool) z x) (same-root f) ∙ r .values f m x b;
+    }

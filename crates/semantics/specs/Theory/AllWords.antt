@@ -11,7 +11,6 @@ use lib.Dec.{eqb, ltb}
 use Rattle.words.specs.Basics.{none}
 use Rattle.words.specs.Tests.{decided}
 use Rattle.words.specs.Below.{Words, Bytes, below-append, below-take, below-drop, words-set, words-zeros, cond-word}
-use Rattle.pool.specs.Theory.Words.{words-retain, words-release, words-write, words-initPool}
 use Rattle.reducers.specs.Law.{ViewWord}
 use Rattle.frames.specs.declared.Frame.{Frame}
 use Rattle.frames.specs.Widths.{maxPlaces, dequeWords}
@@ -37,6 +36,8 @@ use Rattle.semantics.specs.Entries.{State, fits, coreOf, stateOf, checke
 use Rattle.semantics.specs.Calls.{Start, afterStart, startResult, HostCall, outside, tape, StateAndPool, afterCall}
 use Rattle.semantics.specs.Demands.{StateWords, HostWords}
 use Rattle.semantics.specs.Theory.Starts.{Fit, started-fit}
+use Rattle.soundness.specs.Layout.{Layout}
+use Rattle.semantics.specs.Theory.Pools.{PoolLaws}
 
 -- ---- words of a core, and of a state with a pool
 
@@ -148,98 +149,99 @@ popped-words c w C = record { numbers = C .numbers; totals = C .totals; deques =
 totals-words : (c : Core) (f : Frame) → ViewWord (f .view) → CoreWords c → Words (totalsAfter c f)
 totals-words c f h C = elim (decided (eqb (f .parent) none)) [ inl e ↦ rw e (words-view (f .view) h) | inr e ↦ rw e (C .totals) ]
 
-endAt-words : (c : Core) (p : ℕ) → p < 4294967296 → CoreWords c → CoreWords (endAt c p)
-unfolding endAt
-endAt-words c p h C =
-    let f = C .frames p in
-    let P = words-release (c .head .height) (c .pool) (c .head .numbers .«free_node») (c .head .«free_count») (frameAt (c .frames) p .root) (C .pool) (C .numbers 3) (f .root) in
-    record {
-      numbers = words-set (six (setFreePlace (c .head .numbers) p)) 3 _ (words-set (six (c .head .numbers)) 4 p (C .numbers) h) (P .free);
-      totals = totals-words c (frameAt (c .frames) p) (f .view) C;
-      deques = C .deques;
-      frames = words-endFrame (c .frames) (c .head .numbers .«free_place») p (C .numbers 4) (C .frames);
-      pool = P .words;
-    }
-
-upward-words : (d : ℕ) (c : Core) (w q : ℕ) → q < 4294967296 → CoreWords c → CoreWords (upward d c w q .core)
-unfolding upward
-upward-words zero c w q h C = C
-upward-words (suc d) c w q h C =
-    either-result (endsToo (frameAt (c .frames) q)) _ _
-    (upward-words d (endAt c q) w (frameAt (c .frames) q .parent) (C .frames q .parent) (endAt-words c q h C))
-    (table-kept c _ C (words-goOn (tableOf c) w (table-words c C) q h))
-
-endBottom-words : (c : Core) (w : ℕ) → CoreWords c → CoreWords (endBottom c w .core)
-unfolding endBottom
-endBottom-words c w C =
-    let p : ℕ = bottom (c .deques) w in
-    let c′ : Core = endAt (popped c w) p in
-    let E : CoreWords c′ = endAt-words (popped c w) p (bottom-word (c .deques) w (C .deques)) (popped-words c w C) in
-    either-result (eqb (size (c′ .deques) w) 0) _ _ (upward-words (actingIn c w .depth) c′ w (actingIn c w .parent) (words-acting (tableOf c) w (table-words c C) .parent) E) E
-
-return-words : (c : Core) (w : ℕ) → CoreWords c → CoreWords (returnOn c w .core)
-unfolding returnOn
-return-words c w C =
-    either-result (eqb (actingIn c w .outstanding) 0) _ _ (endBottom-words c w C) (table-kept c _ C (words-waiting (tableOf c) w (table-words c C)))
-
--- ---- a step
-
-module _ (c : Core) (C : CoreWords c) where
-  root-word : (w : ℕ) → actingIn c w .root < 4294967296
-  root-word w = words-acting (tableOf c) w (table-words c C) .root
-
-  done-words : (st : Step) → RecordWords (Valid st) → CoreWords (doneBy c st .core)
-  done-words (Spawn w) h =
-      let T = words-spawn (tableOf c) w (table-words c C) in
-      unfold spawnOn in
+module _ (layout : Layout) (pools : PoolLaws layout) where
+  endAt-words : (c : Core) (p : ℕ) → p < 4294967296 → CoreWords c → CoreWords (endAt layout c p)
+  unfolding endAt
+  endAt-words c p h C =
+      let f = C .frames p in
+      let P = pools .words-release (c .head .numbers .nodes) (c .head .height) (c .pool) (c .head .numbers .«free_node») (c .head .«free_count») (frameAt (c .frames) p .root) (C .pool) (C .numbers 3) (f .root) in
       record {
-        numbers = words-set (six (c .head .numbers)) 4 _ (C .numbers) (T .place);
-        totals = C .totals;
-        deques = T .deques;
-        frames = T .frames;
-        pool = words-retain (c .pool) _ (C .pool);
-      }
-  done-words (Return w) h = return-words c w C
-  done-words (Steal w v) h =
-      let T = words-steal (tableOf c) w v (table-words c C) in
-      unfold stealOn in
-      record { numbers = C .numbers; totals = C .totals; deques = T .deques; frames = C .frames; pool = C .pool }
-  done-words (Sync w) h =
-      let T = words-sync (tableOf c) w (table-words c C) in
-      unfold syncOn in
-      record { numbers = C .numbers; totals = C .totals; deques = T .deques; frames = T .frames; pool = C .pool }
-  done-words (Read w x) h = unfold readOn in C
-  done-words (Write w x v) h =
-      let P = words-write (c .head .height) (c .pool) (c .head .numbers .«free_node») (c .head .«free_count») (actingIn c w .root) x v (C .pool) (C .numbers 3) (root-word w) h in
-      unfold writeOn in
-      record {
-        numbers = words-set (six (c .head .numbers)) 3 _ (C .numbers) (P .free);
-        totals = C .totals;
+        numbers = words-set (six (setFreePlace (c .head .numbers) p)) 3 _ (words-set (six (c .head .numbers)) 4 p (C .numbers) h) (P .free);
+        totals = totals-words c (frameAt (c .frames) p) (f .view) C;
         deques = C .deques;
-        frames = words-setFrame (c .frames) (bottom (c .deques) w) (withRoot (actingIn c w) _) (C .frames) (words-root (actingIn c w) (words-acting (tableOf c) w (table-words c C)) _ (P .root));
+        frames = words-endFrame (c .frames) (c .head .numbers .«free_place») p (C .numbers 4) (C .frames);
         pool = P .words;
       }
-  done-words (Fold w r v) h =
-      let T = words-fold (tableOf c) w (table-words c C) r v in
-      unfold foldOn in
-      record { numbers = C .numbers; totals = C .totals; deques = C .deques; frames = T .frames; pool = C .pool }
 
-  judged-words : (ts : List (Bool × Refusal)) (d : StepResult) → CoreWords (d .core) → CoreWords (judged ts c d .core)
-  judged-words [] d D = D
-  judged-words (t ∷ ts) d D = elim (decided (t .0)) [ inl e ↦ rw e C | inr e ↦ rw e (judged-words ts d D) ]
+  upward-words : (d : ℕ) (c : Core) (w q : ℕ) → q < 4294967296 → CoreWords c → CoreWords (upward layout d c w q .core)
+  unfolding upward
+  upward-words zero c w q h C = C
+  upward-words (suc d) c w q h C =
+      either-result (endsToo (frameAt (c .frames) q)) _ _
+      (upward-words d (endAt layout c q) w (frameAt (c .frames) q .parent) (C .frames q .parent) (endAt-words c q h C))
+      (table-kept c _ C (words-goOn (tableOf c) w (table-words c C) q h))
 
-  step-words : (st : Step) → RecordWords (Valid st) → CoreWords (stepOn c st .core)
-  unfolding stepOn
-  step-words st h = judged-words (testsOf c st) (doneBy c st) (done-words st h)
+  endBottom-words : (c : Core) (w : ℕ) → CoreWords c → CoreWords (endBottom layout c w .core)
+  unfolding endBottom
+  endBottom-words c w C =
+      let p : ℕ = bottom (c .deques) w in
+      let c′ : Core = endAt layout (popped c w) p in
+      let E : CoreWords c′ = endAt-words (popped c w) p (bottom-word (c .deques) w (C .deques)) (popped-words c w C) in
+      either-result (eqb (size (c′ .deques) w) 0) _ _ (upward-words (actingIn c w .depth) c′ w (actingIn c w .parent) (words-acting (tableOf c) w (table-words c C) .parent) E) E
 
-pub record-words : (c : Core) (d : Decoded) → CoreWords c → RecordWords d → CoreWords (recordOn c d .core)
-record-words c (Valid st) C h = step-words c C st h
-record-words c Invalid C h = C
+  return-words : (c : Core) (w : ℕ) → CoreWords c → CoreWords (returnOn layout c w .core)
+  unfolding returnOn
+  return-words c w C =
+      either-result (eqb (actingIn c w .outstanding) 0) _ _ (endBottom-words c w C) (table-kept c _ C (words-waiting (tableOf c) w (table-words c C)))
 
-pub run-words : (ds : List Decoded) (c : Core) (answers : List ℕ) (k : ℕ) → CoreWords c → RecordsWords ds → CoreWords (runOn (recordsResult c answers) k ds .core)
-unfolding runOn
-run-words [] c answers k C h = C
-run-words (d ∷ ds) c answers k C h = run-words ds (recordOn c d .core) _ (k + 2) (record-words c d C (h .0)) (h .1)
+  -- ---- a step
+
+  module _ (c : Core) (C : CoreWords c) where
+    root-word : (w : ℕ) → actingIn c w .root < 4294967296
+    root-word w = words-acting (tableOf c) w (table-words c C) .root
+
+    done-words : (st : Step) → RecordWords (Valid st) → CoreWords (doneBy layout c st .core)
+    done-words (Spawn w) h =
+        let T = words-spawn (tableOf c) w (table-words c C) in
+        unfold spawnOn in
+        record {
+          numbers = words-set (six (c .head .numbers)) 4 _ (C .numbers) (T .place);
+          totals = C .totals;
+          deques = T .deques;
+          frames = T .frames;
+          pool = pools .words-retain (c .pool) _ (C .pool);
+        }
+    done-words (Return w) h = return-words c w C
+    done-words (Steal w v) h =
+        let T = words-steal (tableOf c) w v (table-words c C) in
+        unfold stealOn in
+        record { numbers = C .numbers; totals = C .totals; deques = T .deques; frames = C .frames; pool = C .pool }
+    done-words (Sync w) h =
+        let T = words-sync (tableOf c) w (table-words c C) in
+        unfold syncOn in
+        record { numbers = C .numbers; totals = C .totals; deques = T .deques; frames = T .frames; pool = C .pool }
+    done-words (Read w x) h = unfold readOn in C
+    done-words (Write w x v) h =
+        let P = pools .words-write (c .head .height) (c .pool) (c .head .numbers .«free_node») (c .head .«free_count») (actingIn c w .root) x v (C .pool) (C .numbers 3) (root-word w) h in
+        unfold writeOn in
+        record {
+          numbers = words-set (six (c .head .numbers)) 3 _ (C .numbers) (P .free);
+          totals = C .totals;
+          deques = C .deques;
+          frames = words-setFrame (c .frames) (bottom (c .deques) w) (withRoot (actingIn c w) _) (C .frames) (words-root (actingIn c w) (words-acting (tableOf c) w (table-words c C)) _ (P .root));
+          pool = P .words;
+        }
+    done-words (Fold w r v) h =
+        let T = words-fold (tableOf c) w (table-words c C) r v in
+        unfold foldOn in
+        record { numbers = C .numbers; totals = C .totals; deques = C .deques; frames = T .frames; pool = C .pool }
+
+    judged-words : (ts : List (Bool × Refusal)) (d : StepResult) → CoreWords (d .core) → CoreWords (judged ts c d .core)
+    judged-words [] d D = D
+    judged-words (t ∷ ts) d D = elim (decided (t .0)) [ inl e ↦ rw e C | inr e ↦ rw e (judged-words ts d D) ]
+
+    step-words : (st : Step) → RecordWords (Valid st) → CoreWords (stepOn layout c st .core)
+    unfolding stepOn
+    step-words st h = judged-words (testsOf layout c st) (doneBy layout c st) (done-words st h)
+
+  pub record-words : (c : Core) (d : Decoded) → CoreWords c → RecordWords d → CoreWords (recordOn layout c d .core)
+  record-words c (Valid st) C h = step-words c C st h
+  record-words c Invalid C h = C
+
+  pub run-words : (ds : List Decoded) (c : Core) (answers : List ℕ) (k : ℕ) → CoreWords c → RecordsWords ds → CoreWords (runOn layout (recordsResult c answers) k ds .core)
+  unfolding runOn
+  run-words [] c answers k C h = C
+  run-words (d ∷ ds) c answers k C h = run-words ds (recordOn layout c d .core) _ (k + 2) (record-words c d C (h .0)) (h .1)
 
 -- ---- a start
 
@@ -253,53 +255,54 @@ first-words fs some few p = elim (ℕ-discrete p 0) [
   ]
 ]
 
-pub start-words : (workers : ℕ) (vs : List ℕ) (fs : List Frame) (ws : List ℕ) → Words vs → Words ws → Fit workers vs fs ws → StateWords (startAccepted workers vs fs ws .state) (startAccepted workers vs fs ws .pool)
-start-words workers vs fs ws h k F =
-    let P = words-initPool ws (length vs) (wholeNodes ws) vs k h in
-    let s : Numbers = firstNumbers workers (length vs) (wholeNodes ws) _ (length fs) in
-    let free : s .«free_place» < 4294967296 = cond-word (eqb (length fs) 1) none 1 (omega arith) (omega arith) in
-    record {
-      numbers =
-          with-totals s (replicate totalCount 0)
-          (number-words s (omega (arith, F .workers-le)) (omega (arith, F .values-le)) (omega (arith, F .nodes-le)) (P .1) free (omega (arith, F .places-le))) (words-zeros totalCount);
-      deques = words-initDeques dequeWords;
-      frames = first-words fs (F .places-positive) (F .places-le);
-      pool = P .0;
-    }
+module _ (layout : Layout) (pools : PoolLaws layout) where
+  pub start-words : (workers : ℕ) (vs : List ℕ) (fs : List Frame) (ws : List ℕ) → Words vs → Words ws → Fit layout workers vs fs ws → StateWords (startAccepted layout workers vs fs ws .state) (startAccepted layout workers vs fs ws .pool)
+  start-words workers vs fs ws h k F =
+      let P = pools .words-start ws (length vs) (wholeNodes layout ws) vs k h in
+      let s : Numbers = firstNumbers workers (length vs) (wholeNodes layout ws) _ (length fs) in
+      let free : s .«free_place» < 4294967296 = cond-word (eqb (length fs) 1) none 1 (omega arith) (omega arith) in
+      record {
+        numbers =
+            with-totals s (replicate totalCount 0)
+            (number-words s (omega (arith, F .workers-le)) (omega (arith, F .values-le)) (omega (arith, F .nodes-le)) (P .1) free (omega (arith, F .places-le))) (words-zeros totalCount);
+        deques = words-initDeques dequeWords;
+        frames = first-words fs (F .places-positive) (F .places-le);
+        pool = P .0;
+      }
 
--- an accepted start, whatever the lent parts hold
-pub started-words : (b : Start) → startResult b .result ≡ 0 → Words (b .values) → Words (b .pool) → StateWords (afterStart b .state) (afterStart b .pool)
-started-words b e h k =
-    let A = started-fit (b .parts) (b .workers) (b .values) (b .pool) e in
-    subst (λ (o : StartResult). StateWords (o .state) (o .pool)) (sym (A .result)) (start-words (b .workers) (b .values) (b .parts .frames) (b .pool) h k (A .fit))
+  -- an accepted start, whatever the lent parts hold
+  pub started-words : (b : Start) → startResult layout b .result ≡ 0 → Words (b .values) → Words (b .pool) → StateWords (afterStart layout b .state) (afterStart layout b .pool)
+  started-words b e h k =
+      let A = started-fit layout (b .parts) (b .workers) (b .values) (b .pool) e in
+      subst (λ (o : StartResult). StateWords (o .state) (o .pool)) (sym (A .result)) (start-words (b .workers) (b .values) (b .parts .frames) (b .pool) h k (A .fit))
 
--- ---- calls
+  -- ---- calls
 
-module _ (s : State) (ws work : List ℕ) (S : StateWords s ws) where
-  outside-checked : (k : Checked) (d : Decoded) → RecordWords d → StateWords (outsideChecked k s ws work d .state) (outsideChecked k s ws work d .pool)
-  outside-checked NoRoom d h = S
-  outside-checked Checked.Unsound d h = S
-  outside-checked (Sound n) d h = state-words _ (record-words (coreOf s ws n) d (core-words s ws n S) h)
+  module _ (s : State) (ws work : List ℕ) (S : StateWords s ws) where
+    outside-checked : (k : Checked) (d : Decoded) → RecordWords d → StateWords (outsideChecked layout k s ws work d .state) (outsideChecked layout k s ws work d .pool)
+    outside-checked NoRoom d h = S
+    outside-checked Checked.Unsound d h = S
+    outside-checked (Sound n) d h = state-words _ (record-words layout pools (coreOf s ws n) d (core-words s ws n S) h)
 
-  outside-kept : (d : Decoded) → RecordWords d → StateWords (outsideOn s ws work d .state) (outsideOn s ws work d .pool)
-  unfolding outsideOn outsideWith
-  outside-kept d h = elim (decided (fits s)) [ inl e ↦ rw e (outside-checked (checkedState s ws work) d h) | inr e ↦ rw e S ]
+    outside-kept : (d : Decoded) → RecordWords d → StateWords (outsideOn layout s ws work d .state) (outsideOn layout s ws work d .pool)
+    unfolding outsideOn outsideWith
+    outside-kept d h = elim (decided (fits s)) [ inl e ↦ rw e (outside-checked (checkedState layout s ws work) d h) | inr e ↦ rw e S ]
 
-  module _ (bytes answers : List ℕ) (h : Bytes bytes) where
-    tape-checked : (k : Checked) → StateWords (tapeChecked k s ws work bytes answers .state) (tapeChecked k s ws work bytes answers .pool)
-    tape-checked NoRoom = S
-    tape-checked Checked.Unsound = S
-    tape-checked (Sound n) = state-words _ (run-words (recordsOf bytes) (coreOf s ws n) answers 0 (core-words s ws n S) (tape-words-decoded (length bytes / 8) bytes 0 h))
+    module _ (bytes answers : List ℕ) (h : Bytes bytes) where
+      tape-checked : (k : Checked) → StateWords (tapeChecked layout k s ws work bytes answers .state) (tapeChecked layout k s ws work bytes answers .pool)
+      tape-checked NoRoom = S
+      tape-checked Checked.Unsound = S
+      tape-checked (Sound n) = state-words _ (run-words layout pools (recordsOf bytes) (coreOf s ws n) answers 0 (core-words s ws n S) (tape-words-decoded (length bytes / 8) bytes 0 h))
 
-    tape-kept : StateWords (tapeOn s ws work bytes answers .state) (tapeOn s ws work bytes answers .pool)
-    unfolding tapeOn tapeWith
-    tape-kept =
-        elim (decided (fits s)) [
-          | inl e ↦ elim (decided (unfitTape bytes answers)) [ inl d ↦ rw (e, d) S | inr d ↦ rw (e, d) (tape-checked (checkedState s ws work)) ]
-          | inr e ↦ rw e S
-        ]
+      tape-kept : StateWords (tapeOn layout s ws work bytes answers .state) (tapeOn layout s ws work bytes answers .pool)
+      unfolding tapeOn tapeWith
+      tape-kept =
+          elim (decided (fits s)) [
+            | inl e ↦ elim (decided (unfitTape bytes answers)) [ inl d ↦ rw (e, d) S | inr d ↦ rw (e, d) (tape-checked (checkedState layout s ws work)) ]
+            | inr e ↦ rw e S
+          ]
 
--- refused or not
-pub call-words : (h : StateAndPool) (call : HostCall) → StateWords (h .state) (h .pool) → HostWords call → StateWords (afterCall h call .state) (afterCall h call .pool)
-call-words h (outside kind worker field value work) S p = outside-kept (h .state) (h .pool) work S (recordOf kind worker field value) (outside-words kind worker field value p)
-call-words h (tape bytes work answers) S p = tape-kept (h .state) (h .pool) work S bytes answers p
+  -- refused or not
+  pub call-words : (h : StateAndPool) (call : HostCall) → StateWords (h .state) (h .pool) → HostWords call → StateWords (afterCall layout h call .state) (afterCall layout h call .pool)
+  call-words h (outside kind worker field value work) S p = outside-kept (h .state) (h .pool) work S (recordOf kind worker field value) (outside-words kind worker field value p)
+  call-words h (tape bytes work answers) S p = tape-kept (h .state) (h .pool) work S bytes answers p

@@ -7,11 +7,9 @@ use Prim.Native.Nat.{ℕ, zero, suc, _+_, _-_}
 use native.Mathlib.Omega.{arith}
 use lib.ListN.{length, replicate, length-replicate, length-append}
 use lib.Dec.{eqb, ltb}
-use Rattle.words.specs.Basics.{none, plus}
+use Rattle.words.specs.Basics.{none}
 use Rattle.words.specs.Tests.{decided}
 use Rattle.sizes.specs.Sizes.{treeNodes}
-use Rattle.pool.specs.Pool.{refcount, left, right, freed, release}
-use Rattle.pool.specs.Theory.Nodes.{length-setNode, length-setRefcount}
 use Rattle.frames.specs.declared.Frame.{Frame}
 use Rattle.frames.specs.Widths.{maxPlaces, dequeWords}
 use Rattle.frames.specs.Frames.{frameAt, setFrame}
@@ -36,6 +34,8 @@ use Rattle.semantics.specs.Promises.{Fits}
 use Rattle.semantics.specs.Calls.{HostCall, outside, tape, StateAndPool, afterCall}
 pub use Rattle.semantics.specs.Theory.Fitting.{fits-true, true-fits, state-back}
 use Rattle.semantics.specs.Theory.Fitting.{totals-long}
+use Rattle.soundness.specs.Layout.{Layout}
+use Rattle.semantics.specs.Theory.Pools.{PoolLaws}
 
 -- ---- the deques
 
@@ -112,27 +112,6 @@ spawn-long t w =
     let linked : AsLong t t′ = record { deques = refl; frames = length-link (t .frames) p (t .«free_place») } in
     as-long-trans linked (add-long t′ w)
 
-length-release : (l : ℕ) (ws : List ℕ) (free k i : ℕ) → length (release l ws free k i .0) ≡ length ws
-unfolding release
-length-release zero ws free k i = elim (decided (eqb i none)) [
-  | inl e ↦ rw (e, release) refl
-  | inr e ↦ elim (decided (eqb (refcount ws i - 1) 0)) [
-    | inl d ↦ rw (e, d, release) (length-setNode ws i 0 free 0 0)
-    | inr d ↦ rw (e, d, release) (length-setRefcount ws i (refcount ws i - 1))
-  ]
-]
-length-release (suc l) ws free k i =
-    let p : List ℕ × ℕ × ℕ = release l (freed ws free i) i (plus k 1) (left ws i) in
-    let first : length (p .0) ≡ length ws = length-release l (freed ws free i) i (plus k 1) (left ws i) ∙ length-setNode ws i 0 free 0 0 in
-    let both : length (release l (p .0) (p .1) (p .2) (right ws i) .0) ≡ length ws = length-release l (p .0) (p .1) (p .2) (right ws i) ∙ first in
-    elim (decided (eqb i none)) [
-      | inl e ↦ rw (e, release) refl
-      | inr e ↦ elim (decided (eqb (refcount ws i - 1) 0)) [
-        | inl d ↦ rw (e, d, release) both
-        | inr d ↦ rw (e, d, release) (length-setRefcount ws i (refcount ws i - 1))
-      ]
-    ]
-
 -- ---- a return
 
 -- a core's table and pool are as long as before, and its totals have their length if they had it
@@ -156,38 +135,39 @@ table-long c t h = record { table = record { deques = h .deques; frames = h .fra
 after-long : (c : Core) (f : Frame) → length (c .totals) ≡ totalCount → length (totalsAfter c f) ≡ totalCount
 after-long c f h = elim (decided (eqb (f .parent) none)) [ inl e ↦ rw e | inr e ↦ rw e h ]
 
-endAt-long : (c : Core) (p : ℕ) → CoreAsLong c (endAt c p)
-unfolding endAt
-endAt-long c p = record {
-  table = record { deques = refl; frames = length-end (c .frames) (c .head .numbers .«free_place») p };
-  totals = after-long c (frameAt (c .frames) p);
-  pool = length-release (c .head .height) (c .pool) (c .head .numbers .«free_node») (c .head .«free_count») (frameAt (c .frames) p .root);
-}
+module _ (layout : Layout) (pools : PoolLaws layout) where
+  endAt-long : (c : Core) (p : ℕ) → CoreAsLong c (endAt layout c p)
+  unfolding endAt
+  endAt-long c p = record {
+    table = record { deques = refl; frames = length-end (c .frames) (c .head .numbers .«free_place») p };
+    totals = after-long c (frameAt (c .frames) p);
+    pool = pools .length-release (c .head .numbers .nodes) (c .head .height) (c .pool) (c .head .numbers .«free_node») (c .head .«free_count») (frameAt (c .frames) p .root);
+  }
 
-upward-long : (d : ℕ) (c : Core) (w q : ℕ) → CoreAsLong c (upward d c w q .core)
-unfolding upward
-upward-long zero c w q = record { table = as-long-refl (tableOf c); totals = λ h. h; pool = refl }
-upward-long (suc d) c w q =
-    either-result (endsToo (frameAt (c .frames) q)) c _ _ (core-long-trans (endAt-long c q) (upward-long d (endAt c q) w (frameAt (c .frames) q .parent)))
-    (table-long c _ (goOn-long (tableOf c) w q))
+  upward-long : (d : ℕ) (c : Core) (w q : ℕ) → CoreAsLong c (upward layout d c w q .core)
+  unfolding upward
+  upward-long zero c w q = record { table = as-long-refl (tableOf c); totals = λ h. h; pool = refl }
+  upward-long (suc d) c w q =
+      either-result (endsToo (frameAt (c .frames) q)) c _ _ (core-long-trans (endAt-long c q) (upward-long d (endAt layout c q) w (frameAt (c .frames) q .parent)))
+      (table-long c _ (goOn-long (tableOf c) w q))
 
-endBottom-long : (c : Core) (w : ℕ) → CoreAsLong c (endBottom c w .core)
-unfolding endBottom
-endBottom-long c w =
-    let p : ℕ = bottom (c .deques) w in
-    let c′ : Core = endAt (popped c w) p in
-    let P : CoreAsLong c (popped c w) = record { table = record { deques = length-pop (c .deques) w; frames = refl }; totals = λ h. h; pool = refl } in
-    let E : CoreAsLong c c′ = core-long-trans P (endAt-long (popped c w) p) in
-    either-result (eqb (size (c′ .deques) w) 0) c _ _ (core-long-trans E (upward-long (actingIn c w .depth) c′ w (actingIn c w .parent))) E
+  endBottom-long : (c : Core) (w : ℕ) → CoreAsLong c (endBottom layout c w .core)
+  unfolding endBottom
+  endBottom-long c w =
+      let p : ℕ = bottom (c .deques) w in
+      let c′ : Core = endAt layout (popped c w) p in
+      let P : CoreAsLong c (popped c w) = record { table = record { deques = length-pop (c .deques) w; frames = refl }; totals = λ h. h; pool = refl } in
+      let E : CoreAsLong c c′ = core-long-trans P (endAt-long (popped c w) p) in
+      either-result (eqb (size (c′ .deques) w) 0) c _ _ (core-long-trans E (upward-long (actingIn c w .depth) c′ w (actingIn c w .parent))) E
 
-return-long : (c : Core) (w : ℕ) → CoreAsLong c (returnOn c w .core)
-unfolding returnOn
-return-long c w =
-    either-result (eqb (actingIn c w .outstanding) 0) c _ _ (endBottom-long c w) (table-long c _ (suspend-long (tableOf c) w _))
+  return-long : (c : Core) (w : ℕ) → CoreAsLong c (returnOn layout c w .core)
+  unfolding returnOn
+  return-long c w =
+      either-result (eqb (actingIn c w .outstanding) 0) c _ _ (endBottom-long c w) (table-long c _ (suspend-long (tableOf c) w _))
 
--- the pool is as long as before
-pub return-pool : (c : Core) (w : ℕ) → length (returnOn c w .core .pool) ≡ length (c .pool)
-return-pool c w = return-long c w .pool
+  -- the pool is as long as before
+  pub return-pool : (c : Core) (w : ℕ) → length (returnOn layout c w .core .pool) ≡ length (c .pool)
+  return-pool c w = return-long c w .pool
 
 -- ---- a step
 
@@ -209,40 +189,42 @@ parts-fit {c} {c′} L f = core-fits c′ (L .totals (fits-totals c f)) (L .tabl
 parts-refl : (c : Core) → PartsAsLong c c
 parts-refl c = record { table = as-long-refl (tableOf c); totals = λ h. h }
 
-done-long : (c : Core) (st : Step) → PartsAsLong c (doneBy c st .core)
-done-long c (Spawn w) = let L = spawn-long (tableOf c) w in unfold spawnOn in record { table = record { deques = L .deques; frames = L .frames }; totals = λ h. h }
-done-long c (Return w) = let L = return-long c w in record { table = L .table; totals = L .totals }
-done-long c (Steal w v) = let L = steal-long (tableOf c) w v in unfold stealOn in record { table = record { deques = L .deques; frames = refl }; totals = λ h. h }
-done-long c (Sync w) = let L = sync-long (tableOf c) w in unfold syncOn in record { table = record { deques = L .deques; frames = L .frames }; totals = λ h. h }
-done-long c (Read w x) = unfold readOn in parts-refl c
-done-long c (Write w x v) = unfold writeOn in record { table = record { deques = refl; frames = length-setFrame (c .frames) (bottom (c .deques) w) _ }; totals = λ h. h }
-done-long c (Fold w r v) = let L = fold-long (tableOf c) w r v in unfold foldOn in record { table = record { deques = refl; frames = L .frames }; totals = λ h. h }
+module _ (layout : Layout) (pools : PoolLaws layout) where
+  done-long : (c : Core) (st : Step) → PartsAsLong c (doneBy layout c st .core)
+  done-long c (Spawn w) = let L = spawn-long (tableOf c) w in unfold spawnOn in record { table = record { deques = L .deques; frames = L .frames }; totals = λ h. h }
+  done-long c (Return w) = let L = return-long layout pools c w in record { table = L .table; totals = L .totals }
+  done-long c (Steal w v) = let L = steal-long (tableOf c) w v in unfold stealOn in record { table = record { deques = L .deques; frames = refl }; totals = λ h. h }
+  done-long c (Sync w) = let L = sync-long (tableOf c) w in unfold syncOn in record { table = record { deques = L .deques; frames = L .frames }; totals = λ h. h }
+  done-long c (Read w x) = unfold readOn in parts-refl c
+  done-long c (Write w x v) = unfold writeOn in record { table = record { deques = refl; frames = length-setFrame (c .frames) (bottom (c .deques) w) _ }; totals = λ h. h }
+  done-long c (Fold w r v) = let L = fold-long (tableOf c) w r v in unfold foldOn in record { table = record { deques = refl; frames = L .frames }; totals = λ h. h }
 
 judged-long : (ts : List (Bool × Refusal)) (c : Core) (d : StepResult) → PartsAsLong c (d .core) → PartsAsLong c (judged ts c d .core)
 judged-long [] c d L = L
 judged-long (t ∷ ts) c d L = elim (decided (t .0)) [ inl e ↦ rw e (parts-refl c) | inr e ↦ rw e (judged-long ts c d L) ]
 
-record-long : (c : Core) (d : Decoded) → PartsAsLong c (recordOn c d .core)
-unfolding stepOn
-record-long c (Valid st) = judged-long (testsOf c st) c (doneBy c st) (done-long c st)
-record-long c Invalid = parts-refl c
+module _ (layout : Layout) (pools : PoolLaws layout) where
+  record-long : (c : Core) (d : Decoded) → PartsAsLong c (recordOn layout c d .core)
+  unfolding stepOn
+  record-long c (Valid st) = judged-long (testsOf layout c st) c (doneBy layout c st) (done-long layout pools c st)
+  record-long c Invalid = parts-refl c
 
-pub record-fits : (c : Core) (d : Decoded) → Fits (stateOf c) → Fits (stateOf (recordOn c d .core))
-record-fits c d f = parts-fit (record-long c d) f
+  pub record-fits : (c : Core) (d : Decoded) → Fits (stateOf c) → Fits (stateOf (recordOn layout c d .core))
+  record-fits c d f = parts-fit (record-long c d) f
 
--- R-6: the table has as many places as before
-pub record-places : (c : Core) (d : Decoded) → length (recordOn c d .core .frames) ≡ length (c .frames)
-record-places c d = record-long c d .table .frames
+  -- R-6: the table has as many places as before
+  pub record-places : (c : Core) (d : Decoded) → length (recordOn layout c d .core .frames) ≡ length (c .frames)
+  record-places c d = record-long c d .table .frames
 
-run-fits : (ds : List Decoded) (c : Core) (as′ : List ℕ) (k : ℕ) → Fits (stateOf c) → Fits (stateOf (runOn (recordsResult c as′) k ds .core))
-unfolding runOn
-run-fits [] c as′ k f = f
-run-fits (d ∷ ds) c as′ k f = run-fits ds (recordOn c d .core) _ (k + 2) (record-fits c d f)
+  run-fits : (ds : List Decoded) (c : Core) (as′ : List ℕ) (k : ℕ) → Fits (stateOf c) → Fits (stateOf (runOn layout (recordsResult c as′) k ds .core))
+  unfolding runOn
+  run-fits [] c as′ k f = f
+  run-fits (d ∷ ds) c as′ k f = run-fits ds (recordOn layout c d .core) _ (k + 2) (record-fits c d f)
 
-pub run-places : (ds : List Decoded) (c : Core) (as′ : List ℕ) (k : ℕ) → length (runOn (recordsResult c as′) k ds .core .frames) ≡ length (c .frames)
-unfolding runOn
-run-places [] c as′ k = refl
-run-places (d ∷ ds) c as′ k = run-places ds (recordOn c d .core) _ (k + 2) ∙ record-places c d
+  pub run-places : (ds : List Decoded) (c : Core) (as′ : List ℕ) (k : ℕ) → length (runOn layout (recordsResult c as′) k ds .core .frames) ≡ length (c .frames)
+  unfolding runOn
+  run-places [] c as′ k = refl
+  run-places (d ∷ ds) c as′ k = run-places ds (recordOn layout c d .core) _ (k + 2) ∙ record-places c d
 
 -- ---- the entries
 
@@ -256,71 +238,73 @@ first-fits workers n nodes free fs = record { numbers = refl; deques = length-pu
 either-start : (b : Bool) (x y : StartResult) → Fits (x .state) → Fits (y .state) → Fits (cond b x y .state)
 either-start b x y f g = elim (decided b) [ inl e ↦ rw e f | inr e ↦ rw e g ]
 
--- whatever the lent parts hold
-pub start-with-fits : (workers : ℕ) (vs : List ℕ) (fs : List Frame) (ws : List ℕ) → Fits (startWith workers vs fs ws .state)
-unfolding startWith
-start-with-fits workers vs fs ws =
-    either-start (eqb (length vs) 0 || ltb 256 (length vs)) _ _ (zeros-fit fs)
-    (either-start (eqb workers 0 || ltb 8 workers) _ _ (zeros-fit fs)
-    (either-start (eqb (length fs) 0 || ltb maxPlaces (length fs)) _ _ (zeros-fit fs)
-    (either-start (ltb (wholeNodes ws) (treeNodes (length vs)) || ltb 16384 (wholeNodes ws)) _ _ (zeros-fit fs)
-    (first-fits workers (length vs) (wholeNodes ws) _ fs))))
+module _ (layout : Layout) where
+  -- whatever the lent parts hold
+  pub start-with-fits : (workers : ℕ) (vs : List ℕ) (fs : List Frame) (ws : List ℕ) → Fits (startWith layout workers vs fs ws .state)
+  unfolding startWith
+  start-with-fits workers vs fs ws =
+      either-start (eqb (length vs) 0 || ltb 256 (length vs)) _ _ (zeros-fit fs)
+      (either-start (eqb workers 0 || ltb 8 workers) _ _ (zeros-fit fs)
+      (either-start (eqb (length fs) 0 || ltb maxPlaces (length fs)) _ _ (zeros-fit fs)
+      (either-start (ltb (wholeNodes layout ws) (treeNodes (length vs)) || ltb 16384 (wholeNodes layout ws)) _ _ (zeros-fit fs)
+      (first-fits workers (length vs) (wholeNodes layout ws) _ fs))))
 
-module _ (s : State) (f : Fits s) where
-  pub start-fits : (workers : ℕ) (vs ws : List ℕ) → Fits (startOn s workers vs ws .state)
-  unfolding startOn
-  start-fits workers vs ws = rw (fits-true s f) (start-with-fits workers vs (s .frames) ws)
+module _ (layout : Layout) (pools : PoolLaws layout) where
+  module _ (s : State) (f : Fits s) where
+    pub start-fits : (workers : ℕ) (vs ws : List ℕ) → Fits (startOn layout s workers vs ws .state)
+    unfolding startOn
+    start-fits workers vs ws = rw (fits-true s f) (start-with-fits layout workers vs (s .frames) ws)
 
-  module _ (ws work : List ℕ) where
-    outside-checked-fits : (k : Checked) (d : Decoded) → Fits (outsideChecked k s ws work d .state)
-    outside-checked-fits NoRoom d = f
-    outside-checked-fits Checked.Unsound d = f
-    outside-checked-fits (Sound n) d = record-fits (coreOf s ws n) d (core-fits (coreOf s ws n) (totals-long s f) (f .deques))
+    module _ (ws work : List ℕ) where
+      outside-checked-fits : (k : Checked) (d : Decoded) → Fits (outsideChecked layout k s ws work d .state)
+      outside-checked-fits NoRoom d = f
+      outside-checked-fits Checked.Unsound d = f
+      outside-checked-fits (Sound n) d = record-fits layout pools (coreOf s ws n) d (core-fits (coreOf s ws n) (totals-long s f) (f .deques))
 
-    pub outside-fits : (d : Decoded) → Fits (outsideOn s ws work d .state)
+      pub outside-fits : (d : Decoded) → Fits (outsideOn layout s ws work d .state)
+      unfolding outsideOn outsideWith
+      outside-fits d = rw (fits-true s f) (outside-checked-fits (checkedState layout s ws work) d)
+
+      module _ (bytes rs : List ℕ) where
+        tape-checked-fits : (k : Checked) → Fits (tapeChecked layout k s ws work bytes rs .state)
+        tape-checked-fits NoRoom = f
+        tape-checked-fits Checked.Unsound = f
+        tape-checked-fits (Sound n) = run-fits layout pools (recordsOf bytes) (coreOf s ws n) rs 0 (core-fits (coreOf s ws n) (totals-long s f) (f .deques))
+
+        pub tape-fits : Fits (tapeOn layout s ws work bytes rs .state)
+        unfolding tapeOn tapeWith
+        tape-fits = rw (fits-true s f) (elim (decided (unfitTape bytes rs)) [ inl e ↦ rw e f | inr e ↦ rw e (tape-checked-fits (checkedState layout s ws work)) ])
+
+  -- ---- R-6: the table has as many places as before, refused or not
+
+  module _ (s : State) (ws work : List ℕ) where
+    outside-checked-places : (k : Checked) (d : Decoded) → length (outsideChecked layout k s ws work d .state .frames) ≡ length (s .frames)
+    outside-checked-places NoRoom d = refl
+    outside-checked-places Checked.Unsound d = refl
+    outside-checked-places (Sound n) d = record-places layout pools (coreOf s ws n) d
+
+    outside-places : (d : Decoded) → length (outsideOn layout s ws work d .state .frames) ≡ length (s .frames)
     unfolding outsideOn outsideWith
-    outside-fits d = rw (fits-true s f) (outside-checked-fits (checkedState s ws work) d)
+    outside-places d = elim (decided (fits s)) [ inl e ↦ rw e (outside-checked-places (checkedState layout s ws work) d) | inr e ↦ rw e refl ]
 
-    module _ (bytes rs : List ℕ) where
-      tape-checked-fits : (k : Checked) → Fits (tapeChecked k s ws work bytes rs .state)
-      tape-checked-fits NoRoom = f
-      tape-checked-fits Checked.Unsound = f
-      tape-checked-fits (Sound n) = run-fits (recordsOf bytes) (coreOf s ws n) rs 0 (core-fits (coreOf s ws n) (totals-long s f) (f .deques))
+    tape-checked-places : (k : Checked) (bytes rs : List ℕ) → length (tapeChecked layout k s ws work bytes rs .state .frames) ≡ length (s .frames)
+    tape-checked-places NoRoom bytes rs = refl
+    tape-checked-places Checked.Unsound bytes rs = refl
+    tape-checked-places (Sound n) bytes rs = run-places layout pools (recordsOf bytes) (coreOf s ws n) rs 0
 
-      pub tape-fits : Fits (tapeOn s ws work bytes rs .state)
-      unfolding tapeOn tapeWith
-      tape-fits = rw (fits-true s f) (elim (decided (unfitTape bytes rs)) [ inl e ↦ rw e f | inr e ↦ rw e (tape-checked-fits (checkedState s ws work)) ])
+    tape-places : (bytes rs : List ℕ) → length (tapeOn layout s ws work bytes rs .state .frames) ≡ length (s .frames)
+    unfolding tapeOn tapeWith
+    tape-places bytes rs = elim (decided (fits s)) [
+      | inl e ↦ elim (decided (unfitTape bytes rs)) [ inl t ↦ rw (e, t) refl | inr t ↦ rw (e, t) (tape-checked-places (checkedState layout s ws work) bytes rs) ]
+      | inr e ↦ rw e refl
+    ]
 
--- ---- R-6: the table has as many places as before, refused or not
+  pub call-places : (h : StateAndPool) (c : HostCall) → length (afterCall layout h c .state .frames) ≡ length (h .state .frames)
+  call-places h (outside kind worker field value work) = outside-places (h .state) (h .pool) work (recordOf kind worker field value)
+  call-places h (tape bytes work answers) = tape-places (h .state) (h .pool) work bytes answers
 
-module _ (s : State) (ws work : List ℕ) where
-  outside-checked-places : (k : Checked) (d : Decoded) → length (outsideChecked k s ws work d .state .frames) ≡ length (s .frames)
-  outside-checked-places NoRoom d = refl
-  outside-checked-places Checked.Unsound d = refl
-  outside-checked-places (Sound n) d = record-places (coreOf s ws n) d
+  -- ---- calls
 
-  outside-places : (d : Decoded) → length (outsideOn s ws work d .state .frames) ≡ length (s .frames)
-  unfolding outsideOn outsideWith
-  outside-places d = elim (decided (fits s)) [ inl e ↦ rw e (outside-checked-places (checkedState s ws work) d) | inr e ↦ rw e refl ]
-
-  tape-checked-places : (k : Checked) (bytes rs : List ℕ) → length (tapeChecked k s ws work bytes rs .state .frames) ≡ length (s .frames)
-  tape-checked-places NoRoom bytes rs = refl
-  tape-checked-places Checked.Unsound bytes rs = refl
-  tape-checked-places (Sound n) bytes rs = run-places (recordsOf bytes) (coreOf s ws n) rs 0
-
-  tape-places : (bytes rs : List ℕ) → length (tapeOn s ws work bytes rs .state .frames) ≡ length (s .frames)
-  unfolding tapeOn tapeWith
-  tape-places bytes rs = elim (decided (fits s)) [
-    | inl e ↦ elim (decided (unfitTape bytes rs)) [ inl t ↦ rw (e, t) refl | inr t ↦ rw (e, t) (tape-checked-places (checkedState s ws work) bytes rs) ]
-    | inr e ↦ rw e refl
-  ]
-
-pub call-places : (h : StateAndPool) (c : HostCall) → length (afterCall h c .state .frames) ≡ length (h .state .frames)
-call-places h (outside kind worker field value work) = outside-places (h .state) (h .pool) work (recordOf kind worker field value)
-call-places h (tape bytes work answers) = tape-places (h .state) (h .pool) work bytes answers
-
--- ---- calls
-
-pub call-fits : (h : StateAndPool) (c : HostCall) → Fits (h .state) → Fits (afterCall h c .state)
-call-fits h (outside kind worker field value work) f = outside-fits (h .state) f (h .pool) work (recordOf kind worker field value)
-call-fits h (tape bytes work answers) f = tape-fits (h .state) f (h .pool) work bytes answers
+  pub call-fits : (h : StateAndPool) (c : HostCall) → Fits (h .state) → Fits (afterCall layout h c .state)
+  call-fits h (outside kind worker field value work) f = outside-fits (h .state) f (h .pool) work (recordOf kind worker field value)
+  call-fits h (tape bytes work answers) f = tape-fits (h .state) f (h .pool) work bytes answers

@@ -13,6 +13,7 @@ use Rattle.frames.specs.Theory.Relinked.{children-same}
 use Rattle.model.specs.Machine.{Name, Frame, Machine, live}
 use Rattle.semantics.specs.Core.{Core}
 use Rattle.semantics.specs.Theory.Relation.{Trees, Relates, Links, TotalsKept, Keeps}
+use Rattle.soundness.specs.Layout.{Layout}
 
 -- each frame of L′ has the name of one of L
 abbrev pub NamedIn : List Frame → List Frame → Type 0
@@ -35,12 +36,14 @@ module _ (fs gs : List FrameRecord) (same-length : length gs ≡ length fs) (sam
         same-link (at′ (f .name)) ∙ ap (younger fs) (places (f .name) ∙ ap at (sym (x .2))) ∙ K .main-link (x .0) (x .1) (x .2 ∙ e);
   }
 
-pub keeps-links : {P : Trees} {M M′ : Machine} {c c′ : Core} {r : Relates P M c} {r′ : Relates P M′ c′} → Keeps r r′ → Links (c .frames) (r .at) (live M) → Links (c′ .frames) (r′ .at) (live M′)
-keeps-links {M = M} {M′ = M′} {c = c} {c′ = c′} {r = r} {r′ = r′} K = links-kept (c .frames) (c′ .frames) (K .same-length) (K .live) (K .parent) (K .link) (r .at) (r′ .at) (live M) (live M′) (K .places) (K .from)
+module _ (layout : Layout) where
+  pub keeps-links : {P : Trees} {M M′ : Machine} {c c′ : Core} {r : Relates layout P M c} {r′ : Relates layout P M′ c′} → Keeps layout r r′ → Links (c .frames) (r .at) (live M) → Links (c′ .frames) (r′ .at) (live M′)
+  keeps-links {M = M} {M′ = M′} {c = c} {c′ = c′} {r = r} {r′ = r′} K = links-kept (c .frames) (c′ .frames) (K .same-length) (K .live) (K .parent) (K .link) (r .at) (r′ .at) (live M) (live M′) (K .places) (K .from)
 
 pub totals-kept : {ts : List ℕ} {L L′ : List Frame} → NamedIn L L′ → TotalsKept ts L → TotalsKept ts L′
 totals-kept n K = record { long = K .long; zero = λ f m e. K .zero (n f m .0) (n f m .1) (n f m .2 ∙ e) }
 
--- nothing changes
-pub keeps-same : {P : Trees} {M : Machine} {c : Core} (r : Relates P M c) → Keeps r r
-keeps-same r = record { same-length = refl; places = λ n. refl; live = λ p. refl; parent = λ p. refl; view = λ p. refl; link = λ p. refl; from = λ f m. (f, m, refl); to = λ f m. (f, m, refl); totals = refl }
+module _ (layout : Layout) where
+  -- nothing changes
+  pub keeps-same : {P : Trees} {M : Machine} {c : Core} (r : Relates layout P M c) → Keeps layout r r
+  keeps-same r = record { same-length = refl; places = λ n. refl; live = λ p. refl; parent = λ p. refl; view = λ p. refl; link = λ p. refl; from = λ f m. (f, m, refl); to = λ f m. (f, m, refl); totals = refl }

@@ -27,6 +27,7 @@ use Rattle.model.specs.Theory.LiveRun.{Disjoint}
 use Rattle.model.specs.Theory.FrameTree.{Rooted, names-apart}
 use Rattle.semantics.specs.Core.{Core, actingIn}
 use Rattle.semantics.specs.Theory.Relation.{Trees, Relates, Recorded, SameNumbers, bit, parentPlace, childCount, placesOf, rootOf}
+use Rattle.soundness.specs.Layout.{Layout}
 
 -- ---- permutations
 
@@ -236,27 +237,28 @@ pub recorded-kept : (fs fs′ : List FrameRecord) (at at′ : Name → ℕ) (L L
 recorded-kept fs fs′ at at′ L L′ s f el ea eF ep ec R =
     recorded-as fs′ at′ L′ s f (at (f .name)) (frameAt fs (at (f .name))) ea eF (omega (arith, el, R .inside)) (R .live) (R .parent ∙ sym ep) (R .depth) (R .outstanding ∙ sym ec) (R .suspended) (R .returning)
 
--- ---- a live frame's place
+module _ (layout : Layout) where
+  -- ---- a live frame's place
 
-module _ {P : Trees} {M : Machine} {c : Core} (r : Relates P M c) where
-  -- each live frame has a record
-  pub recorded : (f : Frame) → In f (live M) → (s : ℕ) × Recorded (c .frames) (r .at) (live M) s f
-  recorded f m = elim (In-cases (M .suspended) m) [ inl i ↦ (1, r .waiting f i) | inr i ↦ (0, r .running f i) ]
+  module _ {P : Trees} {M : Machine} {c : Core} (r : Relates layout P M c) where
+    -- each live frame has a record
+    pub recorded : (f : Frame) → In f (live M) → (s : ℕ) × Recorded (c .frames) (r .at) (live M) s f
+    recorded f m = elim (In-cases (M .suspended) m) [ inl i ↦ (1, r .waiting f i) | inr i ↦ (0, r .running f i) ]
 
-  pub placed-inside : (f : Frame) → In f (live M) → r .at (f .name) < length (c .frames)
-  placed-inside f m = recorded f m .1 .inside
+    pub placed-inside : (f : Frame) → In f (live M) → r .at (f .name) < length (c .frames)
+    placed-inside f m = recorded f m .1 .inside
 
-  -- it is not free
-  pub placed-taken : (f : Frame) → In f (live M) → count (r .at (f .name)) (r .gs) ≡ 0
-  placed-taken f m = omega (arith, r .once (r .at (f .name)) (placed-inside f m), count-place (r .at) m)
+    -- it is not free
+    pub placed-taken : (f : Frame) → In f (live M) → count (r .at (f .name)) (r .gs) ≡ 0
+    placed-taken f m = omega (arith, r .once (r .at (f .name)) (placed-inside f m), count-place (r .at) m)
 
-  -- it is no other's
-  pub placed-apart : (f g : Frame) → In f (live M) → In g (live M) → f .name ≢ g .name → r .at (f .name) ≢ r .at (g .name)
-  placed-apart f g mf mg ne z = omega (arith, r .once (r .at (f .name)) (placed-inside f mf), count-two (r .at) f g (live M) mf mg ne z)
+    -- it is no other's
+    pub placed-apart : (f g : Frame) → In f (live M) → In g (live M) → f .name ≢ g .name → r .at (f .name) ≢ r .at (g .name)
+    placed-apart f g mf mg ne z = omega (arith, r .once (r .at (f .name)) (placed-inside f mf), count-two (r .at) f g (live M) mf mg ne z)
 
-  -- no more frames live than there are places
-  pub live-few : length (live M) ≤ length (c .frames)
-  live-few = frames-le (length (c .frames)) (r .at) (r .gs) (live M) (r .once) placed-inside
+    -- no more frames live than there are places
+    pub live-few : length (live M) ≤ length (c .frames)
+    live-few = frames-le (length (c .frames)) (r .at) (r .gs) (live M) (r .once) placed-inside
 
 -- ---- trees and numbers
 
@@ -284,20 +286,21 @@ same-numbers M c c′ ds ss e n e₁ e₂ e₃ e₄ e₅ e₆ = record {
   table = n .table ∙ sym e₆;
 }
 
--- ---- the acting frame: q is the bottom of worker w's deque, d are the frames above it
+module _ (layout : Layout) where
+  -- ---- the acting frame: q is the bottom of worker w's deque, d are the frames above it
 
-module _ {P : Trees} {M : Machine} {c : Core} (r : Relates P M c) (w : ℕ) (q : Frame) (d : List Frame) (lt : w < length (M .deques)) (e : deque M w ≡ q ∷ d) where
-  pub worker-few : w < 8
-  worker-few = omega (arith, lt, r .numbers .workers-le)
+  module _ {P : Trees} {M : Machine} {c : Core} (r : Relates layout P M c) (w : ℕ) (q : Frame) (d : List Frame) (lt : w < length (M .deques)) (e : deque M w ≡ q ∷ d) where
+    pub worker-few : w < 8
+    worker-few = omega (arith, lt, r .numbers .workers-le)
 
-  pub acting-deque : dequeList (c .deques) w ≡ r .at (q .name) ∷ placesOf (r .at) d
-  acting-deque = r .deques w worker-few ∙ ap (placesOf (r .at)) e
+    pub acting-deque : dequeList (c .deques) w ≡ r .at (q .name) ∷ placesOf (r .at) d
+    acting-deque = r .deques w worker-few ∙ ap (placesOf (r .at)) e
 
-  pub acting-place : bottom (c .deques) w ≡ r .at (q .name)
-  acting-place = list-head (c .deques) w (r .at (q .name)) (placesOf (r .at) d) acting-deque
+    pub acting-place : bottom (c .deques) w ≡ r .at (q .name)
+    acting-place = list-head (c .deques) w (r .at (q .name)) (placesOf (r .at) d) acting-deque
 
-  pub acting-frame : actingIn c w ≡ frameAt (c .frames) (r .at (q .name))
-  acting-frame = ap (frameAt (c .frames)) acting-place
+    pub acting-frame : actingIn c w ≡ frameAt (c .frames) (r .at (q .name))
+    acting-frame = ap (frameAt (c .frames)) acting-place
 
-  pub acting-record : Recorded (c .frames) (r .at) (live M) 0 q
-  acting-record = r .running q (In-perm (Permᴰ·symm (joined-at (M .deques) w (q ∷ d) lt e)) (here refl))
+    pub acting-record : Recorded (c .frames) (r .at) (live M) 0 q
+    acting-record = r .running q (In-perm (Permᴰ·symm (joined-at (M .deques) w (q ∷ d) lt e)) (here refl))

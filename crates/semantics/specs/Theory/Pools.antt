@@ -1,117 +1,81 @@
--- The two pool predicates that the relation is used with: any live pool, whose frames have no history that counts, and the pool of a
--- run from a start.
-use mathlib.Core.Path.{_≡_, refl}
-use mathlib.Core.List.{List·Memᴰ·head as here}
-use mathlib.Core.List.{List, _∷_}
-use Prim.Native.Nat.{ℕ, _+_, _*_, _≤_, _<_}
-use native.Mathlib.Omega.{arith}
-use lib.ListN.{length, drop, length-map}
-use Rattle.words.specs.Basics.{none}
-use Rattle.sizes.specs.Sizes.{height}
-use Rattle.sizes.specs.Heights.{height-covers}
-use Rattle.pool.specs.Pool.{retain, release, rest, write}
-use Rattle.pool.specs.Theory.Operations.{Live, Spawned, Returned, live-perm, live-spawn, live-return}
-use Rattle.pool.specs.Theory.Write.{Written, live-write}
-use Rattle.pool.specs.Theory.Sharing.{Frame, rootsOf, root-of}
-use Rattle.pool.specs.Theory.Good.{Good, count-roots, good-perm, good-spawn, good-return, good-write}
+-- What the theory of steps and runs asks of the pools of a layout: two predicates, any live pool, whose frames have no history that counts, and the
+-- pool of a run from a start; and laws of them. FourPools and TwoPools have them for the two layouts.
+use mathlib.Core.Path.{_≡_}
+use mathlib.Core.Logic.{_↔_}
+use mathlib.Core.Bool.{true}
+use mathlib.Core.List.{List, [], _∷_}
+use Prim.Native.Nat.{ℕ, _+_, _-_, _*_, _/_, _≤_, _<_}
+use lib.ListN.{length, getD, drop}
+use Rattle.words.specs.Basics.{count}
+use Rattle.words.specs.Below.{Words}
+use Rattle.sizes.specs.Sizes.{height, treeNodes}
+use Rattle.pool.specs.Theory.Sharing.{Frame, Fresh, rootsOf}
+use Rattle.pool.specs.Theory.InUse.{historiesOf}
+use Rattle.pool.specs.Theory.Words.{PoolWords, WrittenWords}
 use Rattle.frames.specs.Widths.{maxPlaces}
-use Rattle.model.specs.History.{History}
-use Rattle.semantics.specs.Theory.Relation.{Trees, TreeLaws, event}
+use Rattle.soundness.specs.Layout.{Layout, poolSound}
+use Rattle.model.specs.History.{Event, History, nodesInUse}
+use Rattle.semantics.specs.Theory.Relation.{Trees, Kept, TreeLaws}
 
--- a live pool of N nodes for n splitters: the frames' histories do not matter
-pub record LiveTrees (N n : ℕ) (ws : List ℕ) (free k : ℕ) (Fs : List Frame) : Type 0 where
-  pub level : ℕ → ℕ
-  pub size : ℕ → ℕ
-  pub fs : List ℕ
-  pub counted : k ≡ length fs
-  pub live : Live N (height n) n level size ws free fs (rootsOf Fs)
+module _ (layout : Layout) where
+  -- the words past the N nodes, and how many words there are
+  abbrev pub Beyond : ℕ → List ℕ → List ℕ → Type 0
+  Beyond N ws ws' = (length ws' ≡ length ws) × (drop (layout .words * N) ws' ≡ drop (layout .words * N) ws)
 
--- the pool of a run from a start
-abbrev pub GoodTrees : ℕ → ℕ → Trees
-GoodTrees N n ws free k Fs = Good N n ws free k Fs
+  -- the same nodes in another slice
+  pub record SameNodes (N : ℕ) (ws ws' : List ℕ) : Type 0 where
+    pub room : layout .words * N ≤ length ws'
+    pub same : (i : ℕ) → i < layout .words * N → getD ws' i 0 ≡ getD ws i 0
 
-pub good-live : {N n : ℕ} {ws : List ℕ} {free k : ℕ} {Fs : List Frame} → GoodTrees N n ws free k Fs → LiveTrees N n ws free k Fs
-good-live G = record { level = G .level; size = G .size; fs = G .fs; counted = G .counted; live = G .live }
+  -- the predicate P holds there too, and the frames read what they read here
+  abbrev pub Elsewhere : ℕ → ℕ → Trees → Type 0
+  Elsewhere N n P = (ws ws' : List ℕ) (free k : ℕ) (Fs : List Frame) → P ws free k Fs → SameNodes N ws ws' → P ws' free k Fs × Kept layout (height n) n ws ws' Fs
 
--- the words reach all nodes
-pub live-room : {N n : ℕ} {ws : List ℕ} {free k : ℕ} {Fs : List Frame} → LiveTrees N n ws free k Fs → 4 * N ≤ length ws
-live-room T = T .live .inv .room
+  -- the pool of N nodes that a start fills, for n splitters with the values vs
+  abbrev pub Started : ℕ → ℕ → Trees → List ℕ → List ℕ → List ℕ × ℕ → Type 0
+  Started N n P ws vs p =
+      P (p .0) (p .1) (N - treeNodes n) ((0, []) ∷ []) × Beyond N ws (p .0) × ((y : ℕ) → y < n → layout .read (height n) (p .0) 0 y ≡ getD vs y 0)
 
-pub good-room : {N n : ℕ} {ws : List ℕ} {free k : ℕ} {Fs : List Frame} → GoodTrees N n ws free k Fs → 4 * N ≤ length ws
-good-room G = G .live .inv .room
-
--- the words past the N nodes, and how many words there are
-abbrev pub Beyond : ℕ → List ℕ → List ℕ → Type 0
-Beyond N ws ws' = (length ws' ≡ length ws) × (drop (4 * N) ws' ≡ drop (4 * N) ws)
-
-module _ (N n : ℕ) (most : N ≤ 16384) (some : 0 < n) where
-  small : N ≤ none
-  small = omega arith
-
-  -- ---- the operations on a live pool
-
-  spawned : (ws : List ℕ) (free k : ℕ) (F : Frame) (Fs : List Frame) → length Fs < maxPlaces → (T : LiveTrees N n ws free k (F ∷ Fs))
-      → Spawned N (height n) n (T .level) (T .size) ws free (T .fs) (rootsOf (F ∷ Fs)) (F .0) (retain ws (F .0))
-  spawned ws free k F Fs few T =
-      live-spawn N (height n) n small (height-covers n) (T .live) (omega (arith, length-map (F ∷ Fs) (λ (K : Frame). K .0))) (F .0) (root-of F (F ∷ Fs) (here refl))
-
-  returned : (ws : List ℕ) (free k : ℕ) (F : Frame) (Fs : List Frame) → (T : LiveTrees N n ws free k (F ∷ Fs))
-      → Returned N (height n) n (T .level) (T .size) ws (rootsOf Fs) (release (height n) ws free k (F .0))
-  returned ws free k F Fs T = live-return N (height n) n small (height-covers n) k (F .0) (rootsOf Fs) (T .counted) (T .live)
-
-  writeOn : (ws : List ℕ) (free k root : ℕ) (h : History) (Fs : List Frame) (x v : ℕ) → length Fs < maxPlaces → x < n → rest (height n) ws root x ≤ k → (T : LiveTrees N n ws free k ((root, h) ∷ Fs))
-      → Written N (height n) n (T .level) (T .size) ws (rootsOf Fs) root x v (write (height n) ws free k root x v) × (write (height n) ws free k root x v .2 + rest (height n) ws root x ≡ k)
-  writeOn ws free k root h Fs x v few bx enough T =
-      live-write N (height n) n small (height-covers n) (T .level) (T .size) ws free k (T .fs) (rootsOf Fs) root x v (T .live) bx (T .counted) enough
-      (omega (arith, length-map Fs (λ (K : Frame). K .0)))
-
-  pub live-laws : TreeLaws N n (LiveTrees N n)
-  live-laws = record {
-    perm = λ ws free k Fs Fs' p T. record {
-      level = T .level;
-      size = T .size;
-      fs = T .fs;
-      counted = T .counted;
-      live = live-perm N (height n) n small (height-covers n) (rootsOf Fs') (count-roots p) (T .live);
-    };
-    spawn = λ ws free k F Fs few T. (let S = spawned ws free k F Fs few T in (
-      record { level = T .level; size = T .size; fs = T .fs; counted = T .counted; live = S .live },
-      λ K m. S .same (K .0) (root-of K (F ∷ Fs) m) .reads,
-    ));
-    return = λ ws free k F Fs T. (let R = returned ws free k F Fs T in (
-      record { level = T .level; size = T .size; fs = R .fs'; counted = R .counted; live = R .live },
-      λ K m. R .same (K .0) (root-of K Fs m) .reads,
-    ));
-    write = λ ws free k root h Fs x v m few bx enough m≢ fresh T. (let W = writeOn ws free k root h Fs x v few bx enough T .0 in (
-      record { level = W .level'; size = W .size'; fs = W .fs'; counted = W .counted; live = W .live },
-      (λ K m. W .same (K .0) (root-of K Fs m) .reads),
-      W .new-read,
-      W .old-reads,
-    ));
-  }
-
-  pub good-laws : TreeLaws N n (GoodTrees N n)
-  good-laws = record {
-    perm = λ ws free k Fs Fs' p G. good-perm N n most some p G;
-    spawn = λ ws free k F Fs few G. (let A = good-spawn N n most some ws free k F Fs (omega arith) G in (A .good, A .kept));
-    return = λ ws free k F Fs G. (let A = good-return N n most some ws free k F Fs G in (A .good, A .kept));
-    write = λ ws free k root h Fs x v m few bx enough m≢ fresh G.
-        (let A = good-write N n most some ws free k root h Fs (event x m) v (omega arith) bx enough (m≢, fresh) G in (A .0 .good, A .0 .kept, A .1, A .2));
-  }
-
-  -- ---- what they leave
-
-  pub spawn-beyond : (ws : List ℕ) (free k : ℕ) (F : Frame) (Fs : List Frame) → length Fs < maxPlaces → LiveTrees N n ws free k (F ∷ Fs) → Beyond N ws (retain ws (F .0))
-  spawn-beyond ws free k F Fs few T = (let S = spawned ws free k F Fs few T in (S .len, S .rest))
-
-  pub return-beyond : (ws : List ℕ) (free k : ℕ) (F : Frame) (Fs : List Frame) → LiveTrees N n ws free k (F ∷ Fs) → Beyond N ws (release (height n) ws free k (F .0) .0)
-  return-beyond ws free k F Fs T = (let R = returned ws free k F Fs T in (R .len, R .rest))
-
-  pub write-beyond : (ws : List ℕ) (free k root : ℕ) (h : History) (Fs : List Frame) (x v : ℕ) → length Fs < maxPlaces → x < n → rest (height n) ws root x ≤ k → LiveTrees N n ws free k ((root, h) ∷ Fs)
-      → Beyond N ws (write (height n) ws free k root x v .0)
-  write-beyond ws free k root h Fs x v few bx enough T = (let W = writeOn ws free k root h Fs x v few bx enough T .0 in (W .len, W .beyond))
-
-  -- a write takes as many nodes as the rest of its path has
-  pub write-takes : (ws : List ℕ) (free k root : ℕ) (h : History) (Fs : List Frame) (x v : ℕ) → length Fs < maxPlaces → x < n → rest (height n) ws root x ≤ k → LiveTrees N n ws free k ((root, h) ∷ Fs)
-      → write (height n) ws free k root x v .2 + rest (height n) ws root x ≡ k
-  write-takes ws free k root h Fs x v few bx enough T = writeOn ws free k root h Fs x v few bx enough T .1
+  pub record PoolLaws : Type 1 where
+    pub version-le : layout .version ≤ 4
+    pub whole : (k : ℕ) → layout .words * (k / layout .words) ≤ k
+    -- a live pool of N nodes for n splitters, and that of a run from a start
+    pub LiveTrees : ℕ → ℕ → Trees
+    pub GoodTrees : ℕ → ℕ → Trees
+    pub good-live : {N n : ℕ} {ws : List ℕ} {free k : ℕ} {Fs : List Frame} → GoodTrees N n ws free k Fs → LiveTrees N n ws free k Fs
+    pub live-room : {N n : ℕ} {ws : List ℕ} {free k : ℕ} {Fs : List Frame} → LiveTrees N n ws free k Fs → layout .words * N ≤ length ws
+    pub live-root : {N n : ℕ} {ws : List ℕ} {free k : ℕ} {Fs : List Frame} → LiveTrees N n ws free k Fs → (e : ℕ) → 0 < count e (rootsOf Fs) → e < N
+    -- spawn, return and write
+    pub live-laws : (N n : ℕ) → N ≤ 16384 → 0 < n → TreeLaws layout N n (LiveTrees N n)
+    pub good-laws : (N n : ℕ) → N ≤ 16384 → 0 < n → TreeLaws layout N n (GoodTrees N n)
+    -- what they leave
+    pub spawn-beyond : (N n : ℕ) → N ≤ 16384 → 0 < n → (ws : List ℕ) (free k : ℕ) (F : Frame) (Fs : List Frame) → length Fs < maxPlaces → LiveTrees N n ws free k (F ∷ Fs) → Beyond N ws (layout .retain ws (F .0))
+    pub return-beyond : (N n : ℕ) → N ≤ 16384 → 0 < n → (ws : List ℕ) (free k : ℕ) (F : Frame) (Fs : List Frame) → LiveTrees N n ws free k (F ∷ Fs) → Beyond N ws (layout .release N (height n) ws free k (F .0) .0)
+    pub write-beyond : (N n : ℕ) → N ≤ 16384 → 0 < n → (ws : List ℕ) (free k root : ℕ) (h : History) (Fs : List Frame) (x v : ℕ) → length Fs < maxPlaces → x < n → layout .rest (height n) ws root x ≤ k → LiveTrees N n ws free k ((root, h) ∷ Fs)
+        → Beyond N ws (layout .write (height n) ws free k root x v .0)
+    -- a write takes as many nodes as the rest of its path has
+    pub write-takes : (N n : ℕ) → N ≤ 16384 → 0 < n → (ws : List ℕ) (free k root : ℕ) (h : History) (Fs : List Frame) (x v : ℕ) → length Fs < maxPlaces → x < n → layout .rest (height n) ws root x ≤ k → LiveTrees N n ws free k ((root, h) ∷ Fs)
+        → layout .write (height n) ws free k root x v .2 + layout .rest (height n) ws root x ≡ k
+    -- the sentences on trees hold if and only if the pool is a live one; the order of the roots does not matter
+    pub pool-live : (n N : ℕ) → N ≤ 16384 → 0 < n → (ws : List ℕ) (first : ℕ) (rs : List ℕ) (Fs : List Frame) → ((i : ℕ) → count i rs ≡ count i (rootsOf Fs)) → layout .words * N ≤ length ws → poolSound layout n N ws first rs ≡ true
+        → LiveTrees N n ws first (length (layout .freeNodes N ws first)) Fs
+    pub live-pool : (n N : ℕ) → N ≤ 16384 → 0 < n → (ws : List ℕ) (first : ℕ) (rs : List ℕ) (Fs : List Frame) → ((i : ℕ) → count i rs ≡ count i (rootsOf Fs)) → (k : ℕ) → LiveTrees N n ws first k Fs
+        → (poolSound layout n N ws first rs ≡ true) × (length (layout .freeNodes N ws first) ≡ k)
+    -- without a root every node is free, and stands once on the chain
+    pub trees-all-free : (N n : ℕ) → N ≤ 16384 → 0 < n → (ws : List ℕ) (free k : ℕ) (Fs : List Frame) → LiveTrees N n ws free k Fs → rootsOf Fs ≡ [] → (k ≡ N) × ((i : ℕ) → i < N → count i (layout .freeNodes N ws free) ≡ 1)
+    -- the same nodes in another slice
+    pub live-trees : (N n : ℕ) → N ≤ 16384 → Elsewhere N n (LiveTrees N n)
+    pub good-trees : (N n : ℕ) → N ≤ 16384 → Elsewhere N n (GoodTrees N n)
+    -- the start
+    pub good-start : (N n : ℕ) → N ≤ 16384 → 0 < n → (ws vs : List ℕ) → treeNodes n ≤ N → layout .words * N ≤ length ws → Started N n (GoodTrees N n) ws vs (layout .start ws n N vs)
+    -- document 01: "its free nodes are the pool's less those in use"; and a write adds as many as the rest of its path has
+    pub good-free : (N n : ℕ) → N ≤ 16384 → 0 < n → {ws : List ℕ} {free k : ℕ} {Fs : List Frame} → GoodTrees N n ws free k Fs → nodesInUse n (historiesOf Fs) + k ≡ N
+    pub good-rest : (N n : ℕ) → N ≤ 16384 → 0 < n → {ws : List ℕ} {free k root : ℕ} {h : History} {Fs : List Frame} (e : Event) → e .splitter < n → Fresh (e .mark) ((root, h) ∷ Fs) → GoodTrees N n ws free k ((root, h) ∷ Fs)
+        → (nodesInUse n ((e ∷ h) ∷ historiesOf Fs) ≡ nodesInUse n (h ∷ historiesOf Fs) + layout .rest (height n) ws root (e .splitter))
+        × ((k < layout .rest (height n) ws root (e .splitter)) ↔ (N < nodesInUse n ((e ∷ h) ∷ historiesOf Fs)))
+    -- of any pool: the number of words stays, and words stay words
+    pub length-release : (N l : ℕ) (ws : List ℕ) (free k i : ℕ) → length (layout .release N l ws free k i .0) ≡ length ws
+    pub words-retain : (ws : List ℕ) (i : ℕ) → Words ws → Words (layout .retain ws i)
+    pub words-release : (N l : ℕ) (ws : List ℕ) (free k i : ℕ) → Words ws → free < 4294967296 → i < 4294967296 → PoolWords (layout .release N l ws free k i)
+    pub words-write : (l : ℕ) (ws : List ℕ) (free k root x v : ℕ) → Words ws → free < 4294967296 → root < 4294967296 → v < 4294967296 → WrittenWords (layout .write l ws free k root x v)
+    pub words-start : (ws : List ℕ) (n N : ℕ) (vs : List ℕ) → Words ws → Words vs → Words (layout .start ws n N vs .0) × (layout .start ws n N vs .1 < 4294967296)

@@ -3,10 +3,10 @@ use mathlib.Core.Path.{_≡_, refl, sym, ap, _∙_, subst}
 use mathlib.Core.Logic.{_≢_, inl, inr}
 use mathlib.Core.Bool.{Bool, true, false, cond}
 use mathlib.Core.List.{List, [], _∷_}
-use Prim.Native.Nat.{ℕ, zero, suc, _-_, _≤_, _<_}
+use Prim.Native.Nat.{ℕ, zero, suc, _-_, _*_, _≤_, _<_}
 use native.Mathlib.Omega.{arith}
 use native.Mathlib.Decide.{ℕ-discrete}
-use lib.ListN.{length, length-append}
+use lib.ListN.{length, drop, length-append}
 use borrow.Author.Tests.{eq-eqb}
 use Rattle.words.specs.Basics.{none, Chain, δ, count, howMany}
 use Rattle.words.specs.Chains.{chain-start}
@@ -16,11 +16,15 @@ use Rattle.words.specs.Tests.{ltb-of}
 use Rattle.sizes.specs.Sizes.{height, width, treeNodes}
 use Rattle.sizes.specs.Heights.{height-covers, height-le}
 use Rattle.sizes.specs.Widths.{width-pos}
-use Rattle.pool.specs.Pool.{firstShared, rest}
-use Rattle.pool.specs.Links.{PathIn, WriteIn}
+use Rattle.pool.specs.Pool as Four
 use Rattle.pool.specs.Theory.Operations.{Live}
 use Rattle.pool.specs.Theory.Soundness.{linkLevel, linkSize, sound-live}
-use Rattle.pool.specs.Theory.LiveLinks.{live-links, live-free, live-path, live-writes}
+use Rattle.pool.specs.Theory.LiveLinks.{live-free}
+use Rattle.packed.specs.Pool.{firstShared, rest}
+use Rattle.packed.specs.Links.{PathIn, WriteIn}
+use Rattle.packed.specs.Theory.Unpacks.{Unpacks}
+use Rattle.packed.specs.Theory.Reads.{unpacks-rest}
+use Rattle.packed.specs.Theory.Ranges.{unpacks-path, unpacks-writes}
 use Rattle.frames.specs.declared.Frame.{Frame as FrameRecord}
 use Rattle.frames.specs.Widths.{maxPlaces, dequePlaces}
 use Rattle.frames.specs.Frames.{frameAt}
@@ -28,15 +32,19 @@ use Rattle.frames.specs.Deques.{size, place, bottom, dequeList}
 use Rattle.frames.specs.Ranges.{ParentOf, ParentCounts}
 use Rattle.frames.specs.Theory.Lists.{list-length}
 use Rattle.frames.specs.Theory.Places.{nextFree}
-use Rattle.soundness.specs.Soundness.{lives, isChild, rootsBelow, liveRoots, freeNodes}
+use Rattle.soundness.specs.Soundness.{lives, isChild, rootsBelow, liveRoots}
+use Rattle.soundness.specs.Trees.{freeNodes}
+use Rattle.soundness.specs.Layout.{twoWords}
+use Rattle.soundness.specs.Unpacked.{unpacked}
 use Rattle.semantics.specs.Core.{Core, actingIn, popped, endAt}
 use Rattle.soundness.specs.Theory.FreeLists.{once-short}
 use Rattle.soundness.specs.Theory.Facts.{Lives, FramesFacts, SoundFacts}
 use Rattle.soundness.specs.Theory.Sentences.{few-places, sound-facts}
 use Rattle.soundness.specs.Theory.PoolSentences.{pool-fact}
+use Rattle.soundness.specs.Theory.PackedSound.{packed-four}
 use Rattle.semantics.specs.Theory.FromSoundPlaces.{count-In, below-of, roots-below, deque-live}
 use Rattle.semantics.specs.SoundMachine.{machineOf}
-use Rattle.semantics.specs.Theory.Pools.{live-laws}
+use Rattle.semantics.specs.Theory.TwoPools.{two-pools}
 use Rattle.semantics.specs.Theory.EndsUpward.{ends-upward}
 use Rattle.semantics.specs.Theory.FromSoundRelates.{countedCore}
 use Rattle.semantics.specs.Theory.SoundSteps.{sound-carried}
@@ -135,41 +143,75 @@ roots-few fs (suc c) = omega (arith, length-append (rootsBelow fs c) (cond (live
 
 -- ---- the whole
 
-module _ (c : Core) (K : Kept c) where
-  S : SoundFacts (c .head .numbers) (c .totals) (c .deques) (c .frames) (c .pool)
-  S = sound-facts (c .head .numbers) (c .totals) (c .deques) (c .frames) (c .pool) (K .is-sound)
+module _ (c : Core) (K : Kept twoWords c) where
+  abbrev n : ℕ
+  n = c .head .numbers .splitters
+
+  abbrev N : ℕ
+  N = c .head .numbers .nodes
+
+  abbrev first : ℕ
+  first = c .head .numbers .«free_node»
+
+  S : SoundFacts twoWords (c .head .numbers) (c .totals) (c .deques) (c .frames) (c .pool)
+  S = sound-facts twoWords (c .head .numbers) (c .totals) (c .deques) (c .frames) (c .pool) (K .is-sound)
 
   most-places : length (c .frames) ≤ maxPlaces
   most-places = few-places (S .numbers)
 
-  small : c .head .numbers .nodes ≤ none
-  small = omega (arith, S .numbers .nodes-le)
+  few-nodes : N ≤ 16384
+  few-nodes = S .numbers .nodes-le
 
-  trees : Live (c .head .numbers .nodes) (height (c .head .numbers .splitters)) (c .head .numbers .splitters) (linkLevel (height (c .head .numbers .splitters)) (c .pool)) (linkSize (height (c .head .numbers .splitters)) (c .pool)) (c .pool) (c .head .numbers .«free_node»)
-      (freeNodes (c .head .numbers .nodes) (c .pool) (c .head .numbers .«free_node»)) (liveRoots (c .frames))
+  small : N ≤ none
+  small = omega (arith, few-nodes)
+
+  -- the four-word pool that the pool unpacks to
+
+  abbrev ws₄ : List ℕ
+  ws₄ = unpacked n (liveRoots (c .frames)) N (c .pool)
+
+  unpacks : Unpacks N (drop (2 * N) (c .pool)) (c .pool) ws₄
+  unpacks = packed-four n N (S .numbers .splitters-positive) few-nodes (c .pool) first (liveRoots (c .frames)) (S .numbers .room) (S .pool) .0
+
+  same-free : c .head .«free_count» ≡ length (freeNodes N ws₄ first)
+  same-free = K .counted ∙ ap length (packed-four n N (S .numbers .splitters-positive) few-nodes (c .pool) first (liveRoots (c .frames)) (S .numbers .room) (S .pool) .2)
+
+  trees : Live N (height n) n (linkLevel (height n) ws₄) (linkSize (height n) ws₄) ws₄ first (freeNodes N ws₄ first) (liveRoots (c .frames))
   trees =
-      let n = c .head .numbers .splitters in
-      sound-live (c .head .numbers .nodes) (height n) n small (S .numbers .splitters-positive) (height-covers n)
-      (pool-fact n (c .head .numbers .nodes) (c .pool) (c .head .numbers .«free_node») (liveRoots (c .frames)) (S .numbers .room) (S .pool))
+      let F = packed-four n N (S .numbers .splitters-positive) few-nodes (c .pool) first (liveRoots (c .frames)) (S .numbers .room) (S .pool) in
+      sound-live N (height n) n small (S .numbers .splitters-positive) (height-covers n) (pool-fact n N ws₄ first (liveRoots (c .frames)) (F .0 .room) (F .1))
 
   acting-root : (w : ℕ) → w < 8 → 0 < size (c .deques) w → 0 < count (actingIn c w .root) (liveRoots (c .frames))
   acting-root w b h = (let r = bottom-lives (S .frames) (S .numbers .workers-le) most-places w b h in root-counted (c .frames) (length (c .frames)) (bottom (c .deques) w) (r .0) (r .1))
 
   -- the ends upward, by the plain machine that follows the core
-  upward-ready : (w : ℕ) → 0 < size (c .deques) w → actingIn c w .outstanding ≡ 0 → EndsUpward (actingIn c w .depth) (endAt (popped c w) (bottom (c .deques) w)) (actingIn c w .parent)
+  upward-ready : (w : ℕ) → 0 < size (c .deques) w → actingIn c w .outstanding ≡ 0 → EndsUpward (actingIn c w .depth) (endAt twoWords (popped c w) (bottom (c .deques) w)) (actingIn c w .parent)
   upward-ready =
       let s = c .head .numbers in
-      let M = machineOf s (c .deques) (c .frames) (c .pool) in
-      let c₀ = countedCore s (c .totals) (c .deques) (c .frames) (c .pool) in
-      let C = sound-carried s (c .totals) (c .deques) (c .frames) (c .pool) (K .long-totals) (K .long-deques) (K .is-sound) in
-      let N = C .related .numbers in
-      subst (λ (x : Core). (w : ℕ) → 0 < size (x .deques) w → actingIn x w .outstanding ≡ 0 → EndsUpward (actingIn x w .depth) (endAt (popped x w) (bottom (x .deques) w)) (actingIn x w .parent)) (core-counted c K)
-      (λ w h z. ends-upward (s .nodes) (M .splitters) (N .nodes-le) (N .splitters-positive) M c₀ (C .related) (live-laws (s .nodes) (M .splitters) (N .nodes-le) (N .splitters-positive)) (C .tree) (C .links) refl w h z)
+      let M = machineOf twoWords s (c .deques) (c .frames) (c .pool) in
+      let c₀ = countedCore twoWords s (c .totals) (c .deques) (c .frames) (c .pool) in
+      let C = sound-carried twoWords two-pools s (c .totals) (c .deques) (c .frames) (c .pool) (K .long-totals) (K .long-deques) (K .is-sound) in
+      let G = C .related .numbers in
+      subst (λ (x : Core). (w : ℕ) → 0 < size (x .deques) w → actingIn x w .outstanding ≡ 0 → EndsUpward (actingIn x w .depth) (endAt twoWords (popped x w) (bottom (x .deques) w)) (actingIn x w .parent)) (core-counted twoWords c K)
+      (λ w h z. ends-upward (s .nodes) (M .splitters) (G .nodes-le) (G .splitters-positive) M c₀ (C .related) (two-pools .live-laws (s .nodes) (M .splitters) (G .nodes-le) (G .splitters-positive)) (C .tree) (C .links) refl w h z)
+
+  path-ready : (w x : ℕ) → w < 8 → 0 < size (c .deques) w → x < n → PathIn N (c .pool) (c .head .height) (actingIn c w .root) x
+  path-ready w x b h i =
+      subst (λ (t : ℕ). PathIn N (c .pool) t (actingIn c w .root) x) (sym (K .height-is))
+      (unpacks-path N (height n) n few-nodes (height-covers n) trees unpacks (actingIn c w .root) x (acting-root w b h) i)
+
+  writes-ready : (w x : ℕ) → w < 8 → 0 < size (c .deques) w → x < n → rest (c .head .height) (c .pool) (actingIn c w .root) x ≤ c .head .«free_count»
+      → WriteIn N (c .head .height) (c .pool) first x (firstShared (c .head .height) (c .pool) (actingIn c w .root) (actingIn c w .root) x)
+  writes-ready w x b h i enough =
+      let e = actingIn c w .root in
+      let same : rest (c .head .height) (c .pool) e x ≡ Four.rest (height n) ws₄ e x =
+      ap (λ (t : ℕ). rest t (c .pool) e x) (K .height-is) ∙ unpacks-rest N (height n) n few-nodes (height-covers n) trees unpacks e x (acting-root w b h) i in
+      subst (λ (t : ℕ). WriteIn N t (c .pool) first x (firstShared t (c .pool) e e x)) (sym (K .height-is))
+      (unpacks-writes N (height n) n few-nodes (height-covers n) trees unpacks (c .head .«free_count») e x same-free (omega (arith, roots-few (c .frames) (length (c .frames)), most-places, few-nodes)) (acting-root w b h) i
+      (omega (arith, same, enough)))
 
   pub kept-ready : Ready c
   kept-ready =
-      let n = c .head .numbers .splitters in
-      let N = c .head .numbers .nodes in
       let F = S .frames in
       let few = S .numbers .workers-le in
       record {
@@ -180,7 +222,8 @@ module _ (c : Core) (K : Kept c) where
         long-deques = K .long-deques;
         table = S .numbers .table;
         few-places = most-places;
-        links = live-links N (height n) n small (height-covers n) trees;
+        nodes-le = few-nodes;
+        pool-room = S .numbers .room;
         free-node = live-free N (height n) n small (height-covers n) trees;
         free-place = chain-start (length (c .frames)) (nextFree (c .frames)) (c .head .numbers .«free_place») (F .places .gs) (F .places .chain);
         sizes = λ w b. omega (arith, F .within w b, most-places);
@@ -192,11 +235,6 @@ module _ (c : Core) (K : Kept c) where
         counts = λ w b h. (let r = bottom-lives F few most-places w b h in live-counts F few most-places (bottom (c .deques) w) (r .0) (r .1));
         below = λ w b h. bottom-below F few most-places w b h;
         upward = λ w b h z. upward-ready w h z;
-        path = λ w x b h i.
-            subst (λ (t : ℕ). PathIn N (c .pool) t (actingIn c w .root) x) (sym (K .height-is))
-            (live-path N (height n) n small (height-covers n) trees (actingIn c w .root) x (acting-root w b h) i);
-        writes = λ w x b h i enough.
-            subst (λ (t : ℕ). WriteIn N t (c .pool) (c .head .numbers .«free_node») x (firstShared t (c .pool) (actingIn c w .root) (actingIn c w .root) x)) (sym (K .height-is))
-            (live-writes N (height n) n small (height-covers n) trees (c .head .«free_count») (actingIn c w .root) x (K .counted) (omega (arith, roots-few (c .frames) (length (c .frames)), most-places, S .numbers .nodes-le)) (acting-root w b h) i
-            (subst (λ (t : ℕ). rest t (c .pool) (actingIn c w .root) x ≤ c .head .«free_count») (K .height-is) enough));
+        path = path-ready;
+        writes = writes-ready;
       }

@@ -10,7 +10,6 @@ use Prim.Native.Nat.{ℕ, _+_, _≤_, _<_}
 use lib.ListN.{length, getD}
 use Rattle.words.specs.Basics.{none, count, joined}
 use Rattle.sizes.specs.Sizes.{height, treeNodes}
-use Rattle.pool.specs.Pool.{readAt, retain, release, rest, write}
 use Rattle.frames.specs.declared.Frame.{Frame as FrameRecord}
 use Rattle.frames.specs.Widths.{maxPlaces}
 use Rattle.frames.specs.Deques.{dequeList}
@@ -22,6 +21,7 @@ use Rattle.model.specs.History.{Mark, Event, History}
 use Rattle.model.specs.Machine.{Name, Frame, Machine, live, deque, isChild}
 use Rattle.model.specs.Machine.{live as lives}
 use Rattle.semantics.specs.Core.{Core, tableOf}
+use Rattle.soundness.specs.Layout.{Layout}
 
 -- ---- the pool of live frames
 
@@ -29,9 +29,10 @@ use Rattle.semantics.specs.Core.{Core, tableOf}
 abbrev pub Trees : Type 1
 Trees = List ℕ → ℕ → ℕ → List (ℕ × History) → Type 0
 
--- these frames read what they read before
-abbrev pub Kept : ℕ → ℕ → List ℕ → List ℕ → List (ℕ × History) → Type 0
-Kept h n ws ws' Fs = (F : ℕ × History) → In F Fs → (y : ℕ) → y < n → readAt h ws' (F .0) y ≡ readAt h ws (F .0) y
+module _ (layout : Layout) where
+  -- these frames read what they read before
+  abbrev pub Kept : ℕ → ℕ → List ℕ → List ℕ → List (ℕ × History) → Type 0
+  Kept h n ws ws' Fs = (F : ℕ × History) → In F Fs → (y : ℕ) → y < n → layout .read h ws' (F .0) y ≡ layout .read h ws (F .0) y
 
 -- no event of the frames has the mark m
 abbrev pub Fresh : Mark → List (ℕ × History) → Type 0
@@ -40,20 +41,21 @@ Fresh m Fs = (F : ℕ × History) → In F Fs → (e : Event) → In e (F .1) �
 abbrev pub event : ℕ → Mark → Event
 event x m = record { splitter = x; mark = m }
 
--- what spawn, return and write do to it, for N nodes and n splitters
-pub record TreeLaws (N n : ℕ) (P : Trees) : Type 0 where
-  pub perm : (ws : List ℕ) (free k : ℕ) (Fs Fs' : List (ℕ × History)) → List·Permᴰ Fs Fs' → P ws free k Fs → P ws free k Fs'
-  pub spawn : (ws : List ℕ) (free k : ℕ) (F : ℕ × History) (Fs : List (ℕ × History)) → length Fs < maxPlaces → P ws free k (F ∷ Fs)
-      → P (retain ws (F .0)) free k (F ∷ F ∷ Fs) × Kept (height n) n ws (retain ws (F .0)) (F ∷ Fs)
-  pub return : (ws : List ℕ) (free k : ℕ) (F : ℕ × History) (Fs : List (ℕ × History)) → P ws free k (F ∷ Fs)
-      → P (release (height n) ws free k (F .0) .0) (release (height n) ws free k (F .0) .1) (release (height n) ws free k (F .0) .2) Fs
-      × Kept (height n) n ws (release (height n) ws free k (F .0) .0) Fs
-  pub write : (ws : List ℕ) (free k root : ℕ) (h : History) (Fs : List (ℕ × History)) (x v : ℕ) (m : Mark) → length Fs < maxPlaces → x < n → rest (height n) ws root x ≤ k → m ≢ []
-      → Fresh m ((root, h) ∷ Fs) → P ws free k ((root, h) ∷ Fs)
-      → P (write (height n) ws free k root x v .0) (write (height n) ws free k root x v .1) (write (height n) ws free k root x v .2) ((write (height n) ws free k root x v .3, event x m ∷ h) ∷ Fs)
-      × Kept (height n) n ws (write (height n) ws free k root x v .0) Fs
-      × (readAt (height n) (write (height n) ws free k root x v .0) (write (height n) ws free k root x v .3) x ≡ v)
-      × ((y : ℕ) → y < n → y ≢ x → readAt (height n) (write (height n) ws free k root x v .0) (write (height n) ws free k root x v .3) y ≡ readAt (height n) ws root y)
+module _ (layout : Layout) where
+  -- what spawn, return and write do to it, for N nodes and n splitters
+  pub record TreeLaws (N n : ℕ) (P : Trees) : Type 0 where
+    pub perm : (ws : List ℕ) (free k : ℕ) (Fs Fs' : List (ℕ × History)) → List·Permᴰ Fs Fs' → P ws free k Fs → P ws free k Fs'
+    pub spawn : (ws : List ℕ) (free k : ℕ) (F : ℕ × History) (Fs : List (ℕ × History)) → length Fs < maxPlaces → P ws free k (F ∷ Fs)
+        → P (layout .retain ws (F .0)) free k (F ∷ F ∷ Fs) × Kept layout (height n) n ws (layout .retain ws (F .0)) (F ∷ Fs)
+    pub return : (ws : List ℕ) (free k : ℕ) (F : ℕ × History) (Fs : List (ℕ × History)) → P ws free k (F ∷ Fs)
+        → P (layout .release N (height n) ws free k (F .0) .0) (layout .release N (height n) ws free k (F .0) .1) (layout .release N (height n) ws free k (F .0) .2) Fs
+        × Kept layout (height n) n ws (layout .release N (height n) ws free k (F .0) .0) Fs
+    pub write : (ws : List ℕ) (free k root : ℕ) (h : History) (Fs : List (ℕ × History)) (x v : ℕ) (m : Mark) → length Fs < maxPlaces → x < n → layout .rest (height n) ws root x ≤ k → m ≢ []
+        → Fresh m ((root, h) ∷ Fs) → P ws free k ((root, h) ∷ Fs)
+        → P (layout .write (height n) ws free k root x v .0) (layout .write (height n) ws free k root x v .1) (layout .write (height n) ws free k root x v .2) ((layout .write (height n) ws free k root x v .3, event x m ∷ h) ∷ Fs)
+        × Kept layout (height n) n ws (layout .write (height n) ws free k root x v .0) Fs
+        × (layout .read (height n) (layout .write (height n) ws free k root x v .0) (layout .write (height n) ws free k root x v .3) x ≡ v)
+        × ((y : ℕ) → y < n → y ≢ x → layout .read (height n) (layout .write (height n) ws free k root x v .0) (layout .write (height n) ws free k root x v .3) y ≡ layout .read (height n) ws root y)
 
 -- ---- frames and their places
 
@@ -112,21 +114,22 @@ pub record SameNumbers (M : Machine) (c : Core) : Type 0 where
   pub places-positive : 1 ≤ M .places
   pub table : M .places ≡ length (c .frames)
 
--- `at` gives each live frame's place, gs are the free places
-pub record Relates (P : Trees) (M : Machine) (c : Core) : Type 0 where
-  pub at : Name → ℕ
-  pub gs : List ℕ
-  pub numbers : SameNumbers M c
-  pub formed : Formed (tableOf c) gs
-  pub deques : (w : ℕ) → w < 8 → dequeList (c .deques) w ≡ placesOf at (deque M w)
-  pub running : (f : Frame) → In f (joined (M .deques)) → Recorded (c .frames) at (live M) 0 f
-  pub waiting : (f : Frame) → In f (M .suspended) → Recorded (c .frames) at (live M) 1 f
-  -- each place is free or some live frame's, and only one's
-  pub once : (p : ℕ) → p < length (c .frames) → count p gs + count p (placesOf at (live M)) ≡ 1
-  pub vacant : (p : ℕ) → p < length (c .frames) → 0 < count p gs → (q : ℕ) × (frameAt (c .frames) p ≡ freePlace q)
-  pub totals : TotalsKept (c .totals) (live M)
-  pub trees : P (c .pool) (c .head .numbers .«free_node») (c .head .«free_count») (rootsOf (c .frames) at (live M))
-  pub values : (f : Frame) → In f (live M) → (x : ℕ) → x < M .splitters → readAt (height (M .splitters)) (c .pool) (rootOf (c .frames) at f) x ≡ getD (f .values) x 0
+module _ (layout : Layout) where
+  -- `at` gives each live frame's place, gs are the free places
+  pub record Relates (P : Trees) (M : Machine) (c : Core) : Type 0 where
+    pub at : Name → ℕ
+    pub gs : List ℕ
+    pub numbers : SameNumbers M c
+    pub formed : Formed (tableOf c) gs
+    pub deques : (w : ℕ) → w < 8 → dequeList (c .deques) w ≡ placesOf at (deque M w)
+    pub running : (f : Frame) → In f (joined (M .deques)) → Recorded (c .frames) at (live M) 0 f
+    pub waiting : (f : Frame) → In f (M .suspended) → Recorded (c .frames) at (live M) 1 f
+    -- each place is free or some live frame's, and only one's
+    pub once : (p : ℕ) → p < length (c .frames) → count p gs + count p (placesOf at (live M)) ≡ 1
+    pub vacant : (p : ℕ) → p < length (c .frames) → 0 < count p gs → (q : ℕ) × (frameAt (c .frames) p ≡ freePlace q)
+    pub totals : TotalsKept (c .totals) (live M)
+    pub trees : P (c .pool) (c .head .numbers .«free_node») (c .head .«free_count») (rootsOf (c .frames) at (live M))
+    pub values : (f : Frame) → In f (live M) → (x : ℕ) → x < M .splitters → layout .read (height (M .splitters)) (c .pool) (rootOf (c .frames) at f) x ≡ getD (f .values) x 0
 
 -- ---- beside it: the links between siblings
 
@@ -135,20 +138,21 @@ pub record Links (fs : List FrameRecord) (at : Name → ℕ) (L : List Frame) : 
   pub children : (f : Frame) → In f L → (cs : List ℕ) × Children fs (at (f .name)) cs
   pub main-link : (f : Frame) → In f L → f .name ≡ [] → younger fs (at (f .name)) ≡ none
 
--- R-5: from c to c′ no frame begins, ends or folds: the frames keep their places, links and views
-pub record Keeps {P : Trees} {M M′ : Machine} {c c′ : Core} (r : Relates P M c) (r′ : Relates P M′ c′) : Type 0 where
-  pub same-length : length (c′ .frames) ≡ length (c .frames)
-  pub places : (n : Name) → r′ .at n ≡ r .at n
-  pub live : (p : ℕ) → frameAt (c′ .frames) p .live ≡ frameAt (c .frames) p .live
-  pub parent : (p : ℕ) → frameAt (c′ .frames) p .parent ≡ frameAt (c .frames) p .parent
-  pub view : (p : ℕ) → frameAt (c′ .frames) p .view ≡ frameAt (c .frames) p .view
-  pub link : (p : ℕ) → younger (c′ .frames) p ≡ younger (c .frames) p
-  -- the same names
-  pub from : (f : Frame) → In f (lives M′) → (g : Frame) × In g (lives M) × (g .name ≡ f .name)
-  pub to : (f : Frame) → In f (lives M) → (g : Frame) × In g (lives M′) × (g .name ≡ f .name)
-  pub totals : c′ .totals ≡ c .totals
+module _ (layout : Layout) where
+  -- R-5: from c to c′ no frame begins, ends or folds: the frames keep their places, links and views
+  pub record Keeps {P : Trees} {M M′ : Machine} {c c′ : Core} (r : Relates layout P M c) (r′ : Relates layout P M′ c′) : Type 0 where
+    pub same-length : length (c′ .frames) ≡ length (c .frames)
+    pub places : (n : Name) → r′ .at n ≡ r .at n
+    pub live : (p : ℕ) → frameAt (c′ .frames) p .live ≡ frameAt (c .frames) p .live
+    pub parent : (p : ℕ) → frameAt (c′ .frames) p .parent ≡ frameAt (c .frames) p .parent
+    pub view : (p : ℕ) → frameAt (c′ .frames) p .view ≡ frameAt (c .frames) p .view
+    pub link : (p : ℕ) → younger (c′ .frames) p ≡ younger (c .frames) p
+    -- the same names
+    pub from : (f : Frame) → In f (lives M′) → (g : Frame) × In g (lives M) × (g .name ≡ f .name)
+    pub to : (f : Frame) → In f (lives M) → (g : Frame) × In g (lives M′) × (g .name ≡ f .name)
+    pub totals : c′ .totals ≡ c .totals
 
--- R-7: from c to c′ the frames that lived before keep their places, and one that is new stands where the first free place was
-pub record SamePlaces {P P′ : Trees} {M M′ : Machine} {c c′ : Core} (r : Relates P M c) (r′ : Relates P′ M′ c′) : Type 0 where
-  pub kept : (f : Frame) → In f (lives M) → r′ .at (f .name) ≡ r .at (f .name)
-  pub fresh : (f : Frame) → In f (lives M′) → ((g : Frame) → In g (lives M) → g .name ≢ f .name) → r′ .at (f .name) ≡ c .head .numbers .«free_place»
+  -- R-7: from c to c′ the frames that lived before keep their places, and one that is new stands where the first free place was
+  pub record SamePlaces {P P′ : Trees} {M M′ : Machine} {c c′ : Core} (r : Relates layout P M c) (r′ : Relates layout P′ M′ c′) : Type 0 where
+    pub kept : (f : Frame) → In f (lives M) → r′ .at (f .name) ≡ r .at (f .name)
+    pub fresh : (f : Frame) → In f (lives M′) → ((g : Frame) → In g (lives M) → g .name ≢ f .name) → r′ .at (f .name) ≡ c .head .numbers .«free_place»

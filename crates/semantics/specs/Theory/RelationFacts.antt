@@ -22,12 +22,14 @@ use Rattle.model.specs.Machine.{Name, Frame, Machine, live, deque, hasChild}
 use Rattle.semantics.specs.Core.{Core}
 use Rattle.semantics.specs.Theory.Relation.{Trees, TreeLaws, bit, childCount, placesOf, rootOf, rootsOf, Recorded, Relates}
 use Rattle.semantics.specs.Theory.Places.{count-perm, map-cong, in-deque, count-place, childCount-test, placed-inside, recorded-as, treeOf}
+use Rattle.soundness.specs.Layout.{Layout}
 
--- ---- trees
+module _ (layout : Layout) where
+  -- ---- trees
 
-pub trees-perm : {P : Trees} {N n : ℕ} {ws : List ℕ} {free k : ℕ} {L L′ : List Frame} (fs : List FrameRecord) (at : Name → ℕ) → TreeLaws N n P → List·Permᴰ L L′
-    → P ws free k (rootsOf fs at L) → P ws free k (rootsOf fs at L′)
-trees-perm {ws} {free} {k} {L} {L′} fs at laws π t = laws .perm ws free k (rootsOf fs at L) (rootsOf fs at L′) (Permᴰ·map (treeOf fs at) π) t
+  pub trees-perm : {P : Trees} {N n : ℕ} {ws : List ℕ} {free k : ℕ} {L L′ : List Frame} (fs : List FrameRecord) (at : Name → ℕ) → TreeLaws layout N n P → List·Permᴰ L L′
+      → P ws free k (rootsOf fs at L) → P ws free k (rootsOf fs at L′)
+  trees-perm {ws} {free} {k} {L} {L′} fs at laws π t = laws .perm ws free k (rootsOf fs at L) (rootsOf fs at L′) (Permᴰ·map (treeOf fs at) π) t
 
 pub roots-same : (fs fs′ : List FrameRecord) (at : Name → ℕ) (L : List Frame) → ((f : Frame) → In f L → rootOf fs′ at f ≡ rootOf fs at f) → rootsOf fs′ at L ≡ rootsOf fs at L
 roots-same fs fs′ at L h = map-cong (treeOf fs′ at) (treeOf fs at) L (λ f m. ap (λ (z : ℕ). (z, f .history)) (h f m))
@@ -67,26 +69,27 @@ recorded-stored {fs} fs′ {at} L′ s′ t b {f} g l n m e k r =
     let F = stored (frameAt fs (at (f .name))) s′ t b in
     recorded-as fs′ at L′ s′ g (at (f .name)) F (ap at n) e (omega (arith, l, r .inside)) (r .live) (rw n (r .parent)) (rw n (r .depth)) (rw n (r .outstanding ∙ k)) refl m
 
--- ---- places
+module _ (layout : Layout) where
+  -- ---- places
 
-module _ {P : Trees} {M : Machine} {c : Core} (r : Relates P M c) where
-  pub workers-le : {w : ℕ} → w < length (M .deques) → w < 8
-  workers-le h = omega (arith, r .numbers .workers-le)
+  module _ {P : Trees} {M : Machine} {c : Core} (r : Relates layout P M c) where
+    pub workers-le : {w : ℕ} → w < length (M .deques) → w < 8
+    workers-le h = omega (arith, r .numbers .workers-le)
 
-  -- a live frame's place is no other's
-  pub places-apart : {q : Frame} {R : List Frame} → List·Permᴰ (live M) (q ∷ R) → (g : Frame) → In g R → r .at (g .name) ≢ r .at (q .name)
-  places-apart {q} {R} π g m e =
-      let p = r .at (q .name) in
-      let once = r .once p (placed-inside r q (In-perm (Permᴰ·symm π) (here refl))) in
-      omega (arith, once, count-perm p (Permᴰ·map (λ (f : Frame). r .at (f .name)) π), count-cons p p (placesOf (r .at) R), δ-same p, count-place (r .at) m, ap (λ (z : ℕ). count z (placesOf (r .at) R)) e)
+    -- a live frame's place is no other's
+    pub places-apart : {q : Frame} {R : List Frame} → List·Permᴰ (live M) (q ∷ R) → (g : Frame) → In g R → r .at (g .name) ≢ r .at (q .name)
+    places-apart {q} {R} π g m e =
+        let p = r .at (q .name) in
+        let once = r .once p (placed-inside layout r q (In-perm (Permᴰ·symm π) (here refl))) in
+        omega (arith, once, count-perm p (Permᴰ·map (λ (f : Frame). r .at (f .name)) π), count-cons p p (placesOf (r .at) R), δ-same p, count-place (r .at) m, ap (λ (z : ℕ). count z (placesOf (r .at) R)) e)
 
-  -- the bottom frame q of worker w, and those above it
-  module _ (w : ℕ) (q : Frame) (d : List Frame) (e : deque M w ≡ q ∷ d) where
-    pub deque-runs : (f : Frame) → In f (q ∷ d) → In f (joined (M .deques))
-    deque-runs f m = in-deque (M .deques) w (subst (λ (z : List Frame). In f z) (sym e) m)
+    -- the bottom frame q of worker w, and those above it
+    module _ (w : ℕ) (q : Frame) (d : List Frame) (e : deque M w ≡ q ∷ d) where
+      pub deque-runs : (f : Frame) → In f (q ∷ d) → In f (joined (M .deques))
+      deque-runs f m = in-deque (M .deques) w (subst (λ (z : List Frame). In f z) (sym e) m)
 
-    pub bottom-lives : In q (live M)
-    bottom-lives = In-right (M .suspended) (deque-runs q (here refl))
+      pub bottom-lives : In q (live M)
+      bottom-lives = In-right (M .suspended) (deque-runs q (here refl))
 
-    pub above-runs : (f : Frame) → In f d → In f (joined (M .deques))
-    above-runs f m = deque-runs f (there m)
+      pub above-runs : (f : Frame) → In f d → In f (joined (M .deques))
+      above-runs f m = deque-runs f (there m)

@@ -21,30 +21,32 @@ use Rattle.semantics.specs.Theory.Places.{childless-count, acting-deque,
 use Rattle.semantics.specs.Theory.LinksKept.{keeps-same}
 use Rattle.semantics.specs.Theory.RelationFacts.{parent-count, stored}
 use Rattle.semantics.specs.Theory.Suspended.{record-waiting, suspends, suspends-keeps}
+use Rattle.soundness.specs.Layout.{Layout}
 
-module _ (P : Trees) (M : Machine) (c : Core) (w : ℕ) (q : Frame) (d : List Frame) (lt : w < length (M .deques)) (e : deque M w ≡ q ∷ d) (r : Relates P M c) where
-  own : Recorded (c .frames) (r .at) (live M) 0 q
-  own = acting-record r w q d lt e
+module _ (layout : Layout) where
+  module _ (P : Trees) (M : Machine) (c : Core) (w : ℕ) (q : Frame) (d : List Frame) (lt : w < length (M .deques)) (e : deque M w ≡ q ∷ d) (r : Relates layout P M c) where
+    own : Recorded (c .frames) (r .at) (live M) 0 q
+    own = acting-record layout r w q d lt e
 
-  -- with a live child
-  waiting : hasChild (q .name) (live M) ≡ true → (syncTable (tableOf c) w ≡ suspendTable (tableOf c) w (record-waiting r w q d lt e (q .returning))) × (synced (tableOf c) w ≡ Suspended)
-  waiting h =
-      let F = frameAt (c .frames) (r .at (q .name)) in
-      let x = waits (tableOf c) w (r .at (q .name)) (placesOf (r .at) d) (acting-deque r w q d lt e) (λ z. parent-count (q .name) (live M) h (sym (own .outstanding) ∙ z)) in
-      (subst (λ (k : ℕ). syncTable (tableOf c) w ≡ suspendTable (tableOf c) w (stored F 1 (F .root) k)) (own .returning) (x .0), x .1)
+    -- with a live child
+    waiting : hasChild (q .name) (live M) ≡ true → (syncTable (tableOf c) w ≡ suspendTable (tableOf c) w (record-waiting layout r w q d lt e (q .returning))) × (synced (tableOf c) w ≡ Suspended)
+    waiting h =
+        let F = frameAt (c .frames) (r .at (q .name)) in
+        let x = waits (tableOf c) w (r .at (q .name)) (placesOf (r .at) d) (acting-deque layout r w q d lt e) (λ z. parent-count (q .name) (live M) h (sym (own .outstanding) ∙ z)) in
+        (subst (λ (k : ℕ). syncTable (tableOf c) w ≡ suspendTable (tableOf c) w (stored F 1 (F .root) k)) (own .returning) (x .0), x .1)
 
-  passed : hasChild (q .name) (live M) ≡ false → (syncTable (tableOf c) w ≡ tableOf c) × (synced (tableOf c) w ≡ Passed)
-  passed h = passes (tableOf c) w (r .at (q .name)) (placesOf (r .at) d) (acting-deque r w q d lt e) (own .outstanding ∙ childless-count (q .name) (live M) h)
+    passed : hasChild (q .name) (live M) ≡ false → (syncTable (tableOf c) w ≡ tableOf c) × (synced (tableOf c) w ≡ Passed)
+    passed h = passes (tableOf c) w (r .at (q .name)) (placesOf (r .at) d) (acting-deque layout r w q d lt e) (own .outstanding ∙ childless-count (q .name) (live M) h)
 
-pub sim-sync : (P : Trees) (M : Machine) (c : Core) (w : ℕ) → TreeLaws (c .head .numbers .nodes) (M .splitters) P → Passes M (acting w sync) → (r : Relates P M c)
-    → (r′ : Relates P (afterTurn M (acting w sync)) (syncOn c w .core)) × Keeps r r′ × (answerWords (syncOn c w .answer) ≡ turnAnswer M (acting w sync))
-unfolding syncOn
-sim-sync P M c w laws pass r =
-    let a = acts M w sync pass in
-    let q = a .actor in
-    let d = a .above in
-    rw (a .at)
-    (elim (decided (hasChild (q .name) (live M))) [
-      | inl h ↦ (let x = waiting P M c w q d (a .worker) (a .at) r h in rw (h, x .1, x .0) (suspends r w q d (a .worker) (a .at) (q .returning) laws, suspends-keeps r w q d (a .worker) (a .at) (q .returning) laws, refl))
-      | inr h ↦ (let x = passed P M c w q d (a .worker) (a .at) r h in rw (h, x .0, x .1) (r, keeps-same r, refl))
-    ])
+  pub sim-sync : (P : Trees) (M : Machine) (c : Core) (w : ℕ) → TreeLaws layout (c .head .numbers .nodes) (M .splitters) P → Passes M (acting w sync) → (r : Relates layout P M c)
+      → (r′ : Relates layout P (afterTurn M (acting w sync)) (syncOn c w .core)) × Keeps layout r r′ × (answerWords (syncOn c w .answer) ≡ turnAnswer M (acting w sync))
+  unfolding syncOn
+  sim-sync P M c w laws pass r =
+      let a = acts M w sync pass in
+      let q = a .actor in
+      let d = a .above in
+      rw (a .at)
+      (elim (decided (hasChild (q .name) (live M))) [
+        | inl h ↦ (let x = waiting P M c w q d (a .worker) (a .at) r h in rw (h, x .1, x .0) (suspends layout r w q d (a .worker) (a .at) (q .returning) laws, suspends-keeps layout r w q d (a .worker) (a .at) (q .returning) laws, refl))
+        | inr h ↦ (let x = passed P M c w q d (a .worker) (a .at) r h in rw (h, x .0, x .1) (r, keeps-same layout r, refl))
+      ])

@@ -9,11 +9,9 @@ use native.Mathlib.Omega.{arith}
 use lib.ListN.{length}
 use lib.Dec.{leb, ltb}
 use borrow.Author.Tests.{le-leb}
-use Rattle.pool.specs.Theory.Elsewhere.{SameNodes}
+use Rattle.semantics.specs.Theory.Pools.{SameNodes}
 use Rattle.words.specs.Tests.{ltb-same}
 use Rattle.sizes.specs.Sizes.{height}
-use Rattle.pool.specs.Pool.{rest}
-use Rattle.pool.specs.Theory.Good.{good-free, good-rest}
 use Rattle.pool.specs.Theory.InUse.{historiesOf}
 use Rattle.model.specs.declared.Step.{Step}
 use Rattle.model.specs.declared.Step.the-variants.{Spawn, Return, Steal, Sync, Read, Write, Fold}
@@ -50,13 +48,12 @@ use Rattle.semantics.specs.Theory.RelationFacts.{trees-perm}
 use Rattle.semantics.specs.Theory.Places.{acting-frame}
 use Rattle.semantics.specs.Theory.Refusals.{SameRoom}
 use Rattle.semantics.specs.Theory.SimWrite.{fresh}
-use Rattle.semantics.specs.Theory.Pools.{LiveTrees, GoodTrees, good-live, good-laws}
 use Rattle.semantics.specs.Theory.FromSoundRelates.{map-append}
 use Rattle.semantics.specs.Theory.Simulation.{simulates, numbers-kept}
 use Rattle.semantics.specs.Theory.ToSound.{all-free}
 use Rattle.semantics.specs.Theory.Fitting.{true-fits}
 use Rattle.semantics.specs.Theory.SoundSteps.{Carried, is-sound, own-rest}
-use Rattle.semantics.specs.Theory.Elsewhere.{withPool, good-trees, relates-elsewhere}
+use Rattle.semantics.specs.Theory.Elsewhere.{withPool, relates-elsewhere}
 use Rattle.semantics.specs.Theory.NumberWords.{totals-in}
 use Rattle.semantics.specs.Theory.Starts.{Fit, alone-fit, fit-started, started-fit}
 use Rattle.semantics.specs.Theory.StartRelates.{firstCore, start-relates}
@@ -67,213 +64,220 @@ use Rattle.semantics.specs.Theory.Runs.{Laws, KeptBy, Fed, core-counted,
 use Rattle.semantics.specs.Theory.AllWords.{started-words}
 use Rattle.semantics.specs.Theory.WholeRuns.{RunKept, kept-begun, kept-calls, fed-calls, fed-sound, answers-by}
 use Rattle.semantics.specs.Theory.ValidRecords.{valids, trace-same, machine-plain, views-plain, returned-plain, valids-valid, answers-plain, all-accepted}
+use Rattle.soundness.specs.Layout.{Layout}
+use Rattle.semantics.specs.Theory.Pools.{PoolLaws}
 
--- the relation, with the links and the views beside it; R-7: of the places in r₀
-abbrev WithViews : {Q : Trees} {M : Machine} {d : Core} → Relates Q M d → ℕ → ℕ → Plain → Core → Type 0
-WithViews r₀ N n P c = (r : Relates (GoodTrees N n) (P .machine) c) × Links (c .frames) (r .at) (live (P .machine)) × Viewed r (P .views) × SamePlaces r₀ r
+module _ (layout : Layout) (pools : PoolLaws layout) where
+  -- the relation, with the links and the views beside it; R-7: of the places in r₀
+  abbrev WithViews : {Q : Trees} {M : Machine} {d : Core} → Relates layout Q M d → ℕ → ℕ → Plain → Core → Type 0
+  WithViews r₀ N n P c = (r : Relates layout (pools .GoodTrees N n) (P .machine) c) × Links (c .frames) (r .at) (live (P .machine)) × Viewed layout r (P .views) × SamePlaces layout r₀ r
 
--- the core is that of a run from a start which the plain machine, with its views, has followed
-pub record Follows (P : Plain) (c : Core) : Type 0 where
-  pub related : Relates (GoodTrees (P .machine .nodes) (P .machine .splitters)) (P .machine) c
-  pub links : Links (c .frames) (related .at) (live (P .machine))
-  pub viewed : Viewed related (P .views)
-  pub inv : Invariant (P .machine)
-  pub nodes : c .head .numbers .nodes ≡ P .machine .nodes
+  -- the core is that of a run from a start which the plain machine, with its views, has followed
+  pub record Follows (P : Plain) (c : Core) : Type 0 where
+    pub related : Relates layout (pools .GoodTrees (P .machine .nodes) (P .machine .splitters)) (P .machine) c
+    pub links : Links (c .frames) (related .at) (live (P .machine))
+    pub viewed : Viewed layout related (P .views)
+    pub inv : Invariant (P .machine)
+    pub nodes : c .head .numbers .nodes ≡ P .machine .nodes
 
 histories-are : (fs : List FrameRecord) (at : Name → ℕ) (L : List Frame) → historiesOf (rootsOf fs at L) ≡ histories L
 histories-are fs at [] = refl
 histories-are fs at (f ∷ L) = ap (λ z. f .history ∷ z) (histories-are fs at L)
 
--- the free nodes are the nodes less those in use
-same-free : (P : Plain) (c : Core) → Follows P c → c .head .«free_count» ≡ plainFree (P .machine)
-same-free P c F =
-    let M = P .machine in
-    let r = F .related in
-    omega (arith, good-free (M .nodes) (M .splitters) (omega (arith, F .nodes, r .numbers .nodes-le)) (r .numbers .splitters-positive) (r .trees), ap (nodesInUse (M .splitters)) (histories-are (c .frames) (r .at) (live M)))
+module _ (layout : Layout) (pools : PoolLaws layout) where
+  -- the free nodes are the nodes less those in use
+  same-free : (P : Plain) (c : Core) → Follows layout pools P c → c .head .«free_count» ≡ plainFree (P .machine)
+  same-free P c F =
+      let M = P .machine in
+      let r = F .related in
+      omega (arith, pools .good-free (M .nodes) (M .splitters) (omega (arith, F .nodes, r .numbers .nodes-le)) (r .numbers .splitters-positive) (r .trees), ap (nodesInUse (M .splitters)) (histories-are (c .frames) (r .at) (live M)))
 
--- what relates in a run from a start relates as a live pool, with the frames in the same places
-live-relates : {N n : ℕ} {M : Machine} {c : Core} → Relates (GoodTrees N n) M c → Relates (LiveTrees N n) M c
-live-relates r = record {
-  at = r .at;
-  gs = r .gs;
-  numbers = r .numbers;
-  formed = r .formed;
-  deques = r .deques;
-  running = r .running;
-  waiting = r .waiting;
-  once = r .once;
-  vacant = r .vacant;
-  totals = r .totals;
-  trees = good-live (r .trees);
-  values = r .values;
-}
+  -- what relates in a run from a start relates as a live pool, with the frames in the same places
+  live-relates : {N n : ℕ} {M : Machine} {c : Core} → Relates layout (pools .GoodTrees N n) M c → Relates layout (pools .LiveTrees N n) M c
+  live-relates r = record {
+    at = r .at;
+    gs = r .gs;
+    numbers = r .numbers;
+    formed = r .formed;
+    deques = r .deques;
+    running = r .running;
+    waiting = r .waiting;
+    once = r .once;
+    vacant = r .vacant;
+    totals = r .totals;
+    trees = pools .good-live (r .trees);
+    values = r .values;
+  }
 
-pub carried : (P : Plain) (c : Core) → Follows P c → Carried (P .machine) c
-unfolding live-relates
-carried P c F =
-    let M = P .machine in
-    let r : (r : Relates (LiveTrees (c .head .numbers .nodes) (M .splitters)) M c) × Links (c .frames) (r .at) (live M) =
-    subst (λ N. (r : Relates (LiveTrees N (M .splitters)) M c) × Links (c .frames) (r .at) (live M)) (sym (F .nodes)) (live-relates (F .related), F .links) in
-    record {
-      related = r .0;
-      links = r .1;
-      tree = F .inv .tree;
-      deques = F .inv .deques;
-      marks = F .inv .marks;
-      bounds = F .inv .bounds;
-      same-free = same-free P c F;
-    }
+  pub carried : (P : Plain) (c : Core) → Follows layout pools P c → Carried layout pools (P .machine) c
+  unfolding live-relates
+  carried P c F =
+      let M = P .machine in
+      let r : (r : Relates layout (pools .LiveTrees (c .head .numbers .nodes) (M .splitters)) M c) × Links (c .frames) (r .at) (live M) =
+      subst (λ N. (r : Relates layout (pools .LiveTrees N (M .splitters)) M c) × Links (c .frames) (r .at) (live M)) (sym (F .nodes)) (live-relates (F .related), F .links) in
+      record {
+        related = r .0;
+        links = r .1;
+        tree = F .inv .tree;
+        deques = F .inv .deques;
+        marks = F .inv .marks;
+        bounds = F .inv .bounds;
+        same-free = same-free P c F;
+      }
 
--- the rest of the path has as many nodes as the write adds to those in use
-counted-rest : (P : Plain) (c : Core) → Follows P c → (w x v : ℕ) (q : Frame) (d : List Frame) → w < length (P .machine .deques) → deque (P .machine) w ≡ q ∷ d → x < P .machine .splitters
-    → Counted (P .machine) (c .head .«free_count») (rest (c .head .height) (c .pool) (actingIn c w .root) x) (afterWrite (P .machine) w q d x v)
-counted-rest P c F w x v q d lt e b =
-    let M = P .machine in
-    let r = F .related in
-    let n = M .splitters in
-    let few : M .nodes ≤ 16384 = omega (arith, F .nodes, r .numbers .nodes-le) in
-    let others = d ++ plainRest M w in
-    let before = live-at M w (q ∷ d) lt e in
-    let G : GoodTrees (M .nodes) n (c .pool) (c .head .numbers .«free_node») (c .head .«free_count») (rootsOf (c .frames) (r .at) (q ∷ others)) =
-    trees-perm (c .frames) (r .at) (good-laws (M .nodes) n few (r .numbers .splitters-positive)) before (r .trees) in
-    let unmarked = fresh (GoodTrees (M .nodes) n) M c w x v q d lt e r (F .inv .marks) in
-    let g = good-rest (M .nodes) n few (r .numbers .splitters-positive) (writeEvent q x) b (cons≢nil, unmarked) G in
-    let others-are = histories-are (c .frames) (r .at) others in
-    let after : nodesInUse n ((writeEvent q x ∷ q .history) ∷ historiesOf (rootsOf (c .frames) (r .at) others)) ≡ inUse n (live (afterWrite M w q d x v)) =
-    ap (λ z. nodesInUse n ((writeEvent q x ∷ q .history) ∷ z)) others-are ∙ sym (inUse-perm n (live-with M w (written q x v ∷ d) lt)) in
-    let now : nodesInUse n (q .history ∷ historiesOf (rootsOf (c .frames) (r .at) others)) ≡ inUse n (live M) = ap (λ z. nodesInUse n (q .history ∷ z)) others-are ∙ sym (inUse-perm n before) in
-    let own : rest (c .head .height) (c .pool) (actingIn c w .root) x ≡ rest (height n) (c .pool) (rootOf (c .frames) (r .at) q) x =
-    ap₂ (λ (t : ℕ) (f : FrameRecord). rest t (c .pool) (f .root) x) (r .numbers .height-is) (acting-frame r w q d lt e) in
-    record {
-      same-count = sym after ∙ g .0 ∙ ap₂ _+_ now (sym own);
-      same-16 = ap (ltb (c .head .«free_count»)) own ∙ ltb-same (g .1) ∙ ap (ltb (M .nodes)) after;
-    }
+  -- the rest of the path has as many nodes as the write adds to those in use
+  counted-rest : (P : Plain) (c : Core) → Follows layout pools P c → (w x v : ℕ) (q : Frame) (d : List Frame) → w < length (P .machine .deques) → deque (P .machine) w ≡ q ∷ d → x < P .machine .splitters
+      → Counted (P .machine) (c .head .«free_count») (layout .rest (c .head .height) (c .pool) (actingIn c w .root) x) (afterWrite (P .machine) w q d x v)
+  counted-rest P c F w x v q d lt e b =
+      let M = P .machine in
+      let r = F .related in
+      let n = M .splitters in
+      let few : M .nodes ≤ 16384 = omega (arith, F .nodes, r .numbers .nodes-le) in
+      let others = d ++ plainRest M w in
+      let before = live-at M w (q ∷ d) lt e in
+      let G : pools .GoodTrees (M .nodes) n (c .pool) (c .head .numbers .«free_node») (c .head .«free_count») (rootsOf (c .frames) (r .at) (q ∷ others)) =
+      trees-perm layout (c .frames) (r .at) (pools .good-laws (M .nodes) n few (r .numbers .splitters-positive)) before (r .trees) in
+      let unmarked = fresh layout (pools .GoodTrees (M .nodes) n) M c w x v q d lt e r (F .inv .marks) in
+      let g = pools .good-rest (M .nodes) n few (r .numbers .splitters-positive) (writeEvent q x) b (cons≢nil, unmarked) G in
+      let others-are = histories-are (c .frames) (r .at) others in
+      let after : nodesInUse n ((writeEvent q x ∷ q .history) ∷ historiesOf (rootsOf (c .frames) (r .at) others)) ≡ inUse n (live (afterWrite M w q d x v)) =
+      ap (λ z. nodesInUse n ((writeEvent q x ∷ q .history) ∷ z)) others-are ∙ sym (inUse-perm n (live-with M w (written q x v ∷ d) lt)) in
+      let now : nodesInUse n (q .history ∷ historiesOf (rootsOf (c .frames) (r .at) others)) ≡ inUse n (live M) = ap (λ z. nodesInUse n (q .history ∷ z)) others-are ∙ sym (inUse-perm n before) in
+      let own : layout .rest (c .head .height) (c .pool) (actingIn c w .root) x ≡ layout .rest (height n) (c .pool) (rootOf (c .frames) (r .at) q) x =
+      ap₂ (λ (t : ℕ) (f : FrameRecord). layout .rest t (c .pool) (f .root) x) (r .numbers .height-is) (acting-frame layout r w q d lt e) in
+      record {
+        same-count = sym after ∙ g .0 ∙ ap₂ _+_ now (sym own);
+        same-16 = ap (ltb (c .head .«free_count»)) own ∙ ltb-same (g .1) ∙ ap (ltb (M .nodes)) after;
+      }
 
-counted-room : (P : Plain) (c : Core) → Follows P c → (st : Step) → SameRoom (P .machine) c st
-counted-room P c F (Spawn w) = tt
-counted-room P c F (Return w) = tt
-counted-room P c F (Steal w v) = tt
-counted-room P c F (Sync w) = tt
-counted-room P c F (Read w x) = tt
-counted-room P c F (Write w x v) = λ q d lt e b. counted-rest P c F w x v q d lt e b .same-16
-counted-room P c F (Fold w i x) = tt
+  counted-room : (P : Plain) (c : Core) → Follows layout pools P c → (st : Step) → SameRoom layout (P .machine) c st
+  counted-room P c F (Spawn w) = tt
+  counted-room P c F (Return w) = tt
+  counted-room P c F (Steal w v) = tt
+  counted-room P c F (Sync w) = tt
+  counted-room P c F (Read w x) = tt
+  counted-room P c F (Write w x v) = λ q d lt e b. counted-rest P c F w x v q d lt e b .same-16
+  counted-room P c F (Fold w i x) = tt
 
 -- what a step keeps
 abbrev pub stepped : Plain → Step → Plain
 stepped P st = record { machine = step (P .machine) st; views = viewsAfter (P .machine) (P .views) st }
 
--- it is answered as the plain machine answers; R-7: and the frames keep their places
-pub record FollowsOn (P : Plain) (c : Core) (st : Step) (F : Follows P c) : Type 0 where
-  pub next : Follows (stepped P st) (stepOn c st .core)
-  pub alike : answerWords (stepOn c st .answer) ≡ answer (P .machine) st
-  pub places : SamePlaces (F .related) (next .related)
+module _ (layout : Layout) (pools : PoolLaws layout) where
+  -- it is answered as the plain machine answers; R-7: and the frames keep their places
+  pub record FollowsOn (P : Plain) (c : Core) (st : Step) (F : Follows layout pools P c) : Type 0 where
+    pub next : Follows layout pools (stepped P st) (stepOn layout c st .core)
+    pub alike : answerWords (stepOn layout c st .answer) ≡ answer (P .machine) st
+    pub places : SamePlaces layout (F .related) (next .related)
 
-pub follows-step : (P : Plain) (c : Core) (st : Step) (F : Follows P c) → FollowsOn P c st F
-follows-step P c st F =
-    let M = P .machine in
-    let r = F .related in
-    let laws = good-laws (M .nodes) (M .splitters) (omega (arith, F .nodes, r .numbers .nodes-le)) (r .numbers .splitters-positive) in
-    let S = simulates (GoodTrees (M .nodes) (M .splitters)) M c r (F .links) (subst (λ N. TreeLaws N (M .splitters) (GoodTrees (M .nodes) (M .splitters))) (sym (F .nodes)) laws) (F .inv .tree) (F .inv .deques) (F .inv .marks)
-    (F .inv .bounds) st (counted-room P c F st) in
-    let z = sizes-step M st in
-    let P′ = stepped P st in
-    let c′ = stepOn c st .core in
-    let t : WithViews r (P′ .machine .nodes) (P′ .machine .splitters) P′ c′ =
-    subst (λ N. WithViews r N (P′ .machine .splitters) P′ c′) (sym (z .nodes)) (subst (λ n. WithViews r (M .nodes) n P′ c′) (sym (z .splitters)) (S .related, S .follows .links (F .links), S .follows .viewed (P .views) (F .viewed), S .follows .places)) in
-    let F′ : Follows P′ c′ = record { related = t .0; links = t .1; viewed = t .2; inv = invariant-step M st (F .inv); nodes = numbers-kept c st .nodes ∙ F .nodes ∙ sym (z .nodes) } in
-    record { next = F′; alike = S .answers .both (same-free P′ c′ F′); places = t .3 }
+  pub follows-step : (P : Plain) (c : Core) (st : Step) (F : Follows layout pools P c) → FollowsOn P c st F
+  follows-step P c st F =
+      let M = P .machine in
+      let r = F .related in
+      let laws = pools .good-laws (M .nodes) (M .splitters) (omega (arith, F .nodes, r .numbers .nodes-le)) (r .numbers .splitters-positive) in
+      let S = simulates layout (pools .GoodTrees (M .nodes) (M .splitters)) M c r (F .links) (subst (λ N. TreeLaws layout N (M .splitters) (pools .GoodTrees (M .nodes) (M .splitters))) (sym (F .nodes)) laws) (F .inv .tree) (F .inv .deques) (F .inv .marks)
+      (F .inv .bounds) st (counted-room layout pools P c F st) in
+      let z = sizes-step M st in
+      let P′ = stepped P st in
+      let c′ = stepOn layout c st .core in
+      let t : WithViews layout pools r (P′ .machine .nodes) (P′ .machine .splitters) P′ c′ =
+      subst (λ N. WithViews layout pools r N (P′ .machine .splitters) P′ c′) (sym (z .nodes)) (subst (λ n. WithViews layout pools r (M .nodes) n P′ c′) (sym (z .splitters)) (S .related, S .follows .links (F .links), S .follows .viewed (P .views) (F .viewed), S .follows .places)) in
+      let F′ : Follows layout pools P′ c′ = record { related = t .0; links = t .1; viewed = t .2; inv = invariant-step M st (F .inv); nodes = numbers-kept layout c st .nodes ∙ F .nodes ∙ sym (z .nodes) } in
+      record { next = F′; alike = S .answers .both (same-free layout pools P′ c′ F′); places = t .3 }
 
--- the same nodes in another pool
-pub follows-elsewhere : (P : Plain) (c : Core) (ws' : List ℕ) → Follows P c → SameNodes (c .head .numbers .nodes) (c .pool) ws' → Follows P (withPool c ws')
-unfolding relates-elsewhere
-follows-elsewhere P c ws' F S =
-    let M = P .machine in
-    let E = F .viewed in
-    record {
-      related = relates-elsewhere ws' (good-trees (M .nodes) (M .splitters) (omega (arith, F .nodes, F .related .numbers .nodes-le))) (F .related) (subst (λ N. SameNodes N (c .pool) ws') (F .nodes) S);
-      links = F .links;
-      viewed = record { ordered = E .ordered; views = E .views; siblings = E .siblings; none-yet = E .none-yet; totals = E .totals };
-      inv = F .inv;
-      nodes = F .nodes;
-    }
+  -- the same nodes in another pool
+  pub follows-elsewhere : (P : Plain) (c : Core) (ws' : List ℕ) → Follows layout pools P c → SameNodes layout (c .head .numbers .nodes) (c .pool) ws' → Follows layout pools P (withPool c ws')
+  unfolding relates-elsewhere
+  follows-elsewhere P c ws' F S =
+      let M = P .machine in
+      let E = F .viewed in
+      record {
+        related = relates-elsewhere layout ws' (pools .good-trees (M .nodes) (M .splitters) (omega (arith, F .nodes, F .related .numbers .nodes-le))) (F .related) (subst (λ N. SameNodes layout N (c .pool) ws') (F .nodes) S);
+        links = F .links;
+        viewed = record { ordered = E .ordered; views = E .views; siblings = E .siblings; none-yet = E .none-yet; totals = E .totals };
+        inv = F .inv;
+        nodes = F .nodes;
+      }
 
-laws : Laws fromStart Follows
-laws = record { carried = carried; keeps = keeps; alike = alike; elsewhere = follows-elsewhere }
-  where
-    keeps : (P : Plain) (c : Core) (d : Decoded) → Follows P c → Follows (record { machine = plainAfter (P .machine) d; views = viewsBy P d }) (recordOn c d .core)
-    keeps P c (Valid st) F = follows-step P c st F .next
-    keeps P c Invalid F = F
+  laws : Laws layout pools fromStart (Follows layout pools)
+  laws = record { carried = carried layout pools; keeps = keeps; alike = alike; elsewhere = follows-elsewhere }
+    where
+      keeps : (P : Plain) (c : Core) (d : Decoded) → Follows layout pools P c → Follows layout pools (record { machine = plainAfter (P .machine) d; views = viewsBy P d }) (recordOn layout c d .core)
+      keeps P c (Valid st) F = follows-step P c st F .next
+      keeps P c Invalid F = F
 
-    alike : (P : Plain) (c : Core) (d : Decoded) → Follows P c → answerWords (recordOn c d .answer) ≡ plainAnswer (P .machine) d
-    alike P c (Valid st) F = follows-step P c st F .alike
-    alike P c Invalid F = refl
+      alike : (P : Plain) (c : Core) (d : Decoded) → Follows layout pools P c → answerWords (recordOn layout c d .answer) ≡ plainAnswer (P .machine) d
+      alike P c (Valid st) F = follows-step P c st F .alike
+      alike P c Invalid F = refl
 
-pub start-follows : (b : Start) → Fit (b .workers) (b .values) (b .parts .frames) (b .pool) → Follows (plainBegun b) (firstCore (b .workers) (b .values) (b .parts .frames) (b .pool))
-start-follows b F = record {
-  related = start-relates (b .workers) (b .values) (b .parts .frames) (b .pool) F;
-  links = start-links (b .workers) (b .values) (b .parts .frames) (b .pool) F;
-  viewed = viewed-start (b .workers) (b .values) (b .parts .frames) (b .pool) F;
-  inv = invariant-start (b .workers) (b .values) (wholeNodes (b .pool)) (length (b .parts .frames)) (F .enough) (F .places-positive);
-  nodes = refl;
-}
+  pub start-follows : (b : Start) → Fit layout (b .workers) (b .values) (b .parts .frames) (b .pool) → Follows layout pools (plainBegun layout b) (firstCore layout (b .workers) (b .values) (b .parts .frames) (b .pool))
+  start-follows b F = record {
+    related = start-relates layout pools (b .workers) (b .values) (b .parts .frames) (b .pool) F;
+    links = start-links layout pools (b .workers) (b .values) (b .parts .frames) (b .pool) F;
+    viewed = viewed-start layout pools (b .workers) (b .values) (b .parts .frames) (b .pool) F;
+    inv = invariant-start (b .workers) (b .values) (wholeNodes layout (b .pool)) (length (b .parts .frames)) (F .enough) (F .places-positive);
+    nodes = refl;
+  }
 
-begins : (b : Start) → Fits (b .parts) → Fit (b .workers) (b .values) (b .parts .frames) (b .pool) → KeptBy Follows (afterStart b) (plainBegun b)
-begins b L F = record {
-  core = firstCore (b .workers) (b .values) (b .parts .frames) (b .pool);
-  held = ap (λ (o : StartResult). record { state = o .state; pool = o .pool }) (fit-started (b .parts) (b .workers) (b .values) (b .pool) L F);
-  follows = start-follows b F;
-}
+  begins : (b : Start) → Fits (b .parts) → Fit layout (b .workers) (b .values) (b .parts .frames) (b .pool) → KeptBy (Follows layout pools) (afterStart layout b) (plainBegun layout b)
+  begins b L F = record {
+    core = firstCore layout (b .workers) (b .values) (b .parts .frames) (b .pool);
+    held = ap (λ (o : StartResult). record { state = o .state; pool = o .pool }) (fit-started layout (b .parts) (b .workers) (b .values) (b .pool) L F);
+    follows = start-follows b F;
+  }
 
--- ---- demand 2, for every accepted start and every list of calls
+module _ (layout : Layout) where
+  -- ---- demand 2, for every accepted start and every list of calls
 
--- the plain machine that has followed a run, with its views
-abbrev followed : Start → List Call → Plain
-followed b calls = let p : Past = runFrom b calls .past in machineBy fromStart (plainBegun b) (recordsIn (p .exchanges)) (p .pools)
+  -- the plain machine that has followed a run, with its views
+  abbrev followed : Start → List Call → Plain
+  followed b calls = let p : Past = runFrom layout b calls .past in machineBy fromStart (plainBegun layout b) (recordsIn (p .exchanges)) (p .pools)
 
--- the run from an accepted start
-run-kept : (b : Start) (calls : List Call) → startResult b .result ≡ 0 → StartWords b → AllCallWords calls → RunKept fromStart Follows laws (plainBegun b) (wholeNodes (b .pool)) (runFrom b calls)
-run-kept b calls e w all-words =
-    let A = started-fit (b .parts) (b .workers) (b .values) (b .pool) e in
-    let K = begins b (A .lengths) (A .fit) in
-    let N = wholeNodes (b .pool) in
-    kept-calls fromStart Follows laws (plainBegun b) N calls (begun (afterStart b)) all-words
-    (kept-begun fromStart Follows laws (plainBegun b) N (afterStart b) K (started-words b e (w .0) (w .1)) (ap (λ (g : StateAndPool). numbersOf (g .state) .nodes) (K .held) ∙ K .follows .nodes))
+module _ (layout : Layout) (pools : PoolLaws layout) where
+  -- the run from an accepted start
+  run-kept : (b : Start) (calls : List Call) → startResult layout b .result ≡ 0 → StartWords b → AllCallWords calls → RunKept layout pools fromStart (Follows layout pools) (laws layout pools) (plainBegun layout b) (wholeNodes layout (b .pool)) (runFrom layout b calls)
+  run-kept b calls e w all-words =
+      let A = started-fit layout (b .parts) (b .workers) (b .values) (b .pool) e in
+      let K = begins layout pools b (A .lengths) (A .fit) in
+      let N = wholeNodes layout (b .pool) in
+      kept-calls layout pools fromStart (Follows layout pools) (laws layout pools) (plainBegun layout b) N calls (begun (afterStart layout b)) all-words
+      (kept-begun layout pools fromStart (Follows layout pools) (laws layout pools) (plainBegun layout b) N (afterStart layout b) K (started-words layout pools b e (w .0) (w .1)) (ap (λ (g : StateAndPool). numbersOf (g .state) .nodes) (K .held) ∙ K .follows .nodes))
 
-pub demand2 : (b : Start) (calls : List Call) → startResult b .result ≡ 0 → StartWords b → AllCallWords calls → Demand2 b calls
-demand2 b calls e w all-words = answers-by fromStart Follows laws (plainBegun b) (wholeNodes (b .pool)) (runFrom b calls) (run-kept b calls e w all-words)
+  pub demand2 : (b : Start) (calls : List Call) → startResult layout b .result ≡ 0 → StartWords b → AllCallWords calls → Demand2 layout b calls
+  demand2 b calls e w all-words = answers-by layout pools fromStart (Follows layout pools) (laws layout pools) (plainBegun layout b) (wholeNodes layout (b .pool)) (runFrom layout b calls) (run-kept b calls e w all-words)
 
--- R-2: whether a write lacks nodes, by the rest of its path and by the count
-pub rest-is-counted : (b : Start) (calls : List Call) → startResult b .result ≡ 0 → StartWords b → AllCallWords calls → runFrom b calls .stateless ≡ false → RestIsCounted b calls
-rest-is-counted b calls e w all-words standing u x v q d at below =
-    let E = run-kept b calls e w all-words .standing standing .0 .fed .kept in
-    let c = E .core in
-    let M = plainNow b calls in
-    let P = followed b calls in
-    let C = carried P c (E .follows) in
-    let G = counted-rest P c (E .follows) u x v q d (there-is-worker M u (omega (arith, ap length at))) at below in
-    let rest-is : rest (c .head .height) (c .pool) (actingIn c u .root) x ≡ restIn (coreIn (runFrom b calls .now)) (Valid (Write u x v)) =
-    own-rest M c C u x v ∙ sym (ap (λ (h : StateAndPool). restIn (coreIn h) (Valid (Write u x v))) (E .held) ∙ ap (λ (d : Core). restIn d (Valid (Write u x v))) (core-counted C)) in
-    let free-is : c .head .«free_count» ≡ chainFree (runFrom b calls .now .state) (runFrom b calls .now .pool) = sym (is-sound C .1) ∙ sym (ap (λ (h : StateAndPool). chainFree (h .state) (h .pool)) (E .held)) in
-    subst (λ (k : ℕ). Counted M k (restIn (coreIn (runFrom b calls .now)) (Valid (Write u x v))) (afterWrite M u q d x v)) free-is
-    (subst (λ (k : ℕ). Counted M (c .head .«free_count») k (afterWrite M u q d x v)) rest-is G)
+  -- R-2: whether a write lacks nodes, by the rest of its path and by the count
+  pub rest-is-counted : (b : Start) (calls : List Call) → startResult layout b .result ≡ 0 → StartWords b → AllCallWords calls → runFrom layout b calls .stateless ≡ false → RestIsCounted layout b calls
+  rest-is-counted b calls e w all-words standing u x v q d at below =
+      let E = run-kept b calls e w all-words .standing standing .0 .fed .kept in
+      let c = E .core in
+      let M = plainNow layout b calls in
+      let P = followed layout b calls in
+      let C = carried layout pools P c (E .follows) in
+      let G = counted-rest layout pools P c (E .follows) u x v q d (there-is-worker M u (omega (arith, ap length at))) at below in
+      let rest-is : layout .rest (c .head .height) (c .pool) (actingIn c u .root) x ≡ restIn layout (coreIn layout (runFrom layout b calls .now)) (Valid (Write u x v)) =
+      own-rest layout pools M c C u x v ∙ sym (ap (λ (h : StateAndPool). restIn layout (coreIn layout h) (Valid (Write u x v))) (E .held) ∙ ap (λ (d : Core). restIn layout d (Valid (Write u x v))) (core-counted layout pools C)) in
+      let free-is : c .head .«free_count» ≡ chainFree layout (runFrom layout b calls .now .state) (runFrom layout b calls .now .pool) = sym (is-sound layout pools C .1) ∙ sym (ap (λ (h : StateAndPool). chainFree layout (h .state) (h .pool)) (E .held)) in
+      subst (λ (k : ℕ). Counted M k (restIn layout (coreIn layout (runFrom layout b calls .now)) (Valid (Write u x v))) (afterWrite M u q d x v)) free-is
+      (subst (λ (k : ℕ). Counted M (c .head .«free_count») k (afterWrite M u q d x v)) rest-is G)
 
-pub writes-again : (b : Start) (calls : List Call) → startResult b .result ≡ 0 → StartWords b → AllCallWords calls → WritesAgain b calls
-writes-again b calls e w all-words u x v v′ h =
-    let R = run-kept b calls e w all-words in
-    let p = runFrom b calls .past in
-    let F = started-fit (b .parts) (b .workers) (b .values) (b .pool) e .fit in
-    second-write (plainNow b calls) u x v v′
-    (subst Invariant (sym (machine-plain (recordsIn (p .exchanges)) (p .pools) (plainBegun b) (R .long)))
-    (invariant-run (plainStart b) (valids (recordsIn (p .exchanges))) (invariant-start (b .workers) (b .values) (wholeNodes (b .pool)) (length (b .parts .frames)) (F .enough) (F .places-positive)))) h
+  pub writes-again : (b : Start) (calls : List Call) → startResult layout b .result ≡ 0 → StartWords b → AllCallWords calls → WritesAgain layout b calls
+  writes-again b calls e w all-words u x v v′ h =
+      let R = run-kept b calls e w all-words in
+      let p = runFrom layout b calls .past in
+      let F = started-fit layout (b .parts) (b .workers) (b .values) (b .pool) e .fit in
+      second-write (plainNow layout b calls) u x v v′
+      (subst Invariant (sym (machine-plain (recordsIn (p .exchanges)) (p .pools) (plainBegun layout b) (R .long)))
+      (invariant-run (plainStart layout b) (valids (recordsIn (p .exchanges))) (invariant-start (b .workers) (b .values) (wholeNodes layout (b .pool)) (length (b .parts .frames)) (F .enough) (F .places-positive)))) h
 
--- after steps and tapes alone, whatever they hand in
-pub started-fed : (b : Start) (ks : List HostCall) → startResult b .result ≡ 0 → let r = runFrom b (map call ks) in Fed fromStart Follows (plainBegun b) (r .now) (r .past .exchanges) (r .past .pools)
-started-fed b ks e =
-    let A = started-fit (b .parts) (b .workers) (b .values) (b .pool) e in
-    fed-calls fromStart Follows laws (plainBegun b) (wholeNodes (b .pool)) ks (begun (afterStart b)) (record { long = refl; kept = begins b (A .lengths) (A .fit); same = refl })
+  -- after steps and tapes alone, whatever they hand in
+  pub started-fed : (b : Start) (ks : List HostCall) → startResult layout b .result ≡ 0 → let r = runFrom layout b (map call ks) in Fed fromStart (Follows layout pools) (plainBegun layout b) (r .now) (r .past .exchanges) (r .past .pools)
+  started-fed b ks e =
+      let A = started-fit layout (b .parts) (b .workers) (b .values) (b .pool) e in
+      fed-calls layout pools fromStart (Follows layout pools) (laws layout pools) (plainBegun layout b) (wholeNodes layout (b .pool)) ks (begun (afterStart layout b)) (record { long = refl; kept = begins layout pools b (A .lengths) (A .fit); same = refl })
 
-pub plain-sound : (b : Start) (ks : List HostCall) → startResult b .result ≡ 0 → isSound (runFrom b (map call ks) .now .state) (runFrom b (map call ks) .now .pool) ≡ true
-plain-sound b ks e = fed-sound fromStart Follows laws (plainBegun b) (wholeNodes (b .pool)) (started-fed b ks e)
+  pub plain-sound : (b : Start) (ks : List HostCall) → startResult layout b .result ≡ 0 → isSound layout (runFrom layout b (map call ks) .now .state) (runFrom layout b (map call ks) .now .pool) ≡ true
+  plain-sound b ks e = fed-sound layout pools fromStart (Follows layout pools) (laws layout pools) (plainBegun layout b) (wholeNodes layout (b .pool)) (started-fed b ks e)
 
 -- ---- demand 3
 
@@ -296,154 +300,155 @@ fields (Read w x) work = record { kind = 5; worker = w; field = x; value = 0; ca
 fields (Write w x v) work = record { kind = 6; worker = w; field = x; value = v; call = refl; decoded = refl }
 fields (Fold w i x) work = record { kind = 7; worker = w; field = i; value = x; call = refl; decoded = refl }
 
--- with a long enough work slice the step is fed
-fed-one : (P : Plain) (h : StateAndPool) (s : Step) (work : List ℕ) → KeptBy Follows h P → P .machine .nodes ≤ length work → recordsIn (exchangesOf h (callOf s work)) ≡ Valid s ∷ []
-fed-one P h s work K long =
-    let c = K .core in
-    let q = fields s work in
-    let room : leb (c .head .numbers .nodes) (length work) ≡ true = le-leb (c .head .numbers .nodes) (length work) (omega (arith, K .follows .nodes, long)) in
-    ap₂ (λ (g : StateAndPool) (k : HostCall). recordsIn (exchangesOf g k)) (K .held) (q .call)
-    ∙ ap (λ (p : StateAndPool × List Exchange). recordsIn (p .1)) (outside-long (carried P c (K .follows)) (q .kind) (q .worker) (q .field) (q .value) work room)
-    ∙ ap (λ (d : Decoded). d ∷ []) (q .decoded)
+module _ (layout : Layout) (pools : PoolLaws layout) where
+  -- with a long enough work slice the step is fed
+  fed-one : (P : Plain) (h : StateAndPool) (s : Step) (work : List ℕ) → KeptBy (Follows layout pools) h P → P .machine .nodes ≤ length work → recordsIn (exchangesOf layout h (callOf s work)) ≡ Valid s ∷ []
+  fed-one P h s work K long =
+      let c = K .core in
+      let q = fields s work in
+      let room : leb (c .head .numbers .nodes) (length work) ≡ true = le-leb (c .head .numbers .nodes) (length work) (omega (arith, K .follows .nodes, long)) in
+      ap₂ (λ (g : StateAndPool) (k : HostCall). recordsIn (exchangesOf layout g k)) (K .held) (q .call)
+      ∙ ap (λ (p : StateAndPool × List Exchange). recordsIn (p .1)) (outside-long layout pools (carried layout pools P c (K .follows)) (q .kind) (q .worker) (q .field) (q .value) work room)
+      ∙ ap (λ (d : Decoded). d ∷ []) (q .decoded)
 
--- a run with these steps has fed them after what it had
-all-fed : (works : ℕ → List ℕ) (ss : List Step) (P : Plain) (r : Run) (i : ℕ) → KeptBy Follows (r .now) P → ((j : ℕ) → P .machine .nodes ≤ length (works j))
-    → recordsIn (runOf r (map call (oneByOne works i ss)) .past .exchanges) ≡ recordsIn (r .past .exchanges) ++ map Valid ss
-all-fed works [] P r i K long = sym (append-nil (recordsIn (r .past .exchanges)))
-all-fed works (s ∷ ss) P r i K long =
-    let h = r .now in
-    let k = callOf s (works i) in
-    let e = fed-one P h s (works i) K (long i) in
-    let A = call-follows fromStart Follows laws P h k K in
-    let K₁ : KeptBy Follows (afterCall h k) (stepped P s) = subst (λ z. KeptBy Follows (afterCall h k) (machineBy fromStart P z (poolsAt (coreIn h) z))) e (A .fed .kept) in
-    let done : recordsIn (r .past .exchanges ++ exchangesOf h k) ≡ recordsIn (r .past .exchanges) ++ (Valid s ∷ []) =
-    map-append (λ (t : Exchange). t .0) (r .past .exchanges) (exchangesOf h k) ∙ ap (λ z. recordsIn (r .past .exchanges) ++ z) e in
-    all-fed works ss (stepped P s) (runAfter r (call k)) (suc i) K₁ (λ j. subst (λ q. q ≤ length (works j)) (sym (sizes-step (P .machine) s .nodes)) (long j))
-    ∙ ap (λ z. z ++ map Valid ss) done
-    ∙ append-assoc (recordsIn (r .past .exchanges)) (Valid s ∷ []) (map Valid ss)
+  -- a run with these steps has fed them after what it had
+  all-fed : (works : ℕ → List ℕ) (ss : List Step) (P : Plain) (r : Run) (i : ℕ) → KeptBy (Follows layout pools) (r .now) P → ((j : ℕ) → P .machine .nodes ≤ length (works j))
+      → recordsIn (runOf layout r (map call (oneByOne works i ss)) .past .exchanges) ≡ recordsIn (r .past .exchanges) ++ map Valid ss
+  all-fed works [] P r i K long = sym (append-nil (recordsIn (r .past .exchanges)))
+  all-fed works (s ∷ ss) P r i K long =
+      let h = r .now in
+      let k = callOf s (works i) in
+      let e = fed-one P h s (works i) K (long i) in
+      let A = call-follows layout pools fromStart (Follows layout pools) (laws layout pools) P h k K in
+      let K₁ : KeptBy (Follows layout pools) (afterCall layout h k) (stepped P s) = subst (λ z. KeptBy (Follows layout pools) (afterCall layout h k) (machineBy fromStart P z (poolsAt layout (coreIn layout h) z))) e (A .fed .kept) in
+      let done : recordsIn (r .past .exchanges ++ exchangesOf layout h k) ≡ recordsIn (r .past .exchanges) ++ (Valid s ∷ []) =
+      map-append (λ (t : Exchange). t .0) (r .past .exchanges) (exchangesOf layout h k) ∙ ap (λ z. recordsIn (r .past .exchanges) ++ z) e in
+      all-fed works ss (stepped P s) (runAfter layout r (call k)) (suc i) K₁ (λ j. subst (λ q. q ≤ length (works j)) (sym (sizes-step (P .machine) s .nodes)) (long j))
+      ∙ ap (λ z. z ++ map Valid ss) done
+      ∙ append-assoc (recordsIn (r .past .exchanges)) (Valid s ∷ []) (map Valid ss)
 
-module _ (b : Start) (calls : List Call) (parts : State) (ws : List ℕ) (works : ℕ → List ℕ)
-    (taken : startResult b .result ≡ 0) (words : StartWords b) (all-words : AllCallWords calls) (returned : MainReturned b calls) (parts-fit : fits parts ≡ true)
-    (same-places : length (parts .frames) ≡ length (b .parts .frames)) (as-many : wholeNodes ws ≡ wholeNodes (b .pool)) (long : (j : ℕ) → wholeNodes (b .pool) ≤ length (works j)) where
-  N : ℕ
-  N = wholeNodes (b .pool)
+  module _ (b : Start) (calls : List Call) (parts : State) (ws : List ℕ) (works : ℕ → List ℕ)
+      (taken : startResult layout b .result ≡ 0) (words : StartWords b) (all-words : AllCallWords calls) (returned : MainReturned layout b calls) (parts-fit : fits parts ≡ true)
+      (same-places : length (parts .frames) ≡ length (b .parts .frames)) (as-many : wholeNodes layout ws ≡ wholeNodes layout (b .pool)) (long : (j : ℕ) → wholeNodes layout (b .pool) ≤ length (works j)) where
+    N : ℕ
+    N = wholeNodes layout (b .pool)
 
-  abbrev places : ℕ
-  places = length (b .parts .frames)
+    abbrev places : ℕ
+    places = length (b .parts .frames)
 
-  b₁ : Start
-  b₁ = aloneStart b parts ws
+    b₁ : Start
+    b₁ = aloneStart b parts ws
 
-  calls₁ : List Call
-  calls₁ = oneWorkerCalls b calls works
+    calls₁ : List Call
+    calls₁ = oneWorkerCalls layout b calls works
 
-  -- the two runs
-  K : KeptBy Follows (afterStart b) (plainBegun b)
-  K = let A = started-fit (b .parts) (b .workers) (b .values) (b .pool) taken in begins b (A .lengths) (A .fit)
+    -- the two runs
+    K : KeptBy (Follows layout pools) (afterStart layout b) (plainBegun layout b)
+    K = let A = started-fit layout (b .parts) (b .workers) (b .values) (b .pool) taken in begins layout pools b (A .lengths) (A .fit)
 
-  fit₁ : Fit 1 (b .values) (parts .frames) ws
-  fit₁ = alone-fit (parts .frames) ws same-places as-many (started-fit (b .parts) (b .workers) (b .values) (b .pool) taken .fit)
+    fit₁ : Fit layout 1 (b .values) (parts .frames) ws
+    fit₁ = alone-fit layout (parts .frames) ws same-places as-many (started-fit layout (b .parts) (b .workers) (b .values) (b .pool) taken .fit)
 
-  K₁ : KeptBy Follows (afterStart b₁) (plainBegun b₁)
-  unfolding b₁
-  K₁ = begins (aloneStart b parts ws) (true-fits parts parts-fit) fit₁
+    K₁ : KeptBy (Follows layout pools) (afterStart layout b₁) (plainBegun layout b₁)
+    unfolding b₁
+    K₁ = begins layout pools (aloneStart b parts ws) (true-fits parts parts-fit) fit₁
 
-  R : RunKept fromStart Follows laws (plainBegun b) (wholeNodes (b .pool)) (runFrom b calls)
-  R = run-kept b calls taken words all-words
+    R : RunKept layout pools fromStart (Follows layout pools) (laws layout pools) (plainBegun layout b) (wholeNodes layout (b .pool)) (runFrom layout b calls)
+    R = run-kept layout pools b calls taken words all-words
 
-  R₁ : Fed fromStart Follows (plainBegun b₁) (runFrom b₁ calls₁ .now) (runFrom b₁ calls₁ .past .exchanges) (runFrom b₁ calls₁ .past .pools)
-  unfolding calls₁
-  R₁ = fed-calls fromStart Follows laws (plainBegun b₁) (wholeNodes (b₁ .pool)) (oneByOne works 0 (oneWorkerSteps (traceOf b calls))) (begun (afterStart b₁)) (record { long = refl; kept = K₁; same = refl })
+    R₁ : Fed fromStart (Follows layout pools) (plainBegun layout b₁) (runFrom layout b₁ calls₁ .now) (runFrom layout b₁ calls₁ .past .exchanges) (runFrom layout b₁ calls₁ .past .pools)
+    unfolding calls₁
+    R₁ = fed-calls layout pools fromStart (Follows layout pools) (laws layout pools) (plainBegun layout b₁) (wholeNodes layout (b₁ .pool)) (oneByOne works 0 (oneWorkerSteps (traceOf layout b calls))) (begun (afterStart layout b₁)) (record { long = refl; kept = K₁; same = refl })
 
-  -- on the plain machine
-  ss : List Step
-  ss = valids (recordsIn (runFrom b calls .past .exchanges))
+    -- on the plain machine
+    ss : List Step
+    ss = valids (recordsIn (runFrom layout b calls .past .exchanges))
 
-  plain-returned : Returned (plainStart b) ss
-  unfolding ss
-  plain-returned = returned-plain (recordsIn (runFrom b calls .past .exchanges)) (runFrom b calls .past .pools) (plainBegun b) (R .long) (subst (λ z. In (102, 3) z) (R .same) returned)
+    plain-returned : Returned (plainStart layout b) ss
+    unfolding ss
+    plain-returned = returned-plain (recordsIn (runFrom layout b calls .past .exchanges)) (runFrom layout b calls .past .pools) (plainBegun layout b) (R .long) (subst (λ z. In (102, 3) z) (R .same) returned)
 
-  D : PlainDemand3 (b .workers) (b .values) N places ss
-  unfolding N
-  D = plain-demand3 (b .workers) (b .values) (wholeNodes (b .pool)) places ss plain-returned
+    D : PlainDemand3 (b .workers) (b .values) N places ss
+    unfolding N
+    D = plain-demand3 (b .workers) (b .values) (wholeNodes layout (b .pool)) places ss plain-returned
 
-  trace-is : traceOf b calls ≡ plainTrace (b .workers) (b .values) N places ss
-  unfolding ss N
-  trace-is = trace-same (plainBegun b) (runFrom b calls .past .exchanges) (runFrom b calls .past .pools) (R .long) (R .same)
+    trace-is : traceOf layout b calls ≡ plainTrace (b .workers) (b .values) N places ss
+    unfolding ss N
+    trace-is = trace-same (plainBegun layout b) (runFrom layout b calls .past .exchanges) (runFrom layout b calls .past .pools) (R .long) (R .same)
 
-  -- the one-worker run
-  ones : List Step
-  ones = oneWorkerSteps (traceOf b calls)
+    -- the one-worker run
+    ones : List Step
+    ones = oneWorkerSteps (traceOf layout b calls)
 
-  ones-are : ones ≡ oneWorkerOf (b .workers) (b .values) N places ss
-  unfolding ones
-  ones-are = ap oneWorkerSteps trace-is
+    ones-are : ones ≡ oneWorkerOf (b .workers) (b .values) N places ss
+    unfolding ones
+    ones-are = ap oneWorkerSteps trace-is
 
-  start-is : plainStart b₁ ≡ start 1 (b .values) N places
-  unfolding N b₁
-  start-is = ap₂ (λ (n k : ℕ). start 1 (b .values) n k) as-many same-places
+    start-is : plainStart layout b₁ ≡ start 1 (b .values) N places
+    unfolding N b₁
+    start-is = ap₂ (λ (n k : ℕ). start 1 (b .values) n k) as-many same-places
 
-  fed : recordsIn (runFrom b₁ calls₁ .past .exchanges) ≡ map Valid ones
-  unfolding ones calls₁ b₁
-  fed = all-fed works (oneWorkerSteps (traceOf b calls)) (plainBegun b₁) (begun (afterStart b₁)) 0 K₁ (λ j. subst (λ q. q ≤ length (works j)) (sym as-many) (long j))
+    fed : recordsIn (runFrom layout b₁ calls₁ .past .exchanges) ≡ map Valid ones
+    unfolding ones calls₁ b₁
+    fed = all-fed works (oneWorkerSteps (traceOf layout b calls)) (plainBegun layout b₁) (begun (afterStart layout b₁)) 0 K₁ (λ j. subst (λ q. q ≤ length (works j)) (sym as-many) (long j))
 
-  steps₁-are : valids (recordsIn (runFrom b₁ calls₁ .past .exchanges)) ≡ oneWorkerOf (b .workers) (b .values) N places ss
-  steps₁-are = ap valids fed ∙ valids-valid ones ∙ ones-are
+    steps₁-are : valids (recordsIn (runFrom layout b₁ calls₁ .past .exchanges)) ≡ oneWorkerOf (b .workers) (b .values) N places ss
+    steps₁-are = ap valids fed ∙ valids-valid ones ∙ ones-are
 
-  trace₁-is : traceOf b₁ calls₁ ≡ plainTrace 1 (b .values) N places (oneWorkerOf (b .workers) (b .values) N places ss)
-  trace₁-is = trace-same (plainBegun b₁) (runFrom b₁ calls₁ .past .exchanges) (runFrom b₁ calls₁ .past .pools) (R₁ .long) (R₁ .same) ∙ ap₂ trace start-is steps₁-are
+    trace₁-is : traceOf layout b₁ calls₁ ≡ plainTrace 1 (b .values) N places (oneWorkerOf (b .workers) (b .values) N places ss)
+    trace₁-is = trace-same (plainBegun layout b₁) (runFrom layout b₁ calls₁ .past .exchanges) (runFrom layout b₁ calls₁ .past .pools) (R₁ .long) (R₁ .same) ∙ ap₂ trace start-is steps₁-are
 
-  answers₁-are : answersIn (runFrom b₁ calls₁ .past .exchanges) ≡ answers (start 1 (b .values) N places) (oneWorkerOf (b .workers) (b .values) N places ss)
-  answers₁-are =
-      let ks = runFrom b₁ calls₁ .past .pools in
-      R₁ .same ∙ ap (λ z. answersBy fromStart (plainBegun b₁) z ks) fed ∙ answers-plain ones ks (plainBegun b₁) (R₁ .long ∙ ap length fed) ∙ ap₂ answers start-is ones-are
+    answers₁-are : answersIn (runFrom layout b₁ calls₁ .past .exchanges) ≡ answers (start 1 (b .values) N places) (oneWorkerOf (b .workers) (b .values) N places ss)
+    answers₁-are =
+        let ks = runFrom layout b₁ calls₁ .past .pools in
+        R₁ .same ∙ ap (λ z. answersBy fromStart (plainBegun layout b₁) z ks) fed ∙ answers-plain ones ks (plainBegun layout b₁) (R₁ .long ∙ ap length fed) ∙ ap₂ answers start-is ones-are
 
-  over : live (followed b calls .machine) ≡ []
-  unfolding ss
-  over =
-      ap live (machine-plain (recordsIn (runFrom b calls .past .exchanges)) (runFrom b calls .past .pools) (plainBegun b) (R .long))
-      ∙ returned-ends (plainStart b) ss (tree-start (b .workers) (b .values) (wholeNodes (b .pool)) places) plain-returned
+    over : live (followed layout b calls .machine) ≡ []
+    unfolding ss
+    over =
+        ap live (machine-plain (recordsIn (runFrom layout b calls .past .exchanges)) (runFrom layout b calls .past .pools) (plainBegun layout b) (R .long))
+        ∙ returned-ends (plainStart layout b) ss (tree-start (b .workers) (b .values) (wholeNodes layout (b .pool)) places) plain-returned
 
-  over₁ : live (followed b₁ calls₁ .machine) ≡ []
-  over₁ =
-      ap live (machine-plain (recordsIn (runFrom b₁ calls₁ .past .exchanges)) (runFrom b₁ calls₁ .past .pools) (plainBegun b₁) (R₁ .long))
-      ∙ ap₂ (λ M z. live (run M z)) start-is steps₁-are
-      ∙ returned-ends (start 1 (b .values) N places) (oneWorkerOf (b .workers) (b .values) N places ss) (tree-start 1 (b .values) N places) (D .returns)
+    over₁ : live (followed layout b₁ calls₁ .machine) ≡ []
+    over₁ =
+        ap live (machine-plain (recordsIn (runFrom layout b₁ calls₁ .past .exchanges)) (runFrom layout b₁ calls₁ .past .pools) (plainBegun layout b₁) (R₁ .long))
+        ∙ ap₂ (λ M z. live (run M z)) start-is steps₁-are
+        ∙ returned-ends (start 1 (b .values) N places) (oneWorkerOf (b .workers) (b .values) N places ss) (tree-start 1 (b .values) N places) (D .returns)
 
-  free-at-end : (h : StateAndPool) (P : Plain) → KeptBy Follows h P → live (P .machine) ≡ [] → AllFree h
-  free-at-end h P E e = subst AllFree (sym (E .held)) (all-free (P .machine) (E .core) (carried P (E .core) (E .follows) .related) e)
+    free-at-end : (h : StateAndPool) (P : Plain) → KeptBy (Follows layout pools) h P → live (P .machine) ≡ [] → AllFree layout h
+    free-at-end h P E e = subst (AllFree layout) (sym (E .held)) (all-free layout pools (P .machine) (E .core) (carried layout pools P (E .core) (E .follows) .related) e)
 
-  -- R-5: "Once Main has returned, each total is .."
-  totals-at-end : (h : StateAndPool) (P : Plain) → KeptBy Follows h P → live (P .machine) ≡ [] → totalsOf (h .state) ≡ totalWords (P .views .totals)
-  totals-at-end h P E e = ap (λ (g : StateAndPool). totalsOf (g .state)) (E .held) ∙ totals-in (E .core .head .numbers) (E .core .totals) (E .follows .related .totals .long) ∙ E .follows .viewed .totals e ∙ view-totals (P .views .totals)
+    -- R-5: "Once Main has returned, each total is .."
+    totals-at-end : (h : StateAndPool) (P : Plain) → KeptBy (Follows layout pools) h P → live (P .machine) ≡ [] → totalsOf (h .state) ≡ totalWords (P .views .totals)
+    totals-at-end h P E e = ap (λ (g : StateAndPool). totalsOf (g .state)) (E .held) ∙ totals-in (E .core .head .numbers) (E .core .totals) (E .follows .related .totals .long) ∙ E .follows .viewed .totals e ∙ view-totals (P .views .totals)
 
-  folds-are : plainTotals (b .workers) (b .values) N places ss ≡ mainFolds (traceOf b calls)
-  unfolding N
-  folds-are = totals-are (b .workers) (b .values) N places ss plain-returned ∙ ap mainFolds (sym trace-is)
+    folds-are : plainTotals (b .workers) (b .values) N places ss ≡ mainFolds (traceOf layout b calls)
+    unfolding N
+    folds-are = totals-are (b .workers) (b .values) N places ss plain-returned ∙ ap mainFolds (sym trace-is)
 
-  last-folds : followed b calls .views .totals ≡ mainFolds (traceOf b calls)
-  unfolding ss N
-  last-folds = ap (λ (W : Views). W .totals) (views-plain (recordsIn (runFrom b calls .past .exchanges)) (runFrom b calls .past .pools) (plainBegun b) (R .long)) ∙ folds-are
+    last-folds : followed layout b calls .views .totals ≡ mainFolds (traceOf layout b calls)
+    unfolding ss N
+    last-folds = ap (λ (W : Views). W .totals) (views-plain (recordsIn (runFrom layout b calls .past .exchanges)) (runFrom layout b calls .past .pools) (plainBegun layout b) (R .long)) ∙ folds-are
 
-  last₁-folds : followed b₁ calls₁ .views .totals ≡ mainFolds (traceOf b calls)
-  unfolding N
-  last₁-folds =
-      ap (λ (W : Views). W .totals) (views-plain (recordsIn (runFrom b₁ calls₁ .past .exchanges)) (runFrom b₁ calls₁ .past .pools) (plainBegun b₁) (R₁ .long))
-      ∙ ap₂ (λ (M : Machine) (z : List Step). runViews M viewsAtStart z .totals) start-is steps₁-are
-      ∙ sym (totals-same (b .workers) (b .values) N places ss plain-returned)
-      ∙ folds-are
+    last₁-folds : followed layout b₁ calls₁ .views .totals ≡ mainFolds (traceOf layout b calls)
+    unfolding N
+    last₁-folds =
+        ap (λ (W : Views). W .totals) (views-plain (recordsIn (runFrom layout b₁ calls₁ .past .exchanges)) (runFrom layout b₁ calls₁ .past .pools) (plainBegun layout b₁) (R₁ .long))
+        ∙ ap₂ (λ (M : Machine) (z : List Step). runViews M viewsAtStart z .totals) start-is steps₁-are
+        ∙ sym (totals-same (b .workers) (b .values) N places ss plain-returned)
+        ∙ folds-are
 
-  pub demand3 : Demand3 b calls parts ws works
-  unfolding ones calls₁ b₁
-  demand3 = record {
-    starts = ap (λ (o : StartResult). o .result) (fit-started parts 1 (b .values) ws (true-fits parts parts-fit) fit₁);
-    all-entered = fed;
-    none-refused = subst allAccepted (sym answers₁-are) (all-accepted (start 1 (b .values) N places) (oneWorkerOf (b .workers) (b .values) N places ss) (D .none-refused));
-    same-frames = λ p. subst (λ z. IsFrame z p ↔ IsFrame (traceOf b calls) p) (sym trace₁-is) (subst (λ z. IsFrame (plainTrace 1 (b .values) N places (oneWorkerOf (b .workers) (b .values) N places ss)) p ↔ IsFrame z p) (sym trace-is) (D .same-frames p));
-    same-steps = λ p. ap (stepsOf p) trace₁-is ∙ D .same-steps p ∙ ap (stepsOf p) (sym trace-is);
-    same-reads = λ p. ap (readsOf p) trace₁-is ∙ D .same-reads p ∙ ap (readsOf p) (sym trace-is);
-    all-free = λ e. free-at-end (runFrom b calls .now) (followed b calls) (R .standing e .0 .fed .kept) over;
-    all-free-alone = free-at-end (runFrom b₁ calls₁ .now) (followed b₁ calls₁) (R₁ .kept) over₁;
-    totals = λ e. totals-at-end (runFrom b calls .now) (followed b calls) (R .standing e .0 .fed .kept) over ∙ ap totalWords last-folds;
-    totals-alone = totals-at-end (runFrom b₁ calls₁ .now) (followed b₁ calls₁) (R₁ .kept) over₁ ∙ ap totalWords last₁-folds;
-  }
+    pub demand3 : Demand3 layout b calls parts ws works
+    unfolding ones calls₁ b₁
+    demand3 = record {
+      starts = ap (λ (o : StartResult). o .result) (fit-started layout parts 1 (b .values) ws (true-fits parts parts-fit) fit₁);
+      all-entered = fed;
+      none-refused = subst allAccepted (sym answers₁-are) (all-accepted (start 1 (b .values) N places) (oneWorkerOf (b .workers) (b .values) N places ss) (D .none-refused));
+      same-frames = λ p. subst (λ z. IsFrame z p ↔ IsFrame (traceOf layout b calls) p) (sym trace₁-is) (subst (λ z. IsFrame (plainTrace 1 (b .values) N places (oneWorkerOf (b .workers) (b .values) N places ss)) p ↔ IsFrame z p) (sym trace-is) (D .same-frames p));
+      same-steps = λ p. ap (stepsOf p) trace₁-is ∙ D .same-steps p ∙ ap (stepsOf p) (sym trace-is);
+      same-reads = λ p. ap (readsOf p) trace₁-is ∙ D .same-reads p ∙ ap (readsOf p) (sym trace-is);
+      all-free = λ e. free-at-end (runFrom layout b calls .now) (followed layout b calls) (R .standing e .0 .fed .kept) over;
+      all-free-alone = free-at-end (runFrom layout b₁ calls₁ .now) (followed layout b₁ calls₁) (R₁ .kept) over₁;
+      totals = λ e. totals-at-end (runFrom layout b calls .now) (followed layout b calls) (R .standing e .0 .fed .kept) over ∙ ap totalWords last-folds;
+      totals-alone = totals-at-end (runFrom layout b₁ calls₁ .now) (followed layout b₁ calls₁) (R₁ .kept) over₁ ∙ ap totalWords last₁-folds;
+    }

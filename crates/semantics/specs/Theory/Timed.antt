@@ -13,6 +13,7 @@ use Rattle.model.specs.Theory.AtSync.{AtSync}
 use Rattle.semantics.specs.Core.{Core}
 use Rattle.semantics.specs.Timing.{ownClock, childClock, Timing}
 use Rattle.semantics.specs.Theory.Relation.{Trees, Relates, SamePlaces}
+use Rattle.soundness.specs.Layout.{Layout}
 
 -- `at` gives the frames' places in a table of n
 pub record Held (at : Name → ℕ) (n : ℕ) (C : Clocks) (t : Timing) : Type 0 where
@@ -22,12 +23,13 @@ pub record Held (at : Name → ℕ) (n : ℕ) (C : Clocks) (t : Timing) : Type 0
   pub work : t .work ≡ C .work
   pub span : t .span ≡ C .span
 
-pub record Timed {P : Trees} {M : Machine} {c : Core} (r : Relates P M c) (C : Clocks) (t : Timing) : Type 0 where
-  pub ordered : InPostOrder (live M) (clockNames (C .clocks))
-  pub at-sync : AtSync M (C .clocks)
-  pub held : Held (r .at) (length (c .frames)) C t
-  -- 0 before Main's return
-  pub quiet : (f : Frame) → In f (live M) → C .span ≡ 0
+module _ (layout : Layout) where
+  pub record Timed {P : Trees} {M : Machine} {c : Core} (r : Relates layout P M c) (C : Clocks) (t : Timing) : Type 0 where
+    pub ordered : InPostOrder (live M) (clockNames (C .clocks))
+    pub at-sync : AtSync M (C .clocks)
+    pub held : Held (r .at) (length (c .frames)) C t
+    -- 0 before Main's return
+    pub quiet : (f : Frame) → In f (live M) → C .span ≡ 0
 
 -- the same clocks and words, said otherwise
 pub held-of : (at : Name → ℕ) (n : ℕ) {C C′ : Clocks} {t t′ : Timing} → C′ ≡ C → t′ ≡ t → Held at n C t → Held at n C′ t′
@@ -43,11 +45,12 @@ held-as at at′ n n′ C t same e H = record {
   span = H .span;
 }
 
-module _ {P : Trees} {M : Machine} {c : Core} (r : Relates P M c) (C : Clocks) (t : Timing) (H : Timed r C t) where
-  -- each clock's frame lives
-  pub clock-frame : (k : Clock) → In k (C .clocks) → (f : Frame) × In f (live M) × (f .name ≡ k .name)
-  clock-frame k m = H .ordered .names .alive (k .name) (In-map (λ (u : Clock). u .name) m)
+module _ (layout : Layout) where
+  module _ {P : Trees} {M : Machine} {c : Core} (r : Relates layout P M c) (C : Clocks) (t : Timing) (H : Timed layout r C t) where
+    -- each clock's frame lives
+    pub clock-frame : (k : Clock) → In k (C .clocks) → (f : Frame) × In f (live M) × (f .name ≡ k .name)
+    clock-frame k m = H .ordered .names .alive (k .name) (In-map (λ (u : Clock). u .name) m)
 
-  -- it keeps its place
-  pub clock-kept : {P′ : Trees} {M′ : Machine} {c′ : Core} (r′ : Relates P′ M′ c′) → SamePlaces r r′ → (k : Clock) → In k (C .clocks) → r′ .at (k .name) ≡ r .at (k .name)
-  clock-kept r′ S k m = let f = clock-frame k m in ap (r′ .at) (sym (f .2)) ∙ S .kept (f .0) (f .1) ∙ ap (r .at) (f .2)
+    -- it keeps its place
+    pub clock-kept : {P′ : Trees} {M′ : Machine} {c′ : Core} (r′ : Relates layout P′ M′ c′) → SamePlaces layout r r′ → (k : Clock) → In k (C .clocks) → r′ .at (k .name) ≡ r .at (k .name)
+    clock-kept r′ S k m = let f = clock-frame k m in ap (r′ .at) (sym (f .2)) ∙ S .kept (f .0) (f .1) ∙ ap (r .at) (f .2)

@@ -16,6 +16,7 @@ use Rattle.semantics.specs.Theory.Relation.{Trees, Relates, Keeps}
 use Rattle.semantics.specs.Theory.Places.{map-cong}
 use Rattle.semantics.specs.Theory.LinksKept.{NamedIn, children-kept}
 use Rattle.semantics.specs.Theory.Viewed.{Viewed}
+use Rattle.soundness.specs.Layout.{Layout}
 
 -- frames of the same names
 post-named : {L L′ : List Frame} {ns : List Name} → NamedIn L L′ → NamedIn L′ L → InPostOrder L ns → InPostOrder L′ ns
@@ -37,16 +38,17 @@ pub children-placed : {fs : List FrameRecord} (at at′ : Name → ℕ) → ((n 
 children-placed {fs} at at′ e n cs C =
     subst (λ (p : ℕ). Children fs p (map at′ cs)) (sym (e n)) (subst (Children fs (at n)) (map-cong at at′ cs (λ m i. sym (e m))) C)
 
-pub viewed-keeps : {P : Trees} {M M′ : Machine} {c c′ : Core} {r : Relates P M c} {r′ : Relates P M′ c′} → Keeps r r′ → (W : Views) → Viewed r W → Viewed r′ W
-viewed-keeps {M = M} {M′ = M′} {c = c} {c′ = c′} {r = r} {r′ = r′} K W H = record {
-  ordered = post-named (K .from) (K .to) (H .ordered);
-  views = λ v m. K .view (r′ .at (v .name)) ∙ ap (λ (p : ℕ). frameAt (c .frames) p .view) (K .places (v .name)) ∙ H .views v m;
-  siblings = λ f m.
-      let x = K .from f m in
-      let ns = viewNames (W .views) in
-      children-kept (c .frames) (c′ .frames) (K .same-length) (K .live) (K .parent) (K .link)
-      (children-placed (r .at) (r′ .at) (K .places) (f .name) (childrenOf (f .name) ns)
-      (subst (λ (n : Name). Children (c .frames) (r .at n) (map (r .at) (childrenOf n ns))) (x .2) (H .siblings (x .0) (x .1))));
-  none-yet = λ f m. let x = K .from f m in H .none-yet (x .0) (x .1);
-  totals = λ e. K .totals ∙ H .totals (none-lived (live M) (K .to) e);
-}
+module _ (layout : Layout) where
+  pub viewed-keeps : {P : Trees} {M M′ : Machine} {c c′ : Core} {r : Relates layout P M c} {r′ : Relates layout P M′ c′} → Keeps layout r r′ → (W : Views) → Viewed layout r W → Viewed layout r′ W
+  viewed-keeps {M = M} {M′ = M′} {c = c} {c′ = c′} {r = r} {r′ = r′} K W H = record {
+    ordered = post-named (K .from) (K .to) (H .ordered);
+    views = λ v m. K .view (r′ .at (v .name)) ∙ ap (λ (p : ℕ). frameAt (c .frames) p .view) (K .places (v .name)) ∙ H .views v m;
+    siblings = λ f m.
+        let x = K .from f m in
+        let ns = viewNames (W .views) in
+        children-kept (c .frames) (c′ .frames) (K .same-length) (K .live) (K .parent) (K .link)
+        (children-placed (r .at) (r′ .at) (K .places) (f .name) (childrenOf (f .name) ns)
+        (subst (λ (n : Name). Children (c .frames) (r .at n) (map (r .at) (childrenOf n ns))) (x .2) (H .siblings (x .0) (x .1))));
+    none-yet = λ f m. let x = K .from f m in H .none-yet (x .0) (x .1);
+    totals = λ e. K .totals ∙ H .totals (none-lived (live M) (K .to) e);
+  }

@@ -23,50 +23,53 @@ use Rattle.semantics.specs.Theory.Starts.{Fit}
 use Rattle.semantics.specs.Theory.StartRelates.{firstCore, start-relates}
 use Rattle.semantics.specs.Theory.ToSoundFrames.{inside, alive, children-is}
 use Rattle.semantics.specs.Theory.Viewed.{Viewed}
+use Rattle.soundness.specs.Layout.{Layout}
+use Rattle.semantics.specs.Theory.Pools.{PoolLaws}
 
-module _ (workers : ℕ) (vs : List ℕ) (lent : List FrameRecord) (ws : List ℕ) (F : Fit workers vs lent ws) where
-  abbrev L : List Frame
-  L = live (start workers vs (wholeNodes ws) (length lent))
+module _ (layout : Layout) (pools : PoolLaws layout) where
+  module _ (workers : ℕ) (vs : List ℕ) (lent : List FrameRecord) (ws : List ℕ) (F : Fit layout workers vs lent ws) where
+    abbrev L : List Frame
+    L = live (start workers vs (wholeNodes layout ws) (length lent))
 
-  abbrev at : Name → ℕ
-  at = start-relates workers vs lent ws F .at
+    abbrev at : Name → ℕ
+    at = start-relates layout pools workers vs lent ws F .at
 
-  abbrev fs : List FrameRecord
-  fs = initFrames lent
+    abbrev fs : List FrameRecord
+    fs = initFrames lent
 
-  -- Main lives, and no other frame
-  main-lives : In (main vs) L
-  main-lives = subst (λ (l : List Frame). In (main vs) l) (sym (live-start workers vs (wholeNodes ws) (length lent))) (here refl)
+    -- Main lives, and no other frame
+    main-lives : In (main vs) L
+    main-lives = subst (λ (l : List Frame). In (main vs) l) (sym (live-start workers vs (wholeNodes layout ws) (length lent))) (here refl)
 
-  is-main : (f : Frame) → In f L → f .name ≡ []
-  is-main f m = ap (λ (z : Frame). z .name) (In-one (subst (λ (l : List Frame). In f l) (live-start workers vs (wholeNodes ws) (length lent)) m))
+    is-main : (f : Frame) → In f L → f .name ≡ []
+    is-main f m = ap (λ (z : Frame). z .name) (In-one (subst (λ (l : List Frame). In f l) (live-start workers vs (wholeNodes layout ws) (length lent)) m))
 
-  -- "Main in place 0"
-  main-place : at [] ≡ 0
-  main-place = elim (ℕ-discrete (at []) 0) [
-    | yes e ↦ e
-    | no e ↦
-        let free = init-free lent (F .places-positive) (F .places-le) (at []) (omega arith) (omega (arith, length-init lent, inside (start-relates workers vs lent ws F) (main vs) main-lives)) in
-        absurd (omega (arith, alive (start-relates workers vs lent ws F) (main vs) main-lives, ap (λ (z : FrameRecord). z .live) free))
-  ]
+    -- "Main in place 0"
+    main-place : at [] ≡ 0
+    main-place = elim (ℕ-discrete (at []) 0) [
+      | yes e ↦ e
+      | no e ↦
+          let free = init-free lent (F .places-positive) (F .places-le) (at []) (omega arith) (omega (arith, length-init lent, inside layout (start-relates layout pools workers vs lent ws F) (main vs) main-lives)) in
+          absurd (omega (arith, alive layout (start-relates layout pools workers vs lent ws F) (main vs) main-lives, ap (λ (z : FrameRecord). z .live) free))
+    ]
 
-  main-record : frameAt fs (at []) ≡ mainFrame 0
-  main-record = ap (frameAt fs) main-place ∙ init-main lent (F .places-positive) (F .places-le)
+    main-record : frameAt fs (at []) ≡ mainFrame 0
+    main-record = ap (frameAt fs) main-place ∙ init-main lent (F .places-positive) (F .places-le)
 
-  no-children : Children fs (at []) []
-  no-children = children-empty fs (at []) (omega (arith, length-init lent, F .places-le)) (children-is (start-relates workers vs lent ws F) (tree-start workers vs (wholeNodes ws) (length lent)) (main vs) main-lives ∙ ap (childCount []) (live-start workers vs (wholeNodes ws) (length lent)))
+    no-children : Children fs (at []) []
+    no-children = children-empty fs (at []) (omega (arith, length-init lent, F .places-le)) (children-is layout (start-relates layout pools workers vs lent ws F) (tree-start workers vs (wholeNodes layout ws) (length lent)) (main vs) main-lives ∙ ap (childCount []) (live-start workers vs (wholeNodes layout ws) (length lent)))
 
-  pub start-links : Links (firstCore workers vs lent ws .frames) (start-relates workers vs lent ws F .at) (live (start workers vs (wholeNodes ws) (length lent)))
-  start-links = record {
-    children = λ f m. ([], subst (λ (n : Name). Children fs (at n) []) (sym (is-main f m)) no-children);
-    main-link = λ f m e. ap (λ (n : Name). frameAt fs (at n) .younger) e ∙ ap (λ (z : FrameRecord). z .younger) main-record;
-  }
+    pub start-links : Links (firstCore layout workers vs lent ws .frames) (start-relates layout pools workers vs lent ws F .at) (live (start workers vs (wholeNodes layout ws) (length lent)))
+    start-links = record {
+      children = λ f m. ([], subst (λ (n : Name). Children fs (at n) []) (sym (is-main f m)) no-children);
+      main-link = λ f m e. ap (λ (n : Name). frameAt fs (at n) .younger) e ∙ ap (λ (z : FrameRecord). z .younger) main-record;
+    }
 
-  pub viewed-start : Viewed (start-relates workers vs lent ws F) viewsAtStart
-  viewed-start = record {
-    ordered = post-start workers vs (wholeNodes ws) (length lent);
-    views = λ v m. subst (λ (u : View). frameAt fs (at (u .name)) .view ≡ viewOf (u .folds)) (sym (In-one m)) (ap (λ (z : FrameRecord). z .view) main-record);
-    siblings = λ f m. rw (is-main f m) no-children;
-    none-yet = λ f m. refl;
-    totals = λ e. absurd (cons≢nil (sym (live-start workers vs (wholeNodes ws) (length lent)) ∙ e));
-  }
+    pub viewed-start : Viewed layout (start-relates layout pools workers vs lent ws F) viewsAtStart
+    viewed-start = record {
+      ordered = post-start workers vs (wholeNodes layout ws) (length lent);
+      views = λ v m. subst (λ (u : View). frameAt fs (at (u .name)) .view ≡ viewOf (u .folds)) (sym (In-one m)) (ap (λ (z : FrameRecord). z .view) main-record);
+      siblings = λ f m. rw (is-main f m) no-children;
+      none-yet = λ f m. refl;
+      totals = λ e. absurd (cons≢nil (sym (live-start workers vs (wholeNodes layout ws) (length lent)) ∙ e));
+    }

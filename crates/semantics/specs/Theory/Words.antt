@@ -26,6 +26,7 @@ use Rattle.semantics.specs.Core.{Core, StepResult, judged, spawnOn, stea
 use Rattle.semantics.specs.Entries.{recordOn}
 use Rattle.semantics.specs.Calls.{refusedWhole, saysAccepted, bottomEntry, turnEntry}
 use Rattle.semantics.specs.Theory.Refusals.{number-range}
+use Rattle.soundness.specs.Layout.{Layout}
 
 -- ---- the two words of an answer, in one number
 
@@ -60,31 +61,32 @@ judged-not-whole (t ∷ ts) c d h k = elim (decided (t .0)) [ inl e ↦ rw e (h 
 ended-whole : (o : Returned) → refusedWhole (answerWords (Accepted (Ended o))) ≡ false
 ended-whole o = refl
 
-step-not-whole : (c : Core) (st : Step) → refusedWhole (answerWords (stepOn c st .answer)) ≡ false
-unfolding stepOn
-step-not-whole c st = judged-not-whole (testsOf c st) c (doneBy c st) (tests st) (done st)
-  where
-    tests : (st : Step) → NotWhole (testsOf c st)
-    tests (Spawn w) = (refl, (refl, (refl, (refl, tt))))
-    tests (Return w) = (refl, (refl, (refl, tt)))
-    tests (Steal w v) = (refl, (refl, (refl, (refl, tt))))
-    tests (Sync w) = (refl, (refl, (refl, tt)))
-    tests (Read w x) = (refl, (refl, (refl, (refl, tt))))
-    tests (Write w x v) = (refl, (refl, (refl, (refl, (refl, tt)))))
-    tests (Fold w r v) = (refl, (refl, (refl, (refl, tt))))
+module _ (layout : Layout) where
+  step-not-whole : (c : Core) (st : Step) → refusedWhole (answerWords (stepOn layout c st .answer)) ≡ false
+  unfolding stepOn
+  step-not-whole c st = judged-not-whole (testsOf layout c st) c (doneBy layout c st) (tests st) (done st)
+    where
+      tests : (st : Step) → NotWhole (testsOf layout c st)
+      tests (Spawn w) = (refl, (refl, (refl, (refl, tt))))
+      tests (Return w) = (refl, (refl, (refl, tt)))
+      tests (Steal w v) = (refl, (refl, (refl, (refl, tt))))
+      tests (Sync w) = (refl, (refl, (refl, tt)))
+      tests (Read w x) = (refl, (refl, (refl, (refl, tt))))
+      tests (Write w x v) = (refl, (refl, (refl, (refl, (refl, tt)))))
+      tests (Fold w r v) = (refl, (refl, (refl, (refl, tt))))
 
-    done : (st : Step) → refusedWhole (answerWords (doneBy c st .answer)) ≡ false
-    done (Spawn w) = unfold spawnOn in refl
-    done (Return w) = let a = return-answers c w in ap (λ z. refusedWhole (answerWords z)) (a .1) ∙ ended-whole (a .0)
-    done (Steal w v) = unfold stealOn in refl
-    done (Sync w) = unfold syncOn in refl
-    done (Read w x) = unfold readOn in refl
-    done (Write w x v) = unfold writeOn in refl
-    done (Fold w r v) = unfold foldOn in refl
+      done : (st : Step) → refusedWhole (answerWords (doneBy layout c st .answer)) ≡ false
+      done (Spawn w) = unfold spawnOn in refl
+      done (Return w) = let a = return-answers layout c w in ap (λ z. refusedWhole (answerWords z)) (a .1) ∙ ended-whole (a .0)
+      done (Steal w v) = unfold stealOn in refl
+      done (Sync w) = unfold syncOn in refl
+      done (Read w x) = unfold readOn in refl
+      done (Write w x v) = unfold writeOn in refl
+      done (Fold w r v) = unfold foldOn in refl
 
-pub not-whole : (c : Core) (d : Decoded) → refusedWhole (answerWords (recordOn c d .answer)) ≡ false
-not-whole c (Valid st) = step-not-whole c st
-not-whole c Invalid = refl
+  pub not-whole : (c : Core) (d : Decoded) → refusedWhole (answerWords (recordOn layout c d .answer)) ≡ false
+  not-whole c (Valid st) = step-not-whole c st
+  not-whole c Invalid = refl
 
 -- ---- a record that is refused changes nothing
 
@@ -95,22 +97,23 @@ judged-keeps : (ts : List (Bool × Refusal)) (c : Core) (d : StepResult) → acc
 judged-keeps [] c d a e = absurd (true≢false (sym a ∙ e))
 judged-keeps (t ∷ ts) c d a e = elim (decided (t .0)) [ inl b ↦ rw b | inr b ↦ rw b (judged-keeps ts c d a (rw b at e)) ]
 
-done-accepts : (c : Core) (st : Step) → accepts (doneBy c st .answer) ≡ true
-done-accepts c (Spawn w) = unfold spawnOn in refl
-done-accepts c (Return w) = ap accepts (return-answers c w .1)
-done-accepts c (Steal w v) = unfold stealOn in refl
-done-accepts c (Sync w) = unfold syncOn in refl
-done-accepts c (Read w x) = unfold readOn in refl
-done-accepts c (Write w x v) = unfold writeOn in refl
-done-accepts c (Fold w r v) = unfold foldOn in refl
+module _ (layout : Layout) where
+  done-accepts : (c : Core) (st : Step) → accepts (doneBy layout c st .answer) ≡ true
+  done-accepts c (Spawn w) = unfold spawnOn in refl
+  done-accepts c (Return w) = ap accepts (return-answers layout c w .1)
+  done-accepts c (Steal w v) = unfold stealOn in refl
+  done-accepts c (Sync w) = unfold syncOn in refl
+  done-accepts c (Read w x) = unfold readOn in refl
+  done-accepts c (Write w x v) = unfold writeOn in refl
+  done-accepts c (Fold w r v) = unfold foldOn in refl
 
-step-keeps : (c : Core) (st : Step) → accepts (stepOn c st .answer) ≡ false → stepOn c st .core ≡ c
-unfolding stepOn
-step-keeps c st e = judged-keeps (testsOf c st) c (doneBy c st) (done-accepts c st) e
+  step-keeps : (c : Core) (st : Step) → accepts (stepOn layout c st .answer) ≡ false → stepOn layout c st .core ≡ c
+  unfolding stepOn
+  step-keeps c st e = judged-keeps (testsOf layout c st) c (doneBy layout c st) (done-accepts c st) e
 
-pub refused-keeps : (c : Core) (d : Decoded) → answerWords (recordOn c d .answer) .0 < 100 → recordOn c d .core ≡ c
-refused-keeps c (Valid st) h = step-keeps c st (lt-leb 100 (answerWords (stepOn c st .answer) .0) h)
-refused-keeps c Invalid h = refl
+  pub refused-keeps : (c : Core) (d : Decoded) → answerWords (recordOn layout c d .answer) .0 < 100 → recordOn layout c d .core ≡ c
+  refused-keeps c (Valid st) h = step-keeps c st (lt-leb 100 (answerWords (stepOn layout c st .answer) .0) h)
+  refused-keeps c Invalid h = refl
 
 -- ---- the plain machine's refusals are 8 to 16, and 20
 
