@@ -8,6 +8,7 @@ use Rattle.semantics.specs.declared.Head.{Head}
 use Rattle.semantics.specs.Core.{endAt}
 use Rattle.semantics.specs.Ranges.{EndsUpward, Ready}
 use Rattle.engine.specs.Promises.{core}
+use Rattle.soundness.specs.Layout.{twoWords}
 
 ends-any : (d : ℕ) (h : Head) (ts us ds : List ℕ) (fs : List Frame) (ws : List ℕ) (q : ℕ) → EndsUpward d (core h ts ds fs ws) q → EndsUpward d (core h us ds fs ws) q
 unfolding endAt
@@ -16,11 +17,11 @@ ends-any (suc d) h ts us ds fs ws q x = (
   x .0,
   λ t.
       let y = x .1 t in
-      (record { links = y .0 .links; free-node = y .0 .free-node; root = y .0 .root; frame = y .0 .frame }, y .1, ends-any d _ _ _ _ _ _ _ (y .2)),
+      (record { room = y .0 .room; root = y .0 .root; frame = y .0 .frame }, y .1, ends-any d _ _ _ _ _ _ _ (y .2)),
 )
 
 -- the frame at place p, which has ended
-ended-any : (d : ℕ) (h : Head) (ts us ds : List ℕ) (fs : List Frame) (ws : List ℕ) (p q : ℕ) → EndsUpward d (endAt (core h ts ds fs ws) p) q → EndsUpward d (endAt (core h us ds fs ws) p) q
+ended-any : (d : ℕ) (h : Head) (ts us ds : List ℕ) (fs : List Frame) (ws : List ℕ) (p q : ℕ) → EndsUpward d (endAt twoWords (core h ts ds fs ws) p) q → EndsUpward d (endAt twoWords (core h us ds fs ws) p) q
 unfolding endAt
 ended-any d h ts us ds fs ws p q x = ends-any d _ _ _ _ _ _ q x
 
@@ -33,7 +34,8 @@ ready-any h ts us ds fs ws r = record {
   long-deques = r .long-deques;
   table = r .table;
   few-places = r .few-places;
-  links = r .links;
+  nodes-le = r .nodes-le;
+  pool-room = r .pool-room;
   free-node = r .free-node;
   free-place = r .free-place;
   sizes = r .sizes;

@@ -3,15 +3,14 @@ use mathlib.Core.Path.{_≡_, refl, sym, ap, _∙_, subst}
 use mathlib.Core.Logic.{_≢_, inl, inr}
 use mathlib.Core.Bool.{true, false, cond}
 use mathlib.Core.List.{List}
-use Prim.Native.Nat.{ℕ, suc, _-_, _≤_, _<_}
+use Prim.Native.Nat.{ℕ, suc, _-_, _*_, _≤_, _<_}
 use native.Mathlib.Omega.{arith}
 use lib.Dec.{eqb}
 use lib.ListN.{length}
 use borrow.Author.Tests.{eq-eqb, ne-eqb}
 use Rattle.words.specs.Basics.{none}
 use Rattle.reducers.specs.Reducers.{viewWords}
-use Rattle.pool.specs.Pool.{release}
-use Rattle.pool.specs.Links.{Link, LinksIn}
+use Rattle.packed.specs.Pool.{release}
 use Rattle.frames.specs.Widths.{maxWorkers, maxPlaces, dequeWords}
 use Rattle.frames.specs.declared.Frame.{Frame}
 use Rattle.frames.specs.declared.Returned.{Returned}
@@ -20,7 +19,7 @@ use Rattle.frames.specs.Frames.{frameAt}
 use Rattle.frames.specs.Deques.{size, bottom, pop}
 use Rattle.frames.specs.Steps.{Table, endFrame, endsToo}
 use Rattle.frames.specs.Theory.Ends.{length-end}
-use Rattle.frames.specs.Ranges.{ParentOf, EndsIn}
+use Rattle.frames.specs.Ranges.{EndsIn}
 use Rattle.frames.specs.Promises.{Waits, GoesOn}
 use Rattle.model.specs.declared.Step.the-variants.{Return}
 use Rattle.semantics.specs.declared.Head.{Head}
@@ -31,6 +30,7 @@ use Rattle.semantics.specs.Ranges.{EndsUpward}
 use Rattle.engine.specs.declared.Out.{Out}
 use Rattle.engine.specs.Promises.{core, renewed, headAfter, Leaves, LeavesEnded, Answers, kindOn, EndsFrom, endsFrom}
 use Rattle.engine.proofs.Steps.{both-words, leaves}
+use Rattle.soundness.specs.Layout.{twoWords}
 
 -- what ends leave, of the core that they end in
 ends-in : (h : Head) (o : Out) (ts ds : List ℕ) (fs : List Frame) (ws : List ℕ) (node place count : ℕ) (s : Returned) (d : StepResult) → LeavesEnded o node place count s
@@ -53,8 +53,8 @@ module _ (h : Head) (ts ds : List ℕ) (fs : List Frame) (ws : List ℕ) (w n no
     pub frame-asks : p < length fs
     frame-asks = r .can-end .frame .within
 
-    pub release-asks : (root : ℕ) → root ≡ frameAt fs p .root → LinksIn (h .numbers .nodes) ws × (0 < h .numbers .nodes) × Link (h .numbers .nodes) node × Link (h .numbers .nodes) root
-    release-asks root e = (r .can-end .links, r .nodes-positive, r .can-end .free-node, inl (subst (λ (x : ℕ). x < h .numbers .nodes) (sym e) (r .can-end .root)))
+    pub release-asks : (2 * h .numbers .nodes ≤ length ws) × (h .numbers .nodes ≤ 16384)
+    release-asks = (r .can-end .room, r .nodes-le)
 
     pub end-asks : (q : ℕ) → q ≡ frameAt fs p .parent → EndsIn fs p q × (length fs ≤ maxPlaces)
     end-asks q e = (subst (λ (x : ℕ). EndsIn fs p x) (sym e) (r .can-end .frame), r .few-places)
@@ -65,12 +65,12 @@ module _ (h : Head) (ts ds : List ℕ) (fs : List Frame) (ws : List ℕ) (w n no
 
     -- afterwards; root and q are the root and the parent of its record
     module _ (root q : ℕ) (eo : root ≡ frameAt fs p .root) (eq : q ≡ frameAt fs p .parent) (ts₁ : List ℕ) (fs₁ : List Frame) (ws₁ : List ℕ) (node₁ count₁ : ℕ)
-        (er : (ws₁ ≡ release (h .height) ws node count root .0) × (node₁ ≡ release (h .height) ws node count root .1) × (count₁ ≡ release (h .height) ws node count root .2))
+        (er : (ws₁ ≡ release (h .numbers .nodes) (h .height) ws node count root .0) × (node₁ ≡ release (h .numbers .nodes) (h .height) ws node count root .1) × (count₁ ≡ release (h .numbers .nodes) (h .height) ws node count root .2))
         (e₁ : fs₁ ≡ endFrame fs place p) (et : ts₁ ≡ cond (eqb q none) (viewWords (frameAt fs p .view)) ts) where
       abbrev after : Core
       after = core (renewed h node₁ p count₁) ts₁ ds fs₁ ws₁
 
-      after-is : endAt before p ≡ after
+      after-is : endAt twoWords before p ≡ after
       unfolding endAt
       after-is = rw (er .0, er .1, er .2, e₁, et, eo, eq)
 
@@ -84,7 +84,7 @@ module _ (h : Head) (ts ds : List ℕ) (fs : List Frame) (ws : List ℕ) (w n no
         alone : size ds w ≡ 0
         alone = omega (arith, z, r .has)
 
-        ends-is : endsFrom before w p ≡ upward (frameAt fs p .depth) after w q
+        ends-is : endsFrom before w p ≡ upward twoWords (frameAt fs p .depth) after w q
         ends-is = rw (eq-eqb (size ds w) 0 alone, after-is, eq)
 
         module _ (m : q ≢ none) where
@@ -98,7 +98,7 @@ module _ (h : Head) (ts ds : List ℕ) (fs : List Frame) (ws : List ℕ) (w n no
           rises : EndsUpward (suc (frameAt fs p .depth - 1)) after q
           rises =
               subst (λ (d : ℕ). EndsUpward d after q) depth-is
-              (subst (λ (c : Core). EndsUpward (frameAt fs p .depth) c q) after-is (subst (λ (x : ℕ). EndsUpward (frameAt fs p .depth) (endAt before p) x) (sym eq) (r .upward)))
+              (subst (λ (c : Core). EndsUpward (frameAt fs p .depth) c q) after-is (subst (λ (x : ℕ). EndsUpward (frameAt fs p .depth) (endAt twoWords before p) x) (sym eq) (r .upward)))
 
           pub parent-asks : q < length fs₁
           parent-asks = rises .0
@@ -116,10 +116,10 @@ module _ (h : Head) (ts ds : List ℕ) (fs : List Frame) (ws : List ℕ) (w n no
                   long-deques = r .long-deques;
                   has = sym (ap suc alone);
                   alone = λ _. refl;
-                  nodes-positive = r .nodes-positive;
+                  nodes-le = r .nodes-le;
                   few-places = subst (λ (k : ℕ). k ≤ maxPlaces) (sym (ap length e₁ ∙ length-end fs place p)) (r .few-places);
                   can-end = x .0;
-                  upward = subst (λ (d : ℕ). EndsUpward d (endAt after q) (frameAt fs₁ q .parent)) (sym (x .1)) (x .2);
+                  upward = subst (λ (d : ℕ). EndsUpward d (endAt twoWords after q) (frameAt fs₁ q .parent)) (sym (x .1)) (x .2);
                 }
 
             pub next-same : endsFrom after w q ≡ endsFrom before w p

@@ -3,15 +3,16 @@ use mathlib.Core.Path.{_≡_, refl, sym, ap, _∙_, subst}
 use mathlib.Core.Logic.{inl, inr}
 use mathlib.Core.Bool.{Bool, true, false, cond, not, _||_}
 use mathlib.Core.List.{List, [], _∷_}
-use Prim.Native.Nat.{ℕ, zero, suc, _+_, _-_, _*_, _≤_, _<_}
+use Prim.Native.Nat.{ℕ, zero, suc, _-_, _*_, _≤_, _<_}
 use native.Mathlib.Omega.{arith}
 use lib.Dec.{eqb, ltb}
 use lib.ListN.{length}
 use borrow.Author.Tests.{eqb-true}
 use Rattle.words.specs.Basics.{none}
 use Rattle.words.specs.Tests.{neither, not-false, lt-of, ge-of}
-use Rattle.pool.specs.Pool.{firstShared, rest}
-use Rattle.pool.specs.Links.{Link, PathIn, IsShared, WriteIn}
+use Rattle.packed.specs.Pool.{firstShared, rest}
+use Rattle.pool.specs.Links.{Link}
+use Rattle.packed.specs.Links.{PathIn, IsShared, WriteIn}
 use Rattle.frames.specs.Widths.{maxWorkers, maxPlaces, dequePlaces, dequeWords}
 use Rattle.frames.specs.declared.Frame.{Frame}
 use Rattle.frames.specs.Frames.{frameAt}
@@ -25,6 +26,7 @@ use Rattle.semantics.specs.Core.{Core, stealTests, allIdle, popped, endAt}
 use Rattle.semantics.specs.Ranges.{EndsUpward, Ready}
 use Rattle.engine.proofs.Steps.{refusal-some}
 use Rattle.engine.specs.Promises.{core, refusalBy, ActsOn, ActsAt, EndsFrom, SizesIn}
+use Rattle.soundness.specs.Layout.{twoWords}
 
 pub sizes-in : {c : Core} → Ready c → SizesIn (c .head .numbers .workers) (c .deques)
 sizes-in r = record { long = r .long-deques; workers-le = r .workers-le; sizes = r .sizes; absent = r .absent }
@@ -46,7 +48,7 @@ acts-at c w n p r l a =
       root = subst (λ (q : ℕ). frameAt (c .frames) q .root < c .head .numbers .nodes) (sym (a .acting)) (r .root w w8 some);
       parent = subst (λ (q : ℕ). ParentOf (c .frames) q (frameAt (c .frames) q)) (sym (a .acting)) (r .parent w w8 some);
       counts = subst (λ (q : ℕ). ParentCounts (c .frames) (frameAt (c .frames) q)) (sym (a .acting)) (r .counts w w8 some);
-      upward = λ z. subst (λ (q : ℕ). frameAt (c .frames) q .outstanding ≡ 0 → EndsUpward (frameAt (c .frames) q .depth) (endAt (popped c w) q) (frameAt (c .frames) q .parent)) (sym (a .acting)) (r .upward w w8 some) z;
+      upward = λ z. subst (λ (q : ℕ). frameAt (c .frames) q .outstanding ≡ 0 → EndsUpward (frameAt (c .frames) q .depth) (endAt twoWords (popped c w) q) (frameAt (c .frames) q .parent)) (sym (a .acting)) (r .upward w w8 some) z;
       path = λ x lx. subst (λ (q : ℕ). PathIn (c .head .numbers .nodes) (c .pool) (c .head .height) (frameAt (c .frames) q .root) x) (sym (a .acting)) (r .path w x w8 some lx);
       writes = λ x lx.
           subst (λ (q : ℕ). rest (c .head .height) (c .pool) (frameAt (c .frames) q .root) x ≤ c .head .«free_count» →
@@ -85,11 +87,10 @@ module _ (c : Core) (w n p : ℕ) (r : Ready c) (a : ActsAt c w n p) (f : Frame)
         long-deques = length-pop (c .deques) w ∙ r .long-deques;
         has = omega (arith, a .has, a .busy, size-pop (c .deques) w (r .long-deques) (a .worker));
         alone = top-alone;
-        nodes-positive = r .nodes-positive;
+        nodes-le = r .nodes-le;
         few-places = r .few-places;
         can-end = record {
-          links = r .links;
-          free-node = r .free-node;
+          room = r .pool-room;
           root = a .root;
           frame = record { within = a .within; up = refl; parent = a .parent; counts = a .counts };
         };
@@ -125,9 +126,9 @@ module _ (h : Head) (ts ds : List ℕ) (fs : List Frame) (ws : List ℕ) (w v : 
 
 module _ (c : Core) (w n p : ℕ) (r : Ready c) (a : ActsAt c w n p) (root : ℕ) (er : root ≡ frameAt (c .frames) p .root) where
   pub read-asks : (x : ℕ) → x < c .head .numbers .splitters
-      → (4 * c .head .numbers .nodes ≤ length (c .pool)) × (c .head .height ≤ 32) × PathIn (c .head .numbers .nodes) (c .pool) (c .head .height) root x
+      → (2 * c .head .numbers .nodes ≤ length (c .pool)) × (c .head .height ≤ 32) × PathIn (c .head .numbers .nodes) (c .pool) (c .head .height) root x
   read-asks x l = (
-    r .links .room,
+    r .pool-room,
     omega (arith, r .low),
     subst (λ (i : ℕ). PathIn (c .head .numbers .nodes) (c .pool) (c .head .height) i x) (sym er) (a .path x l),
   )
@@ -140,17 +141,17 @@ module _ (c : Core) (w n p : ℕ) (r : Ready c) (a : ActsAt c w n p) (root : ℕ
       subst (λ (i : ℕ). rest (c .head .height) (c .pool) i x ≤ c .head .«free_count» → WriteIn (c .head .numbers .nodes) (c .head .height) (c .pool) (c .head .numbers .«free_node») x (firstShared (c .head .height) (c .pool) i i x))
       (sym er) (a .writes x l) enough
 
-  module _ (x : ℕ) (l : x < c .head .numbers .splitters) {b : Bool} {m at link : ℕ} (e : IsShared (c .head .height) x b m at link (firstShared (c .head .height) (c .pool) root root x)) where
+  module _ (x : ℕ) (l : x < c .head .numbers .splitters) {b : Bool} {m node above : ℕ} (e : IsShared (c .head .height) b m node above (firstShared (c .head .height) (c .pool) root root x)) where
     -- of the leaf, no node being shared
-    pub leaf-asks : b ≡ false → at + 3 < length (c .pool)
+    pub leaf-asks : b ≡ false → (2 * c .head .numbers .nodes ≤ length (c .pool)) × (node < c .head .numbers .nodes)
     leaf-asks n =
         let z : firstShared (c .head .height) (c .pool) root root x .0 ≡ 0 = e .rest ∙ ap (λ b. cond b (suc m) 0) n in
-        omega (arith, r .links .room, e .place, writes-in x l (omega arith) .node)
+        (r .pool-room, omega (arith, e .found, writes-in x l (omega arith) .node))
 
     pub write-asks : b ≡ true → m < c .head .«free_count»
-        → (4 * c .head .numbers .nodes ≤ length (c .pool)) × (c .head .height ≤ 32) × (b ≡ true) × (m < c .head .«free_count»)
-        × IsShared (c .head .height) x b m at link (firstShared (c .head .height) (c .pool) root root x)
+        → (2 * c .head .numbers .nodes ≤ length (c .pool)) × (c .head .numbers .nodes ≤ 16384) × (c .head .height ≤ 32) × (b ≡ true) × (m < c .head .«free_count»)
+        × IsShared (c .head .height) b m node above (firstShared (c .head .height) (c .pool) root root x)
         × WriteIn (c .head .numbers .nodes) (c .head .height) (c .pool) (c .head .numbers .«free_node») x (firstShared (c .head .height) (c .pool) root root x)
     write-asks n enough =
         let z : firstShared (c .head .height) (c .pool) root root x .0 ≡ suc m = e .rest ∙ ap (λ b. cond b (suc m) 0) n in
-        (r .links .room, omega (arith, r .low), n, enough, e, writes-in x l (omega arith))
+        (r .pool-room, r .nodes-le, omega (arith, r .low), n, enough, e, writes-in x l (omega arith))

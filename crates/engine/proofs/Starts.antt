@@ -11,7 +11,7 @@ use lib.ListN.{length, replicate}
 use borrow.Author.Tests.{eq-eqb}
 use Rattle.words.specs.Tests.{neither, ge-of, true≢false}
 use Rattle.sizes.specs.Sizes.{treeNodes}
-use Rattle.pool.specs.Pool.{initPool}
+use Rattle.packed.specs.Pool.{initPool}
 use Rattle.frames.specs.declared.Frame.{Frame}
 use Rattle.frames.specs.Widths.{maxPlaces, dequeWords}
 use Rattle.frames.specs.Frames.{initFrames}
@@ -25,6 +25,7 @@ use Rattle.semantics.specs.Entries.{StartResult, zeros, wholeNodes, firstNumber
 use Rattle.semantics.specs.Promises.{parts, Fits, IsStart}
 use Rattle.engine.specs.Promises.{refusalBy, startTests}
 use Rattle.engine.proofs.Steps.{refusal-some}
+use Rattle.soundness.specs.Layout.{twoWords}
 
 -- ---- the refusal
 
@@ -67,26 +68,26 @@ none-refuses false false true d e = absurd (refusal-some Places (sym e))
 none-refuses false false false true e = absurd (refusal-some Nodes (sym e))
 none-refuses false false false false e = (refl, refl, refl, refl)
 
-module _ (workers : ℕ) (vs : List ℕ) (fs : List Frame) (ws : List ℕ) (nodes : ℕ) (en : nodes ≡ wholeNodes ws) (k : ℕ) (ek : k ≡ refusalBy (startTests workers (length vs) (length fs) nodes)) where
-  number-is : k ≡ refusalBy (startTests workers (length vs) (length fs) (wholeNodes ws))
+module _ (workers : ℕ) (vs : List ℕ) (fs : List Frame) (ws : List ℕ) (nodes : ℕ) (en : nodes ≡ wholeNodes twoWords ws) (k : ℕ) (ek : k ≡ refusalBy (startTests workers (length vs) (length fs) nodes)) where
+  number-is : k ≡ refusalBy (startTests workers (length vs) (length fs) (wholeNodes twoWords ws))
   number-is = ek ∙ ap (λ (m : ℕ). refusalBy (startTests workers (length vs) (length fs) m)) en
 
   -- refused: the parts are cleared, and the table stays
-  pub start-refused : k ≢ 0 → (ns ds ns′ ds′ : List ℕ) → Fits (parts ns ds fs) → ns′ ≡ replicate (length ns) 0 → ds′ ≡ replicate (length ds) 0 → IsStart (startWith workers vs fs ws) ns′ ds′ fs ws k
+  pub start-refused : k ≢ 0 → (ns ds ns′ ds′ : List ℕ) → Fits (parts ns ds fs) → ns′ ≡ replicate (length ns) 0 → ds′ ≡ replicate (length ds) 0 → IsStart (startWith twoWords workers vs fs ws) ns′ ds′ fs ws k
   unfolding startWith
   start-refused n ns ds ns′ ds′ F e₁ e₂ =
       let q = refused-by (eqb (length vs) 0 || ltb 256 (length vs)) (eqb workers 0 || ltb 8 workers) (eqb (length fs) 0 || ltb maxPlaces (length fs))
-      (ltb (wholeNodes ws) (treeNodes (length vs)) || ltb 16384 (wholeNodes ws)) (λ r. startRefused r fs ws) (startAccepted workers vs fs ws) k number-is n in
+      (ltb (wholeNodes twoWords ws) (treeNodes (length vs)) || ltb 16384 (wholeNodes twoWords ws)) (λ r. startRefused r fs ws) (startAccepted twoWords workers vs fs ws) k number-is n in
       let z : parts ns′ ds′ fs ≡ zeros fs = rw (e₁, e₂, F .numbers, F .deques) in
       record { result = q .1 ∙ ap (λ (b : StartResult). b .result) (q .2); state = z ∙ ap (λ (b : StartResult). b .state) (q .2); pool = ap (λ (b : StartResult). b .pool) (q .2) }
 
   module _ (z : k ≡ 0) where
     passes : (eqb (length vs) 0 || ltb 256 (length vs) ≡ false) × (eqb workers 0 || ltb 8 workers ≡ false) × (eqb (length fs) 0 || ltb maxPlaces (length fs) ≡ false)
-        × (ltb (wholeNodes ws) (treeNodes (length vs)) || ltb 16384 (wholeNodes ws) ≡ false)
+        × (ltb (wholeNodes twoWords ws) (treeNodes (length vs)) || ltb 16384 (wholeNodes twoWords ws) ≡ false)
     passes = none-refuses (eqb (length vs) 0 || ltb 256 (length vs)) (eqb workers 0 || ltb 8 workers) (eqb (length fs) 0 || ltb maxPlaces (length fs))
-        (ltb (wholeNodes ws) (treeNodes (length vs)) || ltb 16384 (wholeNodes ws)) (sym z ∙ number-is)
+        (ltb (wholeNodes twoWords ws) (treeNodes (length vs)) || ltb 16384 (wholeNodes twoWords ws)) (sym z ∙ number-is)
 
-    pub start-taken : startWith workers vs fs ws .result ≡ 0
+    pub start-taken : startWith twoWords workers vs fs ws .result ≡ 0
     unfolding startWith
     start-taken = rw (passes .0, passes .1, passes .2, passes .3)
 
@@ -105,11 +106,11 @@ module _ (workers : ℕ) (vs : List ℕ) (fs : List Frame) (ws : List ℕ) (node
     pub started : (free : ℕ) (n : Numbers) (ns ds : List ℕ) (fs′ : List Frame) (ws′ : List ℕ)
         → (ws′ ≡ initPool ws (length vs) nodes vs .0) × (free ≡ initPool ws (length vs) nodes vs .1) → ds ≡ initDeques (replicate dequeWords 0) → fs′ ≡ initFrames fs
         → n ≡ firstNumbers workers (length vs) nodes free (length fs) → ns ≡ numberWords n (replicate totalCount 0)
-        → IsStart (startWith workers vs fs ws) ns ds fs′ ws′ 0
+        → IsStart (startWith twoWords workers vs fs ws) ns ds fs′ ws′ 0
     unfolding startWith
     started free n ns ds fs′ ws′ ei ed ef em es =
-        let o : startAccepted workers vs fs ws ≡ startWith workers vs fs ws = rw (passes .0, passes .1, passes .2, passes .3) in
-        let w : ws′ ≡ initPool ws (length vs) (wholeNodes ws) vs .0 = ei .0 ∙ ap (λ (m : ℕ). initPool ws (length vs) m vs .0) en in
-        let f : free ≡ initPool ws (length vs) (wholeNodes ws) vs .1 = ei .1 ∙ ap (λ (m : ℕ). initPool ws (length vs) m vs .1) en in
-        let s : parts ns ds fs′ ≡ firstState workers (length vs) (wholeNodes ws) (initPool ws (length vs) (wholeNodes ws) vs .1) fs = rw (es, em, ed, ef, f, en) in
+        let o : startAccepted twoWords workers vs fs ws ≡ startWith twoWords workers vs fs ws = rw (passes .0, passes .1, passes .2, passes .3) in
+        let w : ws′ ≡ initPool ws (length vs) (wholeNodes twoWords ws) vs .0 = ei .0 ∙ ap (λ (m : ℕ). initPool ws (length vs) m vs .0) en in
+        let f : free ≡ initPool ws (length vs) (wholeNodes twoWords ws) vs .1 = ei .1 ∙ ap (λ (m : ℕ). initPool ws (length vs) m vs .1) en in
+        let s : parts ns ds fs′ ≡ firstState workers (length vs) (wholeNodes twoWords ws) (initPool ws (length vs) (wholeNodes twoWords ws) vs .1) fs = rw (es, em, ed, ef, f, en) in
         record { result = ap (λ (b : StartResult). b .result) o; state = s ∙ ap (λ (b : StartResult). b .state) o; pool = w ∙ ap (λ (b : StartResult). b .pool) o }

@@ -6,12 +6,11 @@ use mathlib.Core.List.{List, [], _∷_, _++_}
 use Prim.Native.Nat.{ℕ, suc, _+_, _≤_, _<_}
 use native.Mathlib.Omega.{arith}
 use lib.Dec.{ltb}
-use lib.ListN.{set}
 use borrow.Author.Tests.{eq-eqb, ne-eqb, lt-ltb, le-ltb}
 use Rattle.words.specs.Basics.{none, plus}
 use Rattle.words.specs.Tests.{decided}
-use Rattle.pool.specs.Pool.{readAt, retain, setValue, firstShared, rest, writeFrom, write}
-use Rattle.pool.specs.Links.{IsShared, Wrote}
+use Rattle.packed.specs.Pool.{readAt, retain, setValue, firstShared, rest, writeFrom, write}
+use Rattle.packed.specs.Links.{IsShared, Wrote}
 use Rattle.reducers.specs.Reducers.{foldView}
 use Rattle.frames.specs.Theory.Records.{root-kept}
 use Rattle.frames.specs.declared.Frame.{Frame}
@@ -38,6 +37,7 @@ use Rattle.engine.specs.declared.Out.{Out}
 use Rattle.engine.specs.declared.Acting.{Acting}
 use Rattle.engine.specs.declared.Fields.{Fields}
 use Rattle.engine.specs.Promises.{core, headAfter, Leaves, Answers, kindOn, refusalBy, IsActing, stepBy}
+use Rattle.soundness.specs.Layout.{twoWords}
 
 -- ---- tests
 
@@ -97,22 +97,22 @@ refuses (t ∷ ts) us c d k e n = elim (decided (t .0)) [
 ]
 
 -- a step of worker w's bottom frame: refused by 8, 9 or 10, or left to its kind
-step-refused : (c : Core) (st : Step) (w k : ℕ) → testsOf c st ≡ actingTests c w ++ kindTests c st → k ≡ refusalBy (actingTests c w) → k ≢ 0 → RefusedBy k c (stepOn c st)
+step-refused : (c : Core) (st : Step) (w k : ℕ) → testsOf twoWords c st ≡ actingTests c w ++ kindTests twoWords c st → k ≡ refusalBy (actingTests c w) → k ≢ 0 → RefusedBy k c (stepOn twoWords c st)
 unfolding stepOn
-step-refused c st w k t e n = subst (λ us. RefusedBy k c (judged us c (doneBy c st))) (sym t) (refuses (actingTests c w) (kindTests c st) c (doneBy c st) k e n)
+step-refused c st w k t e n = subst (λ us. RefusedBy k c (judged us c (doneBy twoWords c st))) (sym t) (refuses (actingTests c w) (kindTests twoWords c st) c (doneBy twoWords c st) k e n)
 
-step-passed : (c : Core) (st : Step) (w : ℕ) → testsOf c st ≡ actingTests c w ++ kindTests c st → refusalBy (actingTests c w) ≡ 0 → kindOn c st ≡ stepOn c st
+step-passed : (c : Core) (st : Step) (w : ℕ) → testsOf twoWords c st ≡ actingTests c w ++ kindTests twoWords c st → refusalBy (actingTests c w) ≡ 0 → kindOn c st ≡ stepOn twoWords c st
 unfolding stepOn
-step-passed c st w t e = sym (ap (λ us. judged us c (doneBy c st)) t ∙ passed (actingTests c w) (kindTests c st) c (doneBy c st) e)
+step-passed c st w t e = sym (ap (λ us. judged us c (doneBy twoWords c st)) t ∙ passed (actingTests c w) (kindTests twoWords c st) c (doneBy twoWords c st) e)
 
-module _ (h : Head) (ds : List ℕ) (fs : List Frame) (ws : List ℕ) (w : ℕ) (st : Step) (t : (c : Core) → testsOf c st ≡ actingTests c w ++ kindTests c st) (a : Acting) (ea : IsActing (core h [] ds [] []) w a) (o : Out) (ts : List ℕ) where
-  pub acting-refused : a .refused ≡ true → Answers h o (a .refusal) 0 → Leaves h o ts ds fs ws (stepOn (core h ts ds fs ws) st)
+module _ (h : Head) (ds : List ℕ) (fs : List Frame) (ws : List ℕ) (w : ℕ) (st : Step) (t : (c : Core) → testsOf twoWords c st ≡ actingTests c w ++ kindTests twoWords c st) (a : Acting) (ea : IsActing (core h [] ds [] []) w a) (o : Out) (ts : List ℕ) where
+  pub acting-refused : a .refused ≡ true → Answers h o (a .refusal) 0 → Leaves h o ts ds fs ws (stepOn twoWords (core h ts ds fs ws) st)
   acting-refused e s =
       let r = ea .refuses e in
       let x = step-refused (core h ts ds fs ws) st w (a .refusal) (t (core h ts ds fs ws)) (r .0) (r .1) in
-      stays h o ts ds fs ws (a .refusal) 0 (stepOn (core h ts ds fs ws) st) s (x .0) (x .1)
+      stays h o ts ds fs ws (a .refusal) 0 (stepOn twoWords (core h ts ds fs ws) st) s (x .0) (x .1)
 
-  pub acting-passed : a .refused ≡ false → (ts′ ds′ : List ℕ) (fs′ : List Frame) (ws′ : List ℕ) → Leaves h o ts′ ds′ fs′ ws′ (kindOn (core h ts ds fs ws) st) → Leaves h o ts′ ds′ fs′ ws′ (stepOn (core h ts ds fs ws) st)
+  pub acting-passed : a .refused ≡ false → (ts′ ds′ : List ℕ) (fs′ : List Frame) (ws′ : List ℕ) → Leaves h o ts′ ds′ fs′ ws′ (kindOn (core h ts ds fs ws) st) → Leaves h o ts′ ds′ fs′ ws′ (stepOn twoWords (core h ts ds fs ws) st)
   acting-passed e ts′ ds′ fs′ ws′ l = subst (λ (d : StepResult). Leaves h o ts′ ds′ fs′ ws′ d) (step-passed (core h ts ds fs ws) st w (t (core h ts ds fs ws)) (ea .passes e .1)) l
 
 -- what a refused step leaves
@@ -164,7 +164,7 @@ module _ (h : Head) (ts ds : List ℕ) (fs : List Frame) (ws : List ℕ) (w : �
         let acts : stepResult h ts ds fs ws (Accepted (Value y)) ≡ kindOn (core h ts ds fs ws) (Read w x) = rw (lt-ltb x (h .numbers .splitters) l, e, er, ep) in
         leaves h h o ts ds fs ws (Accepted (Value y)) (kindOn (core h ts ds fs ws) (Read w x)) (u .0) (both-words (u .1) (u .2)) acts
 
-    module _ {b : Bool} {m at link : ℕ} (e : IsShared (h .height) x b m at link (firstShared (h .height) ws root root x)) where
+    module _ {b : Bool} {m node above : ℕ} (e : IsShared (h .height) b m node above (firstShared (h .height) ws root root x)) where
       -- the test for 16, by the rest of the path
       room-is : {i : ℕ} → cond b (suc m) 0 ≡ i → ltb (h .«free_count») (rest (h .height) ws (frameAt fs (bottom ds w) .root) x) ≡ ltb (h .«free_count») i
       unfolding rest
@@ -185,18 +185,18 @@ module _ (h : Head) (ts ds : List ℕ) (fs : List Frame) (ws : List ℕ) (w : �
           leaves h (withFreeNodes h first count) o ts ds fs′ ws′ (Accepted (Written count)) (kindOn (core h ts ds fs ws) (Write w x v)) (eo .0) (both-words (eo .1) (eo .2)) acts
 
       -- no node is shared: the leaf's value alone is stored
-      leaf-write : b ≡ false → (v : ℕ) → write (h .height) ws (h .numbers .«free_node») (h .«free_count») root x v ≡ (set ws (at + 3) v, h .numbers .«free_node», h .«free_count», root)
-      unfolding write writeFrom setValue
-      leaf-write n v = rw (e .rest ∙ ap (λ b. cond b (suc m) 0) n, e .place)
+      leaf-write : b ≡ false → (v : ℕ) → write (h .height) ws (h .numbers .«free_node») (h .«free_count») root x v ≡ (setValue ws node v, h .numbers .«free_node», h .«free_count», root)
+      unfolding write writeFrom
+      leaf-write n v = rw (e .rest ∙ ap (λ b. cond b (suc m) 0) n, e .found)
 
-      pub write-leaf : b ≡ false → (o : Out) (ws′ : List ℕ) (v : ℕ) → ws′ ≡ set ws (at + 3) v → Answers h o 106 (h .«free_count»)
+      pub write-leaf : b ≡ false → (o : Out) (ws′ : List ℕ) (v : ℕ) → ws′ ≡ setValue ws node v → Answers h o 106 (h .«free_count»)
           → Leaves h o ts ds fs ws′ (kindOn (core h ts ds fs ws) (Write w x v))
       unfolding writeOn
       write-leaf n o ws′ v ew u =
           let P = leaf-write n v in
           let acts : stepResult h ts ds fs ws′ (Accepted (Written (h .«free_count»))) ≡ kindOn (core h ts ds fs ws) (Write w x v) =
           rw (lt-ltb x (h .numbers .splitters) l, room-is (ap (λ b. cond b (suc m) 0) n), le-ltb (h .«free_count») 0 (omega arith), ← ep, ← er, P, ew)
-          (ap (λ (gs : List Frame). stepResult h ts ds gs (set ws (at + 3) v) (Accepted (Written (h .«free_count»)))) (sym (ap (λ (q : ℕ). setFrame fs p (withRoot (frameAt fs p) q)) er ∙ root-kept fs p))) in
+          (ap (λ (gs : List Frame). stepResult h ts ds gs (setValue ws node v) (Accepted (Written (h .«free_count»)))) (sym (ap (λ (q : ℕ). setFrame fs p (withRoot (frameAt fs p) q)) er ∙ root-kept fs p))) in
           leaves h h o ts ds fs ws′ (Accepted (Written (h .«free_count»))) (kindOn (core h ts ds fs ws) (Write w x v)) (u .0) (both-words (u .1) (u .2)) acts
 
   pub fold-done : (p x v : ℕ) → p ≡ bottom ds w → x < reducers → (o : Out) (fs′ : List Frame) → fs′ ≡ setFrame fs p (withView (frameAt fs p) (foldView (frameAt fs p .view) x v))
@@ -219,7 +219,7 @@ module _ (h : Head) (ts ds : List ℕ) (fs : List Frame) (ws : List ℕ) (w v : 
   steal-judged : (d : StepResult) → judged (tests ++ []) (core h ts ds fs ws) d ≡ judged tests (core h ts ds fs ws) d
   steal-judged d = ap (λ us. judged us (core h ts ds fs ws) d) (nothing-more tests)
 
-  pub steal-refused : (o : Out) (u : ℕ) → u ≡ refusalBy (stealTests (core h [] ds [] []) w v) → u ≢ 0 → Answers h o u 0 → Leaves h o ts ds fs ws (stepOn (core h ts ds fs ws) (Steal w v))
+  pub steal-refused : (o : Out) (u : ℕ) → u ≡ refusalBy (stealTests (core h [] ds [] []) w v) → u ≢ 0 → Answers h o u 0 → Leaves h o ts ds fs ws (stepOn twoWords (core h ts ds fs ws) (Steal w v))
   unfolding stepOn
   steal-refused o u eu n s =
       let x = subst (λ (d : StepResult). RefusedBy u (core h ts ds fs ws) d) (steal-judged (stealOn (core h ts ds fs ws) w v)) (refuses tests [] (core h ts ds fs ws) (stealOn (core h ts ds fs ws) w v) u eu n) in
@@ -227,7 +227,7 @@ module _ (h : Head) (ts ds : List ℕ) (fs : List Frame) (ws : List ℕ) (w v : 
 
   pub steal-done : (o : Out) (u : ℕ) (ds′ : List ℕ) (p : ℕ) (f : Frame) → u ≡ refusalBy (stealTests (core h [] ds [] []) w v) → u ≡ 0 → p ≡ top ds v → f ≡ frameAt fs p
       → ((gs : List Frame) (free : ℕ) → table ds′ gs free ≡ steal (table ds gs free) w v) → Answers h o 103 (f .depth)
-      → Leaves h o ts ds′ fs ws (stepOn (core h ts ds fs ws) (Steal w v))
+      → Leaves h o ts ds′ fs ws (stepOn twoWords (core h ts ds fs ws) (Steal w v))
   unfolding stepOn stealOn
   steal-done o u ds′ p f eu e ep ef et q =
       let acts : stepResult h ts ds′ fs ws (Accepted (Stolen (f .depth))) ≡ stealOn (core h ts ds fs ws) w v = rw (← et fs (h .numbers .«free_place»), ← ep, ← ef) in
@@ -236,11 +236,11 @@ module _ (h : Head) (ts ds : List ℕ) (fs : List Frame) (ws : List ℕ) (w v : 
 
 -- ---- a record
 
-pub record-refused : (h : Head) (o : Out) (ts ds : List ℕ) (fs : List Frame) (ws : List ℕ) (d : Decoded) → d ≡ Invalid → Answers h o (refusalNumber Record) 0 → Leaves h o ts ds fs ws (recordOn (core h ts ds fs ws) d)
+pub record-refused : (h : Head) (o : Out) (ts ds : List ℕ) (fs : List Frame) (ws : List ℕ) (d : Decoded) → d ≡ Invalid → Answers h o (refusalNumber Record) 0 → Leaves h o ts ds fs ws (recordOn twoWords (core h ts ds fs ws) d)
 record-refused h o ts ds fs ws d e q = rw e (out-refused h o ts ds fs ws Record q)
 
 pub record-steps : (h : Head) (o : Out) (ts ds : List ℕ) (fs : List Frame) (ws ts′ ds′ : List ℕ) (fs′ : List Frame) (ws′ : List ℕ) (d : Decoded) (s : Step) → d ≡ Valid s
-    → Leaves h o ts′ ds′ fs′ ws′ (stepOn (core h ts ds fs ws) s) → Leaves h o ts′ ds′ fs′ ws′ (recordOn (core h ts ds fs ws) d)
+    → Leaves h o ts′ ds′ fs′ ws′ (stepOn twoWords (core h ts ds fs ws) s) → Leaves h o ts′ ds′ fs′ ws′ (recordOn twoWords (core h ts ds fs ws) d)
 record-steps h o ts ds fs ws ts′ ds′ fs′ ws′ d s e l = rw e l
 
 -- the step of these fields, by the tests of its kind

@@ -25,6 +25,7 @@ use Rattle.semantics.specs.Theory.Kept.{kept-start}
 use Rattle.engine.specs.Promises.{core, renewed, IsCheck, IsRun, checkNumber, freeIn}
 use Rattle.engine.proofs.NumberWords.{words-after}
 use Rattle.engine.proofs.Turns.{kept-head}
+use Rattle.soundness.specs.Layout.{twoWords}
 
 -- ---- a tape over parts that have their lengths
 
@@ -36,10 +37,10 @@ not-refused (Sound free) e = refl
 
 -- the check found the parts sound
 pub found-sound : (ns ds : List ℕ) (fs : List Frame) (ws ks ks′ : List ℕ) (k : Checked) (r free : ℕ) → Fits (parts ns ds fs) → IsCheck (parts ns ds fs) ws ks ks′ k → r ≡ checkNumber k → r ≡ 0 → free ≡ freeIn k
-    → Kept (coreOf (parts ns ds fs) ws free)
+    → Kept twoWords (coreOf (parts ns ds fs) ws free)
 found-sound ns ds fs ws ks ks′ k r free F ek er z e =
     let found : k ≡ Sound free = not-refused k (sym er ∙ z) ∙ ap Sound (sym e) in
-    kept-start (numbersIn ns) (totalsIn ns) ds fs ws ks free (totals-long (parts ns ds fs) F) (F .deques) (sym found ∙ ek .1)
+    kept-start twoWords (numbersIn ns) (totalsIn ns) ds fs ws ks free (totals-long (parts ns ds fs) F) (F .deques) (sym found ∙ ek .1)
 
 -- a tape that fits has room for its answers
 pub fit-answers : (bytes rs : List ℕ) (b : Bool) → b ≡ unfitTape bytes rs → b ≡ false → 2 * (length bytes / 8) ≤ length rs
@@ -60,38 +61,38 @@ module _ (ns ds : List ℕ) (fs : List Frame) (ws ks bytes rs : List ℕ) (b : B
   abbrev s : State
   s = parts ns ds fs
 
-  pub tape-unfit : b ≡ true → (r : ℕ) → r ≡ refusalNumber Tape → IsTape (tapeWith (parts ns ds fs) ws ks bytes rs) ns ds fs ws ks rs r
+  pub tape-unfit : b ≡ true → (r : ℕ) → r ≡ refusalNumber Tape → IsTape (tapeWith twoWords (parts ns ds fs) ws ks bytes rs) ns ds fs ws ks rs r
   unfolding tapeWith
   tape-unfit t r er = rw (sym eb ∙ t, er) (by-result _ ns ds fs ws ks rs (refusalNumber Tape) refl)
 
   module _ (fit : b ≡ false) (k : Checked) (ks′ : List ℕ) (ek : IsCheck (parts ns ds fs) ws ks ks′ k) where
     -- the tape is what the check's answer says
-    by-check : (o : TapeResult) → o ≡ tapeChecked k s ws ks bytes rs → o ≡ tapeWith s ws ks bytes rs
+    by-check : (o : TapeResult) → o ≡ tapeChecked twoWords k s ws ks bytes rs → o ≡ tapeWith twoWords s ws ks bytes rs
     unfolding tapeWith
-    by-check o e = rw (sym eb ∙ fit) (e ∙ ap (λ (j : Checked). tapeChecked j s ws ks bytes rs) (ek .1))
+    by-check o e = rw (sym eb ∙ fit) (e ∙ ap (λ (j : Checked). tapeChecked twoWords j s ws ks bytes rs) (ek .1))
 
-    refused-by : (j : Checked) → k ≡ j → (r : ℕ) → r ≡ checkNumber k → (r ≡ 0 → ⊥) → result s ws ks′ rs r ≡ tapeChecked k s ws ks bytes rs
+    refused-by : (j : Checked) → k ≡ j → (r : ℕ) → r ≡ checkNumber k → (r ≡ 0 → ⊥) → result s ws ks′ rs r ≡ tapeChecked twoWords k s ws ks bytes rs
     refused-by NoRoom e r er l =
-        let kept : ks′ ≡ ks = ek .0 ∙ no-room-keeps (numbersIn ns) (totalsIn ns) ds fs ws ks (sym (ek .1) ∙ e) in
+        let kept : ks′ ≡ ks = ek .0 ∙ no-room-keeps twoWords (numbersIn ns) (totalsIn ns) ds fs ws ks (sym (ek .1) ∙ e) in
         rw (er, e, kept)
     refused-by Checked.Unsound e r er l = rw (er, e, ek .0)
     refused-by (Sound free) e r er l = absurd (l (er ∙ ap checkNumber e))
 
-    pub tape-refused : (r : ℕ) → r ≡ checkNumber k → (r ≡ 0 → ⊥) → IsTape (tapeWith (parts ns ds fs) ws ks bytes rs) ns ds fs ws ks′ rs r
+    pub tape-refused : (r : ℕ) → r ≡ checkNumber k → (r ≡ 0 → ⊥) → IsTape (tapeWith twoWords (parts ns ds fs) ws ks bytes rs) ns ds fs ws ks′ rs r
     tape-refused r er l = by-result _ ns ds fs ws ks′ rs r (by-check (result s ws ks′ rs r) (refused-by k refl r er l))
 
     -- a tape of no records: the check is all
-    empty-by : length bytes ≡ 0 → Fits s → (j : Checked) → k ≡ j → (r : ℕ) → r ≡ checkNumber k → result s ws ks′ rs r ≡ tapeChecked k s ws ks bytes rs
+    empty-by : length bytes ≡ 0 → Fits s → (j : Checked) → k ≡ j → (r : ℕ) → r ≡ checkNumber k → result s ws ks′ rs r ≡ tapeChecked twoWords k s ws ks bytes rs
     unfolding runOn
     empty-by z F NoRoom e r er = refused-by NoRoom e r er (λ y. omega (arith, er, ap checkNumber e))
     empty-by z F Checked.Unsound e r er = refused-by Checked.Unsound e r er (λ y. omega (arith, er, ap checkNumber e))
     empty-by z F (Sound free) e r er = rw (er, e, ek .0, no-records bytes z) (ap (λ (q : State). result q ws (cleared (numbersIn ns .nodes) ks) rs 0) (sym (state-back s ws free F)))
 
-    pub tape-empty : length bytes ≡ 0 → Fits (parts ns ds fs) → (r : ℕ) → r ≡ checkNumber k → IsTape (tapeWith (parts ns ds fs) ws ks bytes rs) ns ds fs ws ks′ rs r
+    pub tape-empty : length bytes ≡ 0 → Fits (parts ns ds fs) → (r : ℕ) → r ≡ checkNumber k → IsTape (tapeWith twoWords (parts ns ds fs) ws ks bytes rs) ns ds fs ws ks′ rs r
     tape-empty z F r er = by-result _ ns ds fs ws ks′ rs r (by-check (result s ws ks′ rs r) (empty-by z F k refl r er))
 
     pub tape-done : (r free : ℕ) (ns′ ds′ : List ℕ) (fs′ : List Frame) (ws′ rs′ : List ℕ) → r ≡ checkNumber k → r ≡ 0 → free ≡ freeIn k
-        → IsRun (runOn (recordsResult (coreOf (parts ns ds fs) ws free) rs) 0 (recordsOf bytes)) ns′ ds′ fs′ ws′ rs′ → IsTape (tapeWith (parts ns ds fs) ws ks bytes rs) ns′ ds′ fs′ ws′ ks′ rs′ 0
+        → IsRun (runOn twoWords (recordsResult (coreOf (parts ns ds fs) ws free) rs) 0 (recordsOf bytes)) ns′ ds′ fs′ ws′ rs′ → IsTape (tapeWith twoWords (parts ns ds fs) ws ks bytes rs) ns′ ds′ fs′ ws′ ks′ rs′ 0
     tape-done r free ns′ ds′ fs′ ws′ rs′ er z ef R =
         let e : k ≡ Sound free = not-refused k (sym er ∙ z) ∙ ap Sound (sym ef) in
         by-result _ ns′ ds′ fs′ ws′ ks′ rs′ 0 (by-check _ (rw e (λ i. result (R .state i) (R .pool i) (ek .0 i) (R .answers i) 0)))
@@ -99,29 +100,29 @@ module _ (ns ds : List ℕ) (fs : List Frame) (ws ks bytes rs : List ℕ) (b : B
 -- ---- the records of a tape, from the lent parts
 
 -- all of them
-pub all-records : (r : RecordsResult) (bytes : List ℕ) (n : ℕ) → n ≡ length bytes / 8 → runOn r (2 * 0) (recordsFrom (n - 0) bytes (8 * 0)) ≡ runOn r 0 (recordsOf bytes)
+pub all-records : (r : RecordsResult) (bytes : List ℕ) (n : ℕ) → n ≡ length bytes / 8 → runOn twoWords r (2 * 0) (recordsFrom (n - 0) bytes (8 * 0)) ≡ runOn twoWords r 0 (recordsOf bytes)
 all-records r bytes n e =
     let z : n - 0 ≡ length bytes / 8 = omega (arith, e) in
-    ap (λ (m : ℕ). runOn r 0 (recordsFrom m bytes 0)) z
+    ap (λ (m : ℕ). runOn twoWords r 0 (recordsFrom m bytes 0)) z
 
 module _ (ns ds : List ℕ) (fs : List Frame) (ws : List ℕ) (n : Numbers) (head : Head) (free : ℕ) (en : n ≡ numbersIn ns) (eh : head ≡ headOf n free) where
   head-is : head ≡ headOf (numbersIn ns) free
   head-is = eh ∙ ap (λ (m : Numbers). headOf m free) en
 
-  pub run-asks : Kept (coreOf (parts ns ds fs) ws free) → Kept (core head (totalsIn ns) ds fs ws)
+  pub run-asks : Kept twoWords (coreOf (parts ns ds fs) ws free) → Kept twoWords (core head (totalsIn ns) ds fs ws)
   run-asks K = kept-head (headOf (numbersIn ns) free) head (totalsIn ns) ds fs ws head-is K
 
   pub run-done : (rs bytes ns₁ ds₁ : List ℕ) (fs₁ : List Frame) (ws₁ rs₁ ns₂ : List ℕ) (last : Head) → length ns₁ ≡ numberCount
       → (numbersIn ns₁ ≡ numbersIn ns)
-      × (recordsResult (core last (totalsIn ns₁) ds₁ fs₁ ws₁) rs₁ ≡ runOn (recordsResult (core head (totalsIn ns) ds fs ws) rs) 0 (recordsOf bytes))
+      × (recordsResult (core last (totalsIn ns₁) ds₁ fs₁ ws₁) rs₁ ≡ runOn twoWords (recordsResult (core head (totalsIn ns) ds fs ws) rs) 0 (recordsOf bytes))
       × (last ≡ renewed head (last .numbers .«free_node») (last .numbers .«free_place») (last .«free_count»))
       → ns₂ ≡ set (set ns₁ 3 (last .numbers .«free_node»)) 4 (last .numbers .«free_place»)
-      → IsRun (runOn (recordsResult (coreOf (parts ns ds fs) ws free) rs) 0 (recordsOf bytes)) ns₂ ds₁ fs₁ ws₁ rs₁
+      → IsRun (runOn twoWords (recordsResult (coreOf (parts ns ds fs) ws free) rs) 0 (recordsOf bytes)) ns₂ ds₁ fs₁ ws₁ rs₁
   run-done rs bytes ns₁ ds₁ fs₁ ws₁ rs₁ ns₂ last l er e₂ =
       let i : ℕ = last .numbers .«free_node» in
       let p : ℕ = last .numbers .«free_place» in
-      let o : recordsResult (core last (totalsIn ns₁) ds₁ fs₁ ws₁) rs₁ ≡ runOn (recordsResult (coreOf (parts ns ds fs) ws free) rs) 0 (recordsOf bytes) =
-      er .1 ∙ ap (λ (g : Head). runOn (recordsResult (core g (totalsIn ns) ds fs ws) rs) 0 (recordsOf bytes)) head-is in
+      let o : recordsResult (core last (totalsIn ns₁) ds₁ fs₁ ws₁) rs₁ ≡ runOn twoWords (recordsResult (coreOf (parts ns ds fs) ws free) rs) 0 (recordsOf bytes) =
+      er .1 ∙ ap (λ (g : Head). runOn twoWords (recordsResult (core g (totalsIn ns) ds fs ws) rs) 0 (recordsOf bytes)) head-is in
       let words : ns₂ ≡ numberWords (last .numbers) (totalsIn ns₁) =
       e₂
       ∙ words-after ns₁ i p l

@@ -6,8 +6,8 @@ use mathlib.Core.List.{List, [], _∷_, _++_}
 use Prim.Native.Nat.{ℕ, suc, _≤_, _<_}
 use lib.ListN.{length}
 use Rattle.words.specs.Basics.{none}
-use Rattle.pool.specs.Pool.{firstShared, rest}
-use Rattle.pool.specs.Links.{PathIn, WriteIn}
+use Rattle.packed.specs.Pool.{firstShared, rest}
+use Rattle.packed.specs.Links.{PathIn, WriteIn}
 use Rattle.frames.specs.Widths.{maxWorkers, maxPlaces, dequePlaces, dequeWords}
 use Rattle.frames.specs.declared.Frame.{Frame}
 use Rattle.frames.specs.declared.Returned.{Returned}
@@ -41,6 +41,7 @@ use Rattle.semantics.specs.Ranges.{EndsAt, EndsUpward}
 use Rattle.engine.specs.declared.Out.{Out}
 use Rattle.engine.specs.declared.Acting.{Acting}
 use Rattle.engine.specs.declared.Fields.{Fields}
+use Rattle.soundness.specs.Layout.{twoWords}
 
 -- ts are the words of the totals
 abbrev pub core : Head → List ℕ → List ℕ → List Frame → List ℕ → Core
@@ -69,7 +70,7 @@ Answers h o a b = (headAfter h o ≡ h) × (o .first ≡ a) × (o .second ≡ b)
 
 -- a step of worker w's bottom frame, once refusals 8, 9 and 10 are tested: those of the kind, then the step
 abbrev pub kindOn : Core → Step → StepResult
-kindOn c st = judged (kindTests c st) c (doneBy c st)
+kindOn c st = judged (kindTests twoWords c st) c (doneBy twoWords c st)
 
 -- worker w has n frames and executes the one at place p, by the deques alone
 pub record ActsOn (ds : List ℕ) (w n p : ℕ) : Type 0 where
@@ -89,7 +90,7 @@ pub record ActsAt (c : Core) (w n p : ℕ) : Type 0 where
   pub root : frameAt (c .frames) p .root < c .head .numbers .nodes
   pub parent : ParentOf (c .frames) p (frameAt (c .frames) p)
   pub counts : ParentCounts (c .frames) (frameAt (c .frames) p)
-  pub upward : frameAt (c .frames) p .outstanding ≡ 0 → EndsUpward (frameAt (c .frames) p .depth) (endAt (popped c w) p) (frameAt (c .frames) p .parent)
+  pub upward : frameAt (c .frames) p .outstanding ≡ 0 → EndsUpward (frameAt (c .frames) p .depth) (endAt twoWords (popped c w) p) (frameAt (c .frames) p .parent)
   pub path : (x : ℕ) → x < c .head .numbers .splitters → PathIn (c .head .numbers .nodes) (c .pool) (c .head .height) (frameAt (c .frames) p .root) x
   pub writes : (x : ℕ) → x < c .head .numbers .splitters → rest (c .head .height) (c .pool) (frameAt (c .frames) p .root) x ≤ c .head .«free_count»
       → WriteIn (c .head .numbers .nodes) (c .head .height) (c .pool) (c .head .numbers .«free_node») x (firstShared (c .head .height) (c .pool) (frameAt (c .frames) p .root) (frameAt (c .frames) p .root) x)
@@ -103,17 +104,17 @@ pub record EndsFrom (c : Core) (w n p : ℕ) : Type 0 where
   pub has : n ≡ suc (size (c .deques) w)
   -- Main is the top of its deque
   pub alone : frameAt (c .frames) p .parent ≡ none → n ≡ 1
-  pub nodes-positive : 0 < c .head .numbers .nodes
+  pub nodes-le : c .head .numbers .nodes ≤ 16384
   pub few-places : length (c .frames) ≤ maxPlaces
   pub can-end : EndsAt c p
-  pub upward : EndsUpward (frameAt (c .frames) p .depth) (endAt c p) (frameAt (c .frames) p .parent)
+  pub upward : EndsUpward (frameAt (c .frames) p .depth) (endAt twoWords c p) (frameAt (c .frames) p .parent)
 
 -- it ends; if worker w has no other frame, the ends go on upward
 abbrev pub endsFrom : Core → ℕ → ℕ → StepResult
 endsFrom c w p =
     let f : Frame = frameAt (c .frames) p in
-    let ends = upward (f .depth) (endAt c p) w (f .parent) in
-    cond (eqb (size (c .deques) w) 0) ends (returned (endAt c p) Continued)
+    let ends = upward twoWords (f .depth) (endAt twoWords c p) w (f .parent) in
+    cond (eqb (size (c .deques) w) 0) ends (returned (endAt twoWords c p) Continued)
 
 -- what is handed on of them
 abbrev pub LeavesEnded : Out → ℕ → ℕ → ℕ → Returned → Type 0
@@ -157,15 +158,15 @@ startTests workers n places nodes =
 -- refusals 1, 2, 21, 3, 4 and 5 of a report
 abbrev pub reportTests : ℕ → List ℕ → ℕ → List ℕ → List ℕ → List ℕ → List ℕ → List (Bool × Refusal)
 reportTests workers vs places ws work tape answers =
-    startTests workers (length vs) places (wholeNodes ws) ++ ((unfitTape tape answers, Tape) ∷ (ltb (length work) (wholeNodes ws), Work) ∷ [])
+    startTests workers (length vs) places (wholeNodes twoWords ws) ++ ((unfitTape tape answers, Tape) ∷ (ltb (length work) (wholeNodes twoWords ws), Work) ∷ [])
 
 -- the check of numbers, deques and frames: Good, with one more than the last place where a frame lives, if they are sound
 abbrev pub tablesChecked : Numbers → List ℕ → List Frame → List ℕ → FramesChecked
-tablesChecked n ds fs ws = cond (numbersSound n fs ws && framesSound (n .workers) (n .«free_place») ds fs) (FramesChecked.Good (liveEnd fs)) FramesChecked.Bad
+tablesChecked n ds fs ws = cond (numbersSound twoWords n fs ws && framesSound (n .workers) (n .«free_place») ds fs) (FramesChecked.Good (liveEnd fs)) FramesChecked.Bad
 
 -- the answer k of the check of the state s and the pool ws, and the work slice, before and after it
 abbrev pub IsCheck : State → List ℕ → List ℕ → List ℕ → Checked → Type 0
-IsCheck s ws ks ks′ k = (ks′ ≡ cleared (numbersOf s .nodes) ks) × (k ≡ checkedState s ws ks)
+IsCheck s ws ks ks′ k = (ks′ ≡ cleared (numbersOf s .nodes) ks) × (k ≡ checkedState twoWords s ws ks)
 
 -- the parts, the pool ws and the answer words rs are those that a tape's records leave
 pub record IsRun (o : RecordsResult) (ns ds : List ℕ) (fs : List Frame) (ws rs : List ℕ) : Type 0 where
@@ -195,8 +196,8 @@ pub record IsLoading (o : LoadResult) (ns ds : List ℕ) (fs : List Frame) (ws k
 
 -- the check of what was read, the state s and the pool ws, leaves the table fs, the pool ws′ and the result r: nothing changes, or all of it is zero
 pub record IsRechecked (s : State) (ws ks : List ℕ) (fs : List Frame) (ws′ ks′ : List ℕ) (r : ℕ) : Type 0 where
-  pub sound : isSound s ws ≡ true → (r ≡ 0) × (fs ≡ s .frames) × (ws′ ≡ ws)
-  pub unsound : isSound s ws ≡ false → (r ≡ 6) × (fs ≡ recordsZero (s .frames)) × (ws′ ≡ nodesZero ws)
+  pub sound : isSound twoWords s ws ≡ true → (r ≡ 0) × (fs ≡ s .frames) × (ws′ ≡ ws)
+  pub unsound : isSound twoWords s ws ≡ false → (r ≡ 6) × (fs ≡ recordsZero (s .frames)) × (ws′ ≡ nodesZero twoWords ws)
   pub work : ks′ ≡ cleared (numbersOf s .nodes) ks
 
 -- the free nodes that it counted, if it found the state sound

@@ -6,13 +6,15 @@ ghost use Rattle.frames.specs.Frames.{firstFree};
 ghost use Rattle.semantics.specs.Entries.{wholeNodes, firstNumbers, startWith};
 ghost use Rattle.semantics.specs.Promises.{parts, Fits, IsStart};
 ghost use Rattle.engine.specs.Promises.{refusalBy, startTests};
+ghost use Rattle.soundness.specs.Layout.{twoWords};
 use crate::answers::refusal_number;
 use crate::numbers::put_numbers;
 use frames::Frame;
 use frames::NONE;
 use frames::init_deques;
 use frames::init_frames;
-use pool::init_pool;
+use packed::NODE_WORDS;
+use packed::init_pool;
 use semantics::Refusal;
 use sizes::tree_nodes;
 use soundness::Numbers;
@@ -39,9 +41,9 @@ pub fn start_refusal(workers: u32, n: usize, places: usize, nodes: usize) -> u32
 
 // The pool's whole nodes.
 pub fn whole_nodes(pool: &[u32]) -> usize
-    ensures { λ r. ⌜ r ≡ wholeNodes (now (pool .entry)) ⌝ }
+    ensures { λ r. ⌜ r ≡ wholeNodes twoWords (now (pool .entry)) ⌝ }
 {
-    pool.len() / 4
+    pool.len() / NODE_WORDS
 }
 
 // The first free place of a table with so many, after a start.
@@ -75,7 +77,7 @@ pub fn start_on(
     pool: &mut [u32],
 ) -> u32
     requires { ⌜ Fits (parts (now numbers) (now deques) (now frames)) ⌝ }
-    ensures { λ r. ⌜ IsStart (startWith workers (now (values .entry)) (now (frames .entry)) (now (pool .entry)))
+    ensures { λ r. ⌜ IsStart (startWith twoWords workers (now (values .entry)) (now (frames .entry)) (now (pool .entry)))
         (now (numbers .exit)) (now (deques .exit)) (now (frames .exit)) (now (pool .exit)) r ⌝ }
 {
     let nodes = whole_nodes(pool);

@@ -12,24 +12,26 @@ ghost use Rattle.soundness.specs.Numbers.{numberCount, totalCount, numbersIn, t
 ghost use Rattle.soundness.specs.Soundness.{numbersSound};
 ghost use Rattle.semantics.specs.Promises.{parts, Fits};
 ghost use Rattle.engine.specs.Promises.{tablesChecked, IsCheck};
+ghost use Rattle.soundness.specs.Layout.{twoWords};
 use crate::numbers::numbers_in;
 use crate::numbers::totals_zero;
 use frame_check::FramesChecked;
 use frame_check::check_frames;
 use frames::Frame;
-use pool_check::PoolChecked;
-use pool_check::check_pool;
+use packed::NODE_WORDS;
+use packed_check::PoolChecked;
+use packed_check::check_pool;
 use pool_check::clear;
 use soundness::Checked;
 use soundness::Numbers;
 
 // With a table of so many places.
 pub fn check_numbers(numbers: Numbers, places: usize, pool: &[u32]) -> bool
-    ensures { λ r. ⌜ ((fs : List Frame) → length fs ≡ places → r ≡ numbersSound numbers fs (now (pool .entry))) ⌝ }
+    ensures { λ r. ⌜ ((fs : List Frame) → length fs ≡ places → r ≡ numbersSound twoWords numbers fs (now (pool .entry))) ⌝ }
 {
     let table = (1 <= numbers.places)
         & ((numbers.places <= 256) & (places == numbers.places as usize));
-    let pool_fits = (4 * (numbers.nodes as usize) <= pool.len()) & table;
+    let pool_fits = (NODE_WORDS * (numbers.nodes as usize) <= pool.len()) & table;
     let nodes = (sizes::tree_nodes(numbers.splitters) <= numbers.nodes as u64)
         & ((numbers.nodes <= 16384) & pool_fits);
     let splitters = (1 <= numbers.splitters) & ((numbers.splitters <= 256) & nodes);

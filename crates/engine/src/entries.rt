@@ -11,6 +11,7 @@ ghost use Rattle.semantics.specs.Entries.{startOn, tapeOn};
 ghost use Rattle.semantics.specs.Images.{saveOn, loadOn};
 ghost use Rattle.semantics.specs.Promises.{parts, lent, IsStart, IsTape, IsSave, IsLoad, IsReport};
 ghost use Rattle.semantics.specs.Report.{reportOn};
+ghost use Rattle.soundness.specs.Layout.{twoWords};
 use crate::answers::refusal_number;
 use crate::begin::start_on;
 use crate::images::load_on;
@@ -44,7 +45,7 @@ pub fn start(
     values: &[u32],
     pool: &mut [u32],
 ) -> u32
-    ensures { λ r. ⌜ IsStart (startOn (parts (now (numbers .entry)) (now (deques .entry)) (now (frames .entry))) workers (now (values .entry)) (now (pool .entry)))
+    ensures { λ r. ⌜ IsStart (startOn twoWords (parts (now (numbers .entry)) (now (deques .entry)) (now (frames .entry))) workers (now (values .entry)) (now (pool .entry)))
         (now (numbers .exit)) (now (deques .exit)) (now (frames .exit)) (now (pool .exit)) r ⌝ }
 {
     if !fit(numbers, deques) {
@@ -62,7 +63,7 @@ pub fn tape(
     bytes: &[u8],
     answers: &mut [u32],
 ) -> u32
-    ensures { λ r. ⌜ IsTape (tapeOn (parts (now (numbers .entry)) (now (deques .entry)) (now (frames .entry))) (now (pool .entry)) (now (work .entry)) (now (bytes .entry)) (now (answers .entry)))
+    ensures { λ r. ⌜ IsTape (tapeOn twoWords (parts (now (numbers .entry)) (now (deques .entry)) (now (frames .entry))) (now (pool .entry)) (now (work .entry)) (now (bytes .entry)) (now (answers .entry)))
         (now (numbers .exit)) (now (deques .exit)) (now (frames .exit)) (now (pool .exit)) (now (work .exit)) (now (answers .exit)) r ⌝ }
 {
     if !fit(numbers, deques) {
@@ -92,7 +93,7 @@ pub fn report(
     clocks: &mut [u64],
     report: &mut [u64],
 ) -> u32
-    ensures { λ r. ⌜ IsReport (reportOn (parts (now (numbers .entry)) (now (deques .entry)) (now (frames .entry))) workers (now (values .entry)) (now (pool .entry)) (now (bytes .entry))
+    ensures { λ r. ⌜ IsReport (reportOn twoWords (parts (now (numbers .entry)) (now (deques .entry)) (now (frames .entry))) workers (now (values .entry)) (now (pool .entry)) (now (bytes .entry))
         (lent (now (work .entry)) (now (answers .entry)) (now (clocks .entry)) (now (report .entry))))
         (now (numbers .exit)) (now (deques .exit)) (now (frames .exit)) (now (pool .exit)) (now (work .exit)) (now (answers .exit)) (now (clocks .exit)) (now (report .exit)) r ⌝ }
 {
@@ -125,7 +126,7 @@ pub fn save(
     work: &mut [u32],
     target: &mut [u8],
 ) -> u32
-    ensures { λ r. ⌜ IsSave (saveOn (parts (now (numbers .entry)) (now (deques .entry)) (now (frames .entry))) (now (pool .entry)) (now (work .entry)) (now (target .entry)))
+    ensures { λ r. ⌜ IsSave (saveOn twoWords (parts (now (numbers .entry)) (now (deques .entry)) (now (frames .entry))) (now (pool .entry)) (now (work .entry)) (now (target .entry)))
         (now (work .exit)) (now (target .exit)) r ⌝ }
 {
     if !fit(numbers, deques) {
@@ -142,7 +143,7 @@ pub fn load(
     work: &mut [u32],
     image: &[u8],
 ) -> u32
-    ensures { λ r. ⌜ IsLoad (loadOn (parts (now (numbers .entry)) (now (deques .entry)) (now (frames .entry))) (now (pool .entry)) (now (work .entry)) (now (image .entry)))
+    ensures { λ r. ⌜ IsLoad (loadOn twoWords (parts (now (numbers .entry)) (now (deques .entry)) (now (frames .entry))) (now (pool .entry)) (now (work .entry)) (now (image .entry)))
         (now (numbers .exit)) (now (deques .exit)) (now (frames .exit)) (now (pool .exit)) (now (work .exit)) r ⌝ }
 {
     if !fit(numbers, deques) {

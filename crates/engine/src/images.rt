@@ -15,6 +15,7 @@ ghost use Rattle.semantics.specs.Answers.{refusalNumber};
 ghost use Rattle.semantics.specs.Images.{recordsZero, nodesZero, saveWith, loadRead, loadWith};
 ghost use Rattle.semantics.specs.Promises.{parts, Fits, IsSave, IsLoad};
 ghost use Rattle.engine.specs.Promises.{imageNumber, IsRechecked, IsLoading};
+ghost use Rattle.soundness.specs.Layout.{twoWords};
 use crate::answers::refusal_number;
 use crate::checking::check_rest;
 use crate::checking::check_state;
@@ -31,6 +32,7 @@ use image::nodes_in;
 use image::places_in;
 use image::read_parts;
 use image::write_image;
+use packed::NODE_WORDS;
 use pool_check::clear;
 use semantics::Refusal;
 use words::clear_all;
@@ -39,7 +41,7 @@ use words::clear_first;
 // 19, "the target is too short", or 0.
 pub fn target_number(numbers: &[u32], target: &[u8]) -> u32
     requires { ⌜ length (now numbers) ≡ numberCount ⌝ }
-    ensures { λ r. ⌜ r ≡ cond (ltb (length (now (target .entry))) (imageBytes (numbersIn (now (numbers .entry)) .places) (numbersIn (now (numbers .entry)) .nodes))) (refusalNumber Target) 0 ⌝ }
+    ensures { λ r. ⌜ r ≡ cond (ltb (length (now (target .entry))) (imageBytes twoWords (numbersIn (now (numbers .entry)) .places) (numbersIn (now (numbers .entry)) .nodes))) (refusalNumber Target) 0 ⌝ }
 {
     let first = numbers_in(numbers);
     if (target.len() as u64) < image_bytes(first.places, first.nodes) {
@@ -58,7 +60,7 @@ pub fn save_on(
     target: &mut [u8],
 ) -> u32
     requires { ⌜ Fits (parts (now numbers) (now deques) (now frames)) ⌝ }
-    ensures { λ r. ⌜ IsSave (saveWith (parts (now (numbers .entry)) (now (deques .entry)) (now (frames .entry))) (now (pool .entry)) (now (work .entry)) (now (target .entry)))
+    ensures { λ r. ⌜ IsSave (saveWith twoWords (parts (now (numbers .entry)) (now (deques .entry)) (now (frames .entry))) (now (pool .entry)) (now (work .entry)) (now (target .entry)))
         (now (work .exit)) (now (target .exit)) r ⌝ }
 {
     let refused = check_number(check_state(numbers, deques, frames, pool, work));
@@ -97,19 +99,19 @@ pub fn work_number(nodes: u32, work: &[u32]) -> u32
 // Has the lent table just the image's places, not more than there can be, and the pool its nodes?
 pub fn takes(image: &[u8], places: usize, pool: &[u32]) -> bool
     requires { ⌜ blockBytes ≤ length (now image) ⌝ }
-    ensures { λ r. ⌜ r ≡ eqb places (placesIn (now (image .entry))) && (leb places maxPlaces && leb (4 * nodesIn (now (image .entry))) (length (now (pool .entry)))) ⌝ }
+    ensures { λ r. ⌜ r ≡ eqb places (placesIn (now (image .entry))) && (leb places maxPlaces && leb (2 * nodesIn (now (image .entry))) (length (now (pool .entry)))) ⌝ }
 {
     let recorded = places_in(image) as usize;
     let nodes = nodes_in(image) as usize;
-    (places == recorded) & ((places <= MAX_PLACES as usize) & (4 * nodes <= pool.len()))
+    (places == recorded) & ((places <= MAX_PLACES as usize) & (NODE_WORDS * nodes <= pool.len()))
 }
 
 // "6 when reading leaves every whole node of the pool zero"
 pub fn clear_nodes(pool: &mut [u32])
-    ensures { λ _. ⌜ now (pool .exit) ≡ nodesZero (now (pool .entry)) ⌝ }
+    ensures { λ _. ⌜ now (pool .exit) ≡ nodesZero twoWords (now (pool .entry)) ⌝ }
 {
-    let nodes = pool.len() / 4;
-    clear_first(pool, 4 * nodes);
+    let nodes = pool.len() / NODE_WORDS;
+    clear_first(pool, NODE_WORDS * nodes);
 }
 
 // 6
@@ -121,7 +123,7 @@ pub fn unsound() -> u32
 
 // 6 when reading, by R-6 with "every record of the table zero too".
 pub fn refuse_read(frames: &mut [Frame], pool: &mut [u32]) -> u32
-    ensures { λ r. ⌜ (r ≡ 6) × (now (frames .exit) ≡ recordsZero (now (frames .entry))) × (now (pool .exit) ≡ nodesZero (now (pool .entry))) ⌝ }
+    ensures { λ r. ⌜ (r ≡ 6) × (now (frames .exit) ≡ recordsZero (now (frames .entry))) × (now (pool .exit) ≡ nodesZero twoWords (now (pool .entry))) ⌝ }
 {
     clear_frames(frames);
     clear_nodes(pool);
@@ -156,8 +158,8 @@ pub fn read_good(
     work: &mut [u32],
     image: &[u8],
 ) -> u32
-    requires { ⌜ Fits (parts (now numbers) (now deques) (now frames)) × (imageCheck (now image) ≡ Good) × (nodesIn (now image) ≤ length (now work)) ⌝ }
-    ensures { λ r. ⌜ IsLoading (loadRead (now (frames .entry)) (now (pool .entry)) (cleared (nodesIn (now (image .entry))) (now (work .entry))) (now (image .entry)))
+    requires { ⌜ Fits (parts (now numbers) (now deques) (now frames)) × (imageCheck twoWords (now image) ≡ Good) × (nodesIn (now image) ≤ length (now work)) ⌝ }
+    ensures { λ r. ⌜ IsLoading (loadRead twoWords (now (frames .entry)) (now (pool .entry)) (cleared (nodesIn (now (image .entry))) (now (work .entry))) (now (image .entry)))
         (now (numbers .exit)) (now (deques .exit)) (now (frames .exit)) (now (pool .exit)) (now (work .exit)) r ⌝ }
 {
     if !takes(image, frames.len(), pool) {
@@ -178,7 +180,7 @@ pub fn read_image(
     image: &[u8],
 ) -> u32
     requires { ⌜ Fits (parts (now numbers) (now deques) (now frames)) ⌝ }
-    ensures { λ r. ⌜ IsLoading (loadWith (now (frames .entry)) (now (pool .entry)) (now (work .entry)) (now (image .entry)))
+    ensures { λ r. ⌜ IsLoading (loadWith twoWords (now (frames .entry)) (now (pool .entry)) (now (work .entry)) (now (image .entry)))
         (now (numbers .exit)) (now (deques .exit)) (now (frames .exit)) (now (pool .exit)) (now (work .exit)) r ⌝ }
 {
     let wrong = image_number(check_image(image));
@@ -202,7 +204,7 @@ pub fn load_on(
     image: &[u8],
 ) -> u32
     requires { ⌜ Fits (parts (now numbers) (now deques) (now frames)) ⌝ }
-    ensures { λ r. ⌜ IsLoad (loadWith (now (frames .entry)) (now (pool .entry)) (now (work .entry)) (now (image .entry)))
+    ensures { λ r. ⌜ IsLoad (loadWith twoWords (now (frames .entry)) (now (pool .entry)) (now (work .entry)) (now (image .entry)))
         (now (numbers .exit)) (now (deques .exit)) (now (frames .exit)) (now (pool .exit)) (now (work .exit)) r ⌝ }
 {
     let refused = read_image(numbers, deques, frames, pool, work, image);

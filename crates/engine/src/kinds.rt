@@ -11,6 +11,7 @@ ghost use Rattle.model.specs.declared.Step.the-variants.{Spawn, Return, Steal, 
 ghost use Rattle.semantics.specs.Core.{stepOn};
 ghost use Rattle.semantics.specs.Ranges.{Ready};
 ghost use Rattle.engine.specs.Promises.{core, renewed, headAfter, Leaves, LeavesOthers, Answers, kindOn, ActsAt};
+ghost use Rattle.soundness.specs.Layout.{twoWords};
 use crate::Out;
 use crate::answers::refusal_number;
 use crate::answers::synced_number;
@@ -28,11 +29,11 @@ use frames::steal_frame;
 use frames::sync_frame;
 use frames::top_at;
 use frames::with_root;
-use pool::first_shared;
-use pool::read_at;
-use pool::retain;
-use pool::set_value;
-use pool::write_shared;
+use packed::first_shared;
+use packed::read_at;
+use packed::retain;
+use packed::set_value;
+use packed::write_shared;
 use semantics::Head;
 use semantics::Refusal;
 
@@ -206,7 +207,7 @@ pub fn write_at(
     let root = frame_at(frames, p).root;
     let found = first_shared(pool, h.numbers.nodes, h.height, root, x);
     if !found.shared {
-        set_value(pool, found.at, v);
+        set_value(pool, h.numbers.nodes, found.node, v);
         return unchanged(h, 106, h.free_count);
     }
     if h.free_count <= found.level {
@@ -260,7 +261,7 @@ pub fn step_spawn(
 ) -> Out
     requires { ⌜ Ready (core h [] (now deques) (now frames) (now pool)) ⌝ }
     ensures { λ r. ⌜ LeavesOthers h r (now (deques .entry)) (now (frames .entry)) (now (pool .entry)) (now (deques .exit)) (now (frames .exit)) (now (pool .exit))
-        (λ c. stepOn c (Spawn w)) ⌝ }
+        (λ c. stepOn twoWords c (Spawn w)) ⌝ }
 {
     let a = acting(h, deques, w);
     if a.refused {
@@ -279,7 +280,7 @@ pub fn step_return(
 ) -> Out
     requires { ⌜ (length (now numbers) ≡ numberCount) × Ready (core h (totalsIn (now numbers)) (now deques) (now frames) (now pool)) ⌝ }
     ensures { λ r. ⌜ (numbersIn (now (numbers .exit)) ≡ numbersIn (now (numbers .entry))) × Leaves h r (totalsIn (now (numbers .exit))) (now (deques .exit)) (now (frames .exit)) (now (pool .exit))
-        (stepOn (core h (totalsIn (now (numbers .entry))) (now (deques .entry)) (now (frames .entry)) (now (pool .entry))) (Return w)) ⌝ }
+        (stepOn twoWords (core h (totalsIn (now (numbers .entry))) (now (deques .entry)) (now (frames .entry)) (now (pool .entry))) (Return w)) ⌝ }
 {
     let a = acting(h, deques, w);
     if a.refused {
@@ -291,7 +292,7 @@ pub fn step_return(
 pub fn step_sync(h: Head, deques: &mut [u32], frames: &mut [Frame], pool: &mut [u32], w: u32) -> Out
     requires { ⌜ Ready (core h [] (now deques) (now frames) (now pool)) ⌝ }
     ensures { λ r. ⌜ LeavesOthers h r (now (deques .entry)) (now (frames .entry)) (now (pool .entry)) (now (deques .exit)) (now (frames .exit)) (now (pool .exit))
-        (λ c. stepOn c (Sync w)) ⌝ }
+        (λ c. stepOn twoWords c (Sync w)) ⌝ }
 {
     let a = acting(h, deques, w);
     if a.refused {
@@ -310,7 +311,7 @@ pub fn step_read(
 ) -> Out
     requires { ⌜ Ready (core h [] (now deques) (now frames) (now pool)) ⌝ }
     ensures { λ r. ⌜ LeavesOthers h r (now (deques .entry)) (now (frames .entry)) (now (pool .entry)) (now (deques .exit)) (now (frames .exit)) (now (pool .exit))
-        (λ c. stepOn c (Read w x)) ⌝ }
+        (λ c. stepOn twoWords c (Read w x)) ⌝ }
 {
     let a = acting(h, deques, w);
     if a.refused {
@@ -330,7 +331,7 @@ pub fn step_write(
 ) -> Out
     requires { ⌜ Ready (core h [] (now deques) (now frames) (now pool)) ⌝ }
     ensures { λ r. ⌜ LeavesOthers h r (now (deques .entry)) (now (frames .entry)) (now (pool .entry)) (now (deques .exit)) (now (frames .exit)) (now (pool .exit))
-        (λ c. stepOn c (Write w x v)) ⌝ }
+        (λ c. stepOn twoWords c (Write w x v)) ⌝ }
 {
     let a = acting(h, deques, w);
     if a.refused {
@@ -350,7 +351,7 @@ pub fn step_fold(
 ) -> Out
     requires { ⌜ Ready (core h [] (now deques) (now frames) (now pool)) ⌝ }
     ensures { λ r. ⌜ LeavesOthers h r (now (deques .entry)) (now (frames .entry)) (now (pool .entry)) (now (deques .exit)) (now (frames .exit)) (now (pool .exit))
-        (λ c. stepOn c (Fold w reducer v)) ⌝ }
+        (λ c. stepOn twoWords c (Fold w reducer v)) ⌝ }
 {
     let a = acting(h, deques, w);
     if a.refused {
@@ -369,7 +370,7 @@ pub fn step_steal(
 ) -> Out
     requires { ⌜ Ready (core h [] (now deques) (now frames) (now pool)) ⌝ }
     ensures { λ r. ⌜ LeavesOthers h r (now (deques .entry)) (now (frames .entry)) (now (pool .entry)) (now (deques .exit)) (now (frames .exit)) (now (pool .exit))
-        (λ c. stepOn c (Steal w v)) ⌝ }
+        (λ c. stepOn twoWords c (Steal w v)) ⌝ }
 {
     let refusal = steal_refusal(h, deques, w, v);
     if refusal != 0 {

@@ -9,6 +9,7 @@ ghost use Rattle.semantics.specs.Core.{stepOn};
 ghost use Rattle.semantics.specs.Entries.{recordOn, recordsFrom, recordsResult, runOn};
 ghost use Rattle.semantics.specs.Ranges.{Kept, Ready};
 ghost use Rattle.engine.specs.Promises.{core, renewed, Leaves, stepBy};
+ghost use Rattle.soundness.specs.Layout.{twoWords};
 use crate::Fields;
 use crate::Out;
 use crate::kinds::no_record;
@@ -76,7 +77,7 @@ pub fn control_step(
 ) -> Out
     requires { ⌜ (length (now numbers) ≡ numberCount) × Ready (core h (totalsIn (now numbers)) (now deques) (now frames) (now pool)) × (r .kind ≢ 5) × (r .kind ≢ 6) ⌝ }
     ensures { λ o. ⌜ (numbersIn (now (numbers .exit)) ≡ numbersIn (now (numbers .entry))) × Leaves h o (totalsIn (now (numbers .exit))) (now (deques .exit)) (now (frames .exit)) (now (pool .exit))
-        (stepOn (core h (totalsIn (now (numbers .entry))) (now (deques .entry)) (now (frames .entry)) (now (pool .entry))) (stepBy r)) ⌝ }
+        (stepOn twoWords (core h (totalsIn (now (numbers .entry))) (now (deques .entry)) (now (frames .entry)) (now (pool .entry))) (stepBy r)) ⌝ }
 {
     if r.kind == 1 {
         return step_spawn(h, deques, frames, pool, r.w);
@@ -104,7 +105,7 @@ pub fn take_step(
 ) -> Out
     requires { ⌜ (length (now numbers) ≡ numberCount) × Ready (core h (totalsIn (now numbers)) (now deques) (now frames) (now pool)) ⌝ }
     ensures { λ o. ⌜ (numbersIn (now (numbers .exit)) ≡ numbersIn (now (numbers .entry))) × Leaves h o (totalsIn (now (numbers .exit))) (now (deques .exit)) (now (frames .exit)) (now (pool .exit))
-        (stepOn (core h (totalsIn (now (numbers .entry))) (now (deques .entry)) (now (frames .entry)) (now (pool .entry))) (stepBy r)) ⌝ }
+        (stepOn twoWords (core h (totalsIn (now (numbers .entry))) (now (deques .entry)) (now (frames .entry)) (now (pool .entry))) (stepBy r)) ⌝ }
 {
     if r.kind == 5 {
         return step_read(h, deques, frames, pool, r.w, r.x);
@@ -127,7 +128,7 @@ pub fn step_record(
 ) -> Out
     requires { ⌜ (length (now numbers) ≡ numberCount) × Ready (core h (totalsIn (now numbers)) (now deques) (now frames) (now pool)) × (at + 8 ≤ length (now tape)) ⌝ }
     ensures { λ r. ⌜ (numbersIn (now (numbers .exit)) ≡ numbersIn (now (numbers .entry))) × Leaves h r (totalsIn (now (numbers .exit))) (now (deques .exit)) (now (frames .exit)) (now (pool .exit))
-        (recordOn (core h (totalsIn (now (numbers .entry))) (now (deques .entry)) (now (frames .entry)) (now (pool .entry))) (decodeAt (now (tape .entry)) at)) ⌝ }
+        (recordOn twoWords (core h (totalsIn (now (numbers .entry))) (now (deques .entry)) (now (frames .entry)) (now (pool .entry))) (decodeAt (now (tape .entry)) at)) ⌝ }
 {
     let decoded = decode(tape, at);
     let Decoded::Valid(step) = decoded else {
@@ -179,11 +180,11 @@ pub fn run_records(
     from: usize,
     to: usize,
 ) -> Head
-    requires { ⌜ (length (now numbers) ≡ numberCount) × Kept (core h (totalsIn (now numbers)) (now deques) (now frames) (now pool)) × (2 * (length (now tape) / 8) ≤ length (now answers))
+    requires { ⌜ (length (now numbers) ≡ numberCount) × Kept twoWords (core h (totalsIn (now numbers)) (now deques) (now frames) (now pool)) × (2 * (length (now tape) / 8) ≤ length (now answers))
         × (from ≤ to) × (to ≤ length (now tape) / 8) ⌝ }
     ensures { λ r. ⌜ (numbersIn (now (numbers .exit)) ≡ numbersIn (now (numbers .entry)))
         × (recordsResult (core r (totalsIn (now (numbers .exit))) (now (deques .exit)) (now (frames .exit)) (now (pool .exit))) (now (answers .exit))
-        ≡ runOn (recordsResult (core h (totalsIn (now (numbers .entry))) (now (deques .entry)) (now (frames .entry)) (now (pool .entry))) (now (answers .entry))) (2 * from) (recordsFrom (to - from) (now (tape .entry)) (8 * from)))
+        ≡ runOn twoWords (recordsResult (core h (totalsIn (now (numbers .entry))) (now (deques .entry)) (now (frames .entry)) (now (pool .entry))) (now (answers .entry))) (2 * from) (recordsFrom (to - from) (now (tape .entry)) (8 * from)))
         × (r ≡ renewed h (r .numbers .«free_node») (r .numbers .«free_place») (r .«free_count»)) ⌝ }
 {
     let mut free_node = h.numbers.free_node;

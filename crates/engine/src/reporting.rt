@@ -13,6 +13,7 @@ ghost use Rattle.semantics.specs.Report.{reportDone, reportWith, timingOf};
 ghost use Rattle.semantics.specs.Timing.{timedOver};
 ghost use Rattle.timing.specs.Turns.{timing, kindAt};
 ghost use Rattle.engine.specs.Promises.{core, renewed, IsRun, refusalBy, reportTests};
+ghost use Rattle.soundness.specs.Layout.{twoWords};
 use crate::Turn;
 use crate::answers::refusal_number;
 use crate::begin::start_on;
@@ -54,14 +55,14 @@ pub fn run_turn(
     to: usize,
     t: Tally,
 ) -> Turn
-    requires { ⌜ (length (now numbers) ≡ numberCount) × Kept (core h (totalsIn (now numbers)) (now deques) (now frames) (now pool)) × (2 * (length (now tape) / 8) ≤ length (now answers))
+    requires { ⌜ (length (now numbers) ≡ numberCount) × Kept twoWords (core h (totalsIn (now numbers)) (now deques) (now frames) (now pool)) × (2 * (length (now tape) / 8) ≤ length (now answers))
         × (i < to) × (to ≤ length (now tape) / 8) × ((j : ℕ) → i + 1 ≤ j → j < to → 5 ≤ kindAt (now tape) j)
         × (length (now clocks) ≡ 2 * length (now frames)) × ((j : ℕ) → getD (now clocks) j 0 ≤ i) × (t .work ≤ i) × (t .span ≤ i) ⌝ }
     ensures { λ r. ⌜ (numbersIn (now (numbers .exit)) ≡ numbersIn (now (numbers .entry)))
         × (recordsResult (core (renewed h (r .«free_node») (r .«free_place») (r .«free_count»)) (totalsIn (now (numbers .exit))) (now (deques .exit)) (now (frames .exit)) (now (pool .exit))) (now (answers .exit))
-        ≡ runOn (recordsResult (core h (totalsIn (now (numbers .entry))) (now (deques .entry)) (now (frames .entry)) (now (pool .entry))) (now (answers .entry))) (2 * i) (recordsFrom (to - i) (now (tape .entry)) (8 * i)))
+        ≡ runOn twoWords (recordsResult (core h (totalsIn (now (numbers .entry))) (now (deques .entry)) (now (frames .entry)) (now (pool .entry))) (now (answers .entry))) (2 * i) (recordsFrom (to - i) (now (tape .entry)) (8 * i)))
         × (timing (now (clocks .exit)) (r .work) (r .span)
-        ≡ timedOver (core h (totalsIn (now (numbers .entry))) (now (deques .entry)) (now (frames .entry)) (now (pool .entry))) (recordsFrom (to - i) (now (tape .entry)) (8 * i)) (timing (now (clocks .entry)) (t .work) (t .span))) ⌝ }
+        ≡ timedOver twoWords (core h (totalsIn (now (numbers .entry))) (now (deques .entry)) (now (frames .entry)) (now (pool .entry))) (recordsFrom (to - i) (now (tape .entry)) (8 * i)) (timing (now (clocks .entry)) (t .work) (t .span))) ⌝ }
 {
     let p = bottom_of(deques, tape, i);
     let r = rise_of(clocks, frames, tape, i, p);
@@ -96,12 +97,12 @@ pub fn run_timed(
     clocks: &mut [u64],
     free_count: u32,
 ) -> Tally
-    requires { ⌜ Fits (parts (now numbers) (now deques) (now frames)) × Kept (coreOf (parts (now numbers) (now deques) (now frames)) (now pool) «free_count»)
+    requires { ⌜ Fits (parts (now numbers) (now deques) (now frames)) × Kept twoWords (coreOf (parts (now numbers) (now deques) (now frames)) (now pool) «free_count»)
         × (2 * (length (now tape) / 8) ≤ length (now answers)) × (length (now clocks) ≡ 2 * length (now frames)) × ((j : ℕ) → getD (now clocks) j 0 ≤ 0) ⌝ }
-    ensures { λ r. ⌜ IsRun (runOn (recordsResult (coreOf (parts (now (numbers .entry)) (now (deques .entry)) (now (frames .entry))) (now (pool .entry)) «free_count») (now (answers .entry))) 0 (recordsOf (now (tape .entry))))
+    ensures { λ r. ⌜ IsRun (runOn twoWords (recordsResult (coreOf (parts (now (numbers .entry)) (now (deques .entry)) (now (frames .entry))) (now (pool .entry)) «free_count») (now (answers .entry))) 0 (recordsOf (now (tape .entry))))
         (now (numbers .exit)) (now (deques .exit)) (now (frames .exit)) (now (pool .exit)) (now (answers .exit))
         × (timing (now (clocks .exit)) (r .work) (r .span)
-        ≡ timedOver (coreOf (parts (now (numbers .entry)) (now (deques .entry)) (now (frames .entry))) (now (pool .entry)) «free_count») (recordsOf (now (tape .entry))) (timing (now (clocks .entry)) 0 0)) ⌝ }
+        ≡ timedOver twoWords (coreOf (parts (now (numbers .entry)) (now (deques .entry)) (now (frames .entry))) (now (pool .entry)) «free_count») (recordsOf (now (tape .entry))) (timing (now (clocks .entry)) 0 0)) ⌝ }
 {
     let h = head_of(numbers_in(numbers), free_count);
     let records = record_count(tape);
@@ -178,10 +179,10 @@ pub fn report_run(
     report: &mut [u64],
 ) -> u32
     requires { ⌜ Fits (parts (now numbers) (now deques) (now frames))
-        × (checkedState (parts (now numbers) (now deques) (now frames)) (now pool) (now work) ≡ Sound (chainFree (parts (now numbers) (now deques) (now frames)) (now pool)))
+        × (checkedState twoWords (parts (now numbers) (now deques) (now frames)) (now pool) (now work) ≡ Sound (chainFree twoWords (parts (now numbers) (now deques) (now frames)) (now pool)))
         × (unfitTape (now tape) (now answers) ≡ false) × (length (now clocks) ≡ 2 * length (now frames)) × (length (now report) ≡ 4) ⌝ }
-    ensures { λ r. ⌜ IsReport (reportDone (tapeWith (parts (now (numbers .entry)) (now (deques .entry)) (now (frames .entry))) (now (pool .entry)) (now (work .entry)) (now (tape .entry)) (now (answers .entry)))
-        (timingOf (parts (now (numbers .entry)) (now (deques .entry)) (now (frames .entry))) (now (pool .entry)) (now (tape .entry)) (now (clocks .entry))) (now (report .entry)))
+    ensures { λ r. ⌜ IsReport (reportDone (tapeWith twoWords (parts (now (numbers .entry)) (now (deques .entry)) (now (frames .entry))) (now (pool .entry)) (now (work .entry)) (now (tape .entry)) (now (answers .entry)))
+        (timingOf twoWords (parts (now (numbers .entry)) (now (deques .entry)) (now (frames .entry))) (now (pool .entry)) (now (tape .entry)) (now (clocks .entry))) (now (report .entry)))
         (now (numbers .exit)) (now (deques .exit)) (now (frames .exit)) (now (pool .exit)) (now (work .exit)) (now (answers .exit)) (now (clocks .exit)) (now (report .exit)) r ⌝ }
 {
     let checked = check_state(numbers, deques, frames, pool, work);
@@ -214,7 +215,7 @@ pub fn report_on(
     report: &mut [u64],
 ) -> u32
     requires { ⌜ Fits (parts (now numbers) (now deques) (now frames)) × (length (now clocks) ≡ 2 * length (now frames)) × (length (now report) ≡ 4) ⌝ }
-    ensures { λ r. ⌜ IsReport (reportWith (parts (now (numbers .entry)) (now (deques .entry)) (now (frames .entry))) workers (now (values .entry)) (now (pool .entry)) (now (tape .entry))
+    ensures { λ r. ⌜ IsReport (reportWith twoWords (parts (now (numbers .entry)) (now (deques .entry)) (now (frames .entry))) workers (now (values .entry)) (now (pool .entry)) (now (tape .entry))
         (lent (now (work .entry)) (now (answers .entry)) (now (clocks .entry)) (now (report .entry))))
         (now (numbers .exit)) (now (deques .exit)) (now (frames .exit)) (now (pool .exit)) (now (work .exit)) (now (answers .exit)) (now (clocks .exit)) (now (report .exit)) r ⌝ }
 {

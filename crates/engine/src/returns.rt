@@ -20,7 +20,7 @@ use frames::frame_at;
 use frames::go_on;
 use frames::pop_off;
 use frames::wait_frame;
-use pool::release;
+use packed::release;
 use semantics::Head;
 
 // What ends leave.

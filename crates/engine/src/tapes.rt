@@ -6,6 +6,7 @@ ghost use Rattle.semantics.specs.Entries.{headOf, coreOf, recordsResult, record
 ghost use Rattle.semantics.specs.Promises.{parts, Fits, IsTape};
 ghost use Rattle.semantics.specs.Ranges.{Kept};
 ghost use Rattle.engine.specs.Promises.{checkNumber, freeIn, IsRun};
+ghost use Rattle.soundness.specs.Layout.{twoWords};
 use crate::answers::refusal_number;
 use crate::checking::check_state;
 use crate::numbers::numbers_in;
@@ -70,9 +71,9 @@ pub fn run_on(
     answers: &mut [u32],
     free_count: u32,
 )
-    requires { ⌜ Fits (parts (now numbers) (now deques) (now frames)) × Kept (coreOf (parts (now numbers) (now deques) (now frames)) (now pool) «free_count»)
+    requires { ⌜ Fits (parts (now numbers) (now deques) (now frames)) × Kept twoWords (coreOf (parts (now numbers) (now deques) (now frames)) (now pool) «free_count»)
         × (2 * (length (now bytes) / 8) ≤ length (now answers)) ⌝ }
-    ensures { λ _. ⌜ IsRun (runOn (recordsResult (coreOf (parts (now (numbers .entry)) (now (deques .entry)) (now (frames .entry))) (now (pool .entry)) «free_count») (now (answers .entry))) 0 (recordsOf (now (bytes .entry))))
+    ensures { λ _. ⌜ IsRun (runOn twoWords (recordsResult (coreOf (parts (now (numbers .entry)) (now (deques .entry)) (now (frames .entry))) (now (pool .entry)) «free_count») (now (answers .entry))) 0 (recordsOf (now (bytes .entry))))
         (now (numbers .exit)) (now (deques .exit)) (now (frames .exit)) (now (pool .exit)) (now (answers .exit)) ⌝ }
 {
     let first = head_of(numbers_in(numbers), free_count);
@@ -101,7 +102,7 @@ pub fn tape_on(
     answers: &mut [u32],
 ) -> u32
     requires { ⌜ Fits (parts (now numbers) (now deques) (now frames)) ⌝ }
-    ensures { λ r. ⌜ IsTape (tapeWith (parts (now (numbers .entry)) (now (deques .entry)) (now (frames .entry))) (now (pool .entry)) (now (work .entry)) (now (bytes .entry)) (now (answers .entry)))
+    ensures { λ r. ⌜ IsTape (tapeWith twoWords (parts (now (numbers .entry)) (now (deques .entry)) (now (frames .entry))) (now (pool .entry)) (now (work .entry)) (now (bytes .entry)) (now (answers .entry)))
         (now (numbers .exit)) (now (deques .exit)) (now (frames .exit)) (now (pool .exit)) (now (work .exit)) (now (answers .exit)) r ⌝ }
 {
     if unfit_tape(bytes, answers) {

@@ -38,6 +38,7 @@ use Rattle.image.proofs.ImageCheck.Laws as L-ImageCheck
 use Rattle.image.specs.declared.ImageCheck.{ImageCheck}
 use Rattle.frames.proofs.Lent.{at-list, Mine, Yours, Lent, Shown, lend, home, show, back, give}
 use Rattle.image.proofs.check_image as callee′
+use Rattle.soundness.specs.Layout.{twoWords}
 
 abbrev R-ImageCheck : RattleType
 R-ImageCheck = M-ImageCheck.the-row
@@ -60,14 +61,14 @@ module _ {M : Type 1} {𝓤 : URA M} {H : Heap 𝓤} {A : Atoms 𝓤} {K : Type 
     {Γ : List (Item 𝓤)} {E : Env 𝓤 H} {C : Calls 𝓤 H} {Λ : Loops 𝓤 H} {post′ : Post 𝓤 H} {dest′ : Place} {name′ : Name} {opds′ : List Operand} {rest′ : Body} where
   pub step-g : K → FmC 𝓤 H (W .laws) C → Triple 𝓤 (C name′) (Asked 𝓤 H A mem run) → {κ-image : Lft} {q-image : Share} {γ-image : GName} → (b-image o-image n-image : ℕ) (image : List ℕ) →
       (Opds K W (raw ((Asked 𝓤 H A mem run) .pre (to-step-g 𝓤 H A mem run κ-image q-image γ-image b-image o-image n-image image)) ∷ ‵ (ShrSlice (named 0) κ-image u8 .own (at-list b-image o-image γ-image image) (sliceVal (b-image, o-image) n-image ∷ [])) ∷ Γ) E opds′ (sliceVal (b-image, o-image) n-image ∷ [])) →
-      ((res′ : ImageCheck) → Is R-ImageCheck res′ (val-ImageCheck res′ ∷ []) → res′ ≡ imageCheck image → Seq K W (‵ (Yours u8 κ-image q-image γ-image b-image o-image n-image image) ∷ Γ) (lands C Λ E dest′ (val-ImageCheck res′) rest′ post′)) →
+      ((res′ : ImageCheck) → Is R-ImageCheck res′ (val-ImageCheck res′ ∷ []) → res′ ≡ imageCheck twoWords image → Seq K W (‵ (Yours u8 κ-image q-image γ-image b-image o-image n-image image) ∷ Γ) (lands C Λ E dest′ (val-ImageCheck res′) rest′ post′)) →
       Seq K W (‵ (Yours u8 κ-image q-image γ-image b-image o-image n-image image) ∷ Γ) (runs C Λ E (seq (call name′ opds′ dest′) rest′) post′)
   step-g t′ fm′ known′ {κ-image} {q-image} {γ-image} b-image o-image n-image image os′ k′ =
       give t′ u8 b-image o-image n-image image $
       move t′ (0 ∷ 1 ∷ []) $ group t′ 2 $ use1 W (raw ((Asked 𝓤 H A mem run) .pre (to-step-g 𝓤 H A mem run κ-image q-image γ-image b-image o-image n-image image))) (goes-step-g 𝓤 H A mem run W κ-image q-image γ-image b-image o-image n-image image) $
       calls-at t′ fm′ (Asked 𝓤 H A mem run) known′ (to-step-g 𝓤 H A mem run κ-image q-image γ-image b-image o-image n-image image) (os′) (λ w′.
       use1 W (later (some (λ (res′ : ImageCheck). ((‵ (flft κ-image q-image) ⊛ ‵ ftrue) ⊛ ‵ (R-ImageCheck .own res′ (w′ ∷ []))) ⊛ raw (ensured 𝓤 H A callee′.ended (callee′.clauses 𝓤 H A mem run) (κ-image, tt) (at-list b-image o-image γ-image image, tt) tt res′)))) (id⊢ 𝓤 _) $ await t′ tt $ pick t′ (λ res′. split t′ $ move t′ (1 ∷ []) $
-      use1 W (some (λ (zs′ : Unit {0} × Unit {0}). ‵ (lasts callee′.ended (κ-image, tt) (at-list b-image o-image γ-image image, tt) zs′) ⊛ raw (fact 𝓤 (res′ ≡ imageCheck image)))) (id⊢ 𝓤 _) $ pick t′ (λ zs′. split t′ $ move t′ (1 ∷ []) $ heard t′ (res′ ≡ imageCheck image) (λ e′.
+      use1 W (some (λ (zs′ : Unit {0} × Unit {0}). ‵ (lasts callee′.ended (κ-image, tt) (at-list b-image o-image γ-image image, tt) zs′) ⊛ raw (fact 𝓤 (res′ ≡ imageCheck twoWords image)))) (id⊢ 𝓤 _) $ pick t′ (λ zs′. split t′ $ move t′ (1 ∷ []) $ heard t′ (res′ ≡ imageCheck twoWords image) (λ e′.
       fsplit t′ $ drop t′ $ drop t′ $
       move t′ (0 ∷ []) $ split t′ $ move t′ (1 ∷ []) $ peeks t′ R-ImageCheck (Is R-ImageCheck) (shows 𝓤 H A R-ImageCheck) res′ (w′ ∷ []) (λ is′. drop t′ $ split t′ $ move t′ (1 ∷ []) $ drop t′ $
       move t′ (1 ∷ 0 ∷ []) $ fjoin t′ $

@@ -34,6 +34,7 @@ use denote.Triple.Clauses.{ensured, lasts}
 use denote.Triple.Walked.{says}
 use Rattle.frames.specs.declared.Frame.{Frame}
 use Rattle.soundness.specs.Soundness.{numbersSound}
+use Rattle.soundness.specs.Layout.{twoWords}
 use Rattle.soundness.proofs.Numbers as M-Numbers
 use Rattle.soundness.proofs.Numbers.Laws as L-Numbers
 use Rattle.soundness.specs.declared.Numbers.{Numbers}
@@ -61,14 +62,14 @@ module _ {M : Type 1} {𝓤 : URA M} {H : Heap 𝓤} {A : Atoms 𝓤} {K : Type 
     {Γ : List (Item 𝓤)} {E : Env 𝓤 H} {C : Calls 𝓤 H} {Λ : Loops 𝓤 H} {post′ : Post 𝓤 H} {dest′ : Place} {name′ : Name} {opds′ : List Operand} {rest′ : Body} where
   pub step-g : K → FmC 𝓤 H (W .laws) C → Triple 𝓤 (C name′) (Asked 𝓤 H A mem run) → {κ-pool : Lft} {q-pool : Share} {γ-pool : GName} → (b-pool o-pool n-pool : ℕ) (pool : List ℕ) (numbers : Numbers) (places : ℕ) → (numbers-good : Is R-Numbers numbers (val-Numbers numbers ∷ [])) → (places-good : places < 2 ^ 64) →
       (Opds K W (raw ((Asked 𝓤 H A mem run) .pre (to-step-g 𝓤 H A mem run κ-pool q-pool γ-pool b-pool o-pool n-pool pool numbers places)) ∷ ‵ (ShrSlice (named 0) κ-pool u32 .own (at-list b-pool o-pool γ-pool pool) (sliceVal (b-pool, o-pool) n-pool ∷ [])) ∷ Γ) E opds′ (val-Numbers numbers ∷ vint w64 places ∷ sliceVal (b-pool, o-pool) n-pool ∷ [])) →
-      ((res′ : Bool) → ((fs : List Frame) → length fs ≡ places → res′ ≡ numbersSound numbers fs pool) → Seq K W (‵ (Yours u32 κ-pool q-pool γ-pool b-pool o-pool n-pool pool) ∷ Γ) (lands C Λ E dest′ (vbool res′) rest′ post′)) →
+      ((res′ : Bool) → ((fs : List Frame) → length fs ≡ places → res′ ≡ numbersSound twoWords numbers fs pool) → Seq K W (‵ (Yours u32 κ-pool q-pool γ-pool b-pool o-pool n-pool pool) ∷ Γ) (lands C Λ E dest′ (vbool res′) rest′ post′)) →
       Seq K W (‵ (Yours u32 κ-pool q-pool γ-pool b-pool o-pool n-pool pool) ∷ Γ) (runs C Λ E (seq (call name′ opds′ dest′) rest′) post′)
   step-g t′ fm′ known′ {κ-pool} {q-pool} {γ-pool} b-pool o-pool n-pool pool numbers places numbers-good places-good os′ k′ =
       give t′ u32 b-pool o-pool n-pool pool $
       move t′ (0 ∷ 1 ∷ []) $ group t′ 2 $ use1 W (raw ((Asked 𝓤 H A mem run) .pre (to-step-g 𝓤 H A mem run κ-pool q-pool γ-pool b-pool o-pool n-pool pool numbers places))) (goes-step-g 𝓤 H A mem run W κ-pool q-pool γ-pool b-pool o-pool n-pool pool numbers places numbers-good places-good) $
       calls-at t′ fm′ (Asked 𝓤 H A mem run) known′ (to-step-g 𝓤 H A mem run κ-pool q-pool γ-pool b-pool o-pool n-pool pool numbers places) (os′) (λ w′.
       use1 W (later (some (λ (res′ : Bool). ((‵ (flft κ-pool q-pool) ⊛ ‵ ftrue) ⊛ ‵ (bool .own res′ (w′ ∷ []))) ⊛ raw (ensured 𝓤 H A callee′.ended (callee′.clauses 𝓤 H A mem run) (κ-pool, tt) (numbers, (places, (at-list b-pool o-pool γ-pool pool, tt))) tt res′)))) (id⊢ 𝓤 _) $ await t′ tt $ pick t′ (λ res′. split t′ $ move t′ (1 ∷ []) $
-      use1 W (some (λ (zs′ : Unit {0} × (Unit {0} × (Unit {0} × Unit {0}))). ‵ (lasts callee′.ended (κ-pool, tt) (numbers, (places, (at-list b-pool o-pool γ-pool pool, tt))) zs′) ⊛ raw (fact 𝓤 (((fs : List Frame) → length fs ≡ places → res′ ≡ numbersSound numbers fs pool))))) (id⊢ 𝓤 _) $ pick t′ (λ zs′. split t′ $ move t′ (1 ∷ []) $ heard t′ (((fs : List Frame) → length fs ≡ places → res′ ≡ numbersSound numbers fs pool)) (λ e′.
+      use1 W (some (λ (zs′ : Unit {0} × (Unit {0} × (Unit {0} × Unit {0}))). ‵ (lasts callee′.ended (κ-pool, tt) (numbers, (places, (at-list b-pool o-pool γ-pool pool, tt))) zs′) ⊛ raw (fact 𝓤 (((fs : List Frame) → length fs ≡ places → res′ ≡ numbersSound twoWords numbers fs pool))))) (id⊢ 𝓤 _) $ pick t′ (λ zs′. split t′ $ move t′ (1 ∷ []) $ heard t′ (((fs : List Frame) → length fs ≡ places → res′ ≡ numbersSound twoWords numbers fs pool)) (λ e′.
       fsplit t′ $ drop t′ $ fsplit t′ $ drop t′ $ fsplit t′ $ drop t′ $ drop t′ $
       move t′ (0 ∷ []) $ split t′ $ move t′ (1 ∷ []) $ peeks t′ bool (Is bool) (shows 𝓤 H A bool) res′ (w′ ∷ []) (λ is′. drop t′ $ split t′ $ move t′ (1 ∷ []) $ drop t′ $
       move t′ (1 ∷ 0 ∷ []) $ fjoin t′ $

@@ -1,4 +1,4 @@
--- Written by tools/walk: the call of `pool_check::check_pool` as a step of a walk. Do not edit: write it again.
+-- Written by tools/walk: the call of `packed_check::check_pool` as a step of a walk. Do not edit: write it again.
 -- The operands are read in the context [what the callee asks; the loans; Γ], where an entry of Γ stands one further on than before the call.
 use mathlib.Core.Path.{_≡_, refl, sym, ap, subst}
 use Prim.Native.Nat.{ℕ, _<_, _^_}
@@ -35,16 +35,16 @@ use denote.Triple.Walked.{says}
 use Prim.Native.Nat.{_≤_}
 use Rattle.soundness.specs.Soundness.{cleared}
 use Rattle.frames.specs.Widths.{maxPlaces}
-use Rattle.pool_check.specs.Answer.{poolChecked}
 use Rattle.pool_check.specs.Algorithm.{DeadFrom}
+use Rattle.packed_check.specs.Answer.{poolChecked}
 use Rattle.frames.proofs.Frame as M-Frame
 use Rattle.frames.proofs.Frame.Laws as L-Frame
 use Rattle.frames.specs.declared.Frame.{Frame}
-use Rattle.pool_check.proofs.PoolChecked as M-PoolChecked
-use Rattle.pool_check.proofs.PoolChecked.Laws as L-PoolChecked
-use Rattle.pool_check.specs.declared.PoolChecked.{PoolChecked}
+use Rattle.packed_check.proofs.PoolChecked as M-PoolChecked
+use Rattle.packed_check.proofs.PoolChecked.Laws as L-PoolChecked
+use Rattle.packed_check.specs.declared.PoolChecked.{PoolChecked}
 use Rattle.frames.proofs.Lent.{at-list, Mine, Yours, Lent, Shown, lend, home, show, back, give}
-use Rattle.pool_check.proofs.check_pool as callee′
+use Rattle.packed_check.proofs.check_pool as callee′
 
 abbrev R-Frame : RattleType
 R-Frame = M-Frame.the-row

@@ -33,6 +33,7 @@ use denote.Triple.Call.{calls-at, calls-at-last}
 use denote.Triple.Clauses.{ensured, lasts}
 use denote.Triple.Walked.{says}
 use Rattle.semantics.specs.Images.{nodesZero}
+use Rattle.soundness.specs.Layout.{twoWords}
 use Rattle.frames.proofs.Lent.{at-list, Mine, Yours, Lent, Shown, lend, home, show, back, give}
 use Rattle.engine.proofs.images.clear_nodes as callee′
 
@@ -51,14 +52,14 @@ module _ {M : Type 1} {𝓤 : URA M} {H : Heap 𝓤} {A : Atoms 𝓤} {K : Type 
     {Γ : List (Item 𝓤)} {E : Env 𝓤 H} {C : Calls 𝓤 H} {Λ : Loops 𝓤 H} {post′ : Post 𝓤 H} {dest′ : Place} {name′ : Name} {opds′ : List Operand} {rest′ : Body} where
   pub step : K → FmC 𝓤 H (W .laws) C → Triple 𝓤 (C name′) (Asked 𝓤 H A mem run) → {κ-pool : Lft} {q-pool : Share} {γ-pool : GName} → (b-pool o-pool n-pool : ℕ) (pool : List ℕ) → length pool ≡ n-pool → Room u32 n-pool →
       ((ν-pool : ℕ) (δ-pool : GName) → Opds K W (raw ((Asked 𝓤 H A mem run) .pre (to-step 𝓤 H A mem run ν-pool δ-pool b-pool o-pool n-pool pool)) ∷ ‵ (Lent u32 κ-pool (ν-pool ∷ []) q-pool γ-pool b-pool o-pool δ-pool pool) ∷ Γ) E opds′ (sliceVal (b-pool, o-pool) n-pool ∷ [])) →
-      ((zs-pool : List ℕ) → zs-pool ≡ nodesZero pool → length zs-pool ≡ length pool → Seq K W (‵ (Mine u32 κ-pool q-pool γ-pool b-pool o-pool n-pool zs-pool) ∷ Γ) (lands C Λ E dest′ (vunit) rest′ post′)) →
+      ((zs-pool : List ℕ) → zs-pool ≡ nodesZero twoWords pool → length zs-pool ≡ length pool → Seq K W (‵ (Mine u32 κ-pool q-pool γ-pool b-pool o-pool n-pool zs-pool) ∷ Γ) (lands C Λ E dest′ (vunit) rest′ post′)) →
       Seq K W (‵ (Mine u32 κ-pool q-pool γ-pool b-pool o-pool n-pool pool) ∷ Γ) (runs C Λ E (seq (call name′ opds′ dest′) rest′) post′)
   step t′ fm′ known′ {κ-pool} {q-pool} {γ-pool} b-pool o-pool n-pool pool len-pool room-pool os′ k′ =
       lend t′ tt u32 b-pool o-pool n-pool pool len-pool (λ ν-pool δ-pool.
       move t′ (0 ∷ 1 ∷ []) $ group t′ 2 $ use1 W (raw ((Asked 𝓤 H A mem run) .pre (to-step 𝓤 H A mem run ν-pool δ-pool b-pool o-pool n-pool pool))) (goes-step 𝓤 H A mem run W ν-pool δ-pool b-pool o-pool n-pool pool) $
       calls-at t′ fm′ (Asked 𝓤 H A mem run) known′ (to-step 𝓤 H A mem run ν-pool δ-pool b-pool o-pool n-pool pool) (os′ ν-pool δ-pool) (λ w′.
       use1 W (later (some (λ (res′ : Unit {0}). ((‵ (flft (ν-pool ∷ []) fullShare) ⊛ ‵ ftrue) ⊛ ‵ (unit .own res′ (w′ ∷ []))) ⊛ raw (ensured 𝓤 H A callee′.ended (callee′.clauses 𝓤 H A mem run) ((ν-pool ∷ []), tt) (at-list b-pool o-pool δ-pool pool, tt) tt res′)))) (id⊢ 𝓤 _) $ await t′ tt $ pick t′ (λ res′. split t′ $ move t′ (1 ∷ []) $
-      use1 W (some (λ (zs′ : List ℕ × Unit {0}). ‵ (lasts callee′.ended ((ν-pool ∷ []), tt) (at-list b-pool o-pool δ-pool pool, tt) zs′) ⊛ raw (fact 𝓤 ((zs′ .0) ≡ nodesZero pool)))) (id⊢ 𝓤 _) $ pick t′ (λ zs′. split t′ $ move t′ (1 ∷ []) $ heard t′ ((zs′ .0) ≡ nodesZero pool) (λ e′.
+      use1 W (some (λ (zs′ : List ℕ × Unit {0}). ‵ (lasts callee′.ended ((ν-pool ∷ []), tt) (at-list b-pool o-pool δ-pool pool, tt) zs′) ⊛ raw (fact 𝓤 ((zs′ .0) ≡ nodesZero twoWords pool)))) (id⊢ 𝓤 _) $ pick t′ (λ zs′. split t′ $ move t′ (1 ∷ []) $ heard t′ ((zs′ .0) ≡ nodesZero twoWords pool) (λ e′.
       fsplit t′ $ fsplit t′ $ move t′ (1 ∷ []) $ feqL t′ (λ same-pool. move t′ (1 ∷ []) $ drop t′ $
       move t′ (1 ∷ []) $ split t′ $ move t′ (1 ∷ []) $ peeks t′ unit (Is unit) (shows 𝓤 H A unit) res′ (w′ ∷ []) (λ is′. drop t′ $ split t′ $ move t′ (1 ∷ []) $ drop t′ $
       move t′ (0 ∷ 2 ∷ 1 ∷ []) $ home t′ tt u32 b-pool o-pool n-pool pool (zs′ .0) len-pool room-pool same-pool $

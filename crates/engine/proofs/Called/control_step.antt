@@ -51,6 +51,7 @@ use Rattle.engine.proofs.Out.Laws as L-Out
 use Rattle.engine.specs.declared.Out.{Out}
 use Rattle.frames.proofs.Lent.{at-list, Mine, Yours, Lent, Shown, lend, home, show, back, give}
 use Rattle.engine.proofs.records.control_step as callee′
+use Rattle.soundness.specs.Layout.{twoWords}
 
 abbrev R-Head : RattleType
 R-Head = M-Head.the-row
@@ -91,14 +92,14 @@ module _ {M : Type 1} {𝓤 : URA M} {H : Heap 𝓤} {A : Atoms 𝓤} {K : Type 
     {Γ : List (Item 𝓤)} {E : Env 𝓤 H} {C : Calls 𝓤 H} {Λ : Loops 𝓤 H} {post′ : Post 𝓤 H} {dest′ : Place} {name′ : Name} {opds′ : List Operand} {rest′ : Body} where
   pub step : K → FmC 𝓤 H (W .laws) C → Triple 𝓤 (C name′) (Asked 𝓤 H A mem run) → {κ-numbers : Lft} {q-numbers : Share} {γ-numbers : GName} {κ-deques : Lft} {q-deques : Share} {γ-deques : GName} {κ-frames : Lft} {q-frames : Share} {γ-frames : GName} {κ-pool : Lft} {q-pool : Share} {γ-pool : GName} → (b-numbers o-numbers n-numbers : ℕ) (numbers : List ℕ) (b-deques o-deques n-deques : ℕ) (deques : List ℕ) (b-frames o-frames n-frames : ℕ) (frames : List Frame) (b-pool o-pool n-pool : ℕ) (pool : List ℕ) (h : Head) (r : Fields) → (h-good : Is R-Head h (val-Head h ∷ [])) → (r-good : Is R-Fields r (val-Fields r ∷ [])) → (length numbers ≡ numberCount) × Ready (core h (totalsIn numbers) deques frames pool) × (r .kind ≢ 5) × (r .kind ≢ 6) → length numbers ≡ n-numbers → Room u32 n-numbers → length deques ≡ n-deques → Room u32 n-deques → length frames ≡ n-frames → Room R-Frame n-frames → length pool ≡ n-pool → Room u32 n-pool →
       ((ν-numbers : ℕ) (δ-numbers : GName) (ν-deques : ℕ) (δ-deques : GName) (ν-frames : ℕ) (δ-frames : GName) (ν-pool : ℕ) (δ-pool : GName) → Opds K W (raw ((Asked 𝓤 H A mem run) .pre (to-step 𝓤 H A mem run ν-numbers δ-numbers ν-deques δ-deques ν-frames δ-frames ν-pool δ-pool b-numbers o-numbers n-numbers numbers b-deques o-deques n-deques deques b-frames o-frames n-frames frames b-pool o-pool n-pool pool h r)) ∷ ‵ (Lent u32 κ-pool (ν-pool ∷ []) q-pool γ-pool b-pool o-pool δ-pool pool) ∷ ‵ (Lent R-Frame κ-frames (ν-frames ∷ []) q-frames γ-frames b-frames o-frames δ-frames frames) ∷ ‵ (Lent u32 κ-deques (ν-deques ∷ []) q-deques γ-deques b-deques o-deques δ-deques deques) ∷ ‵ (Lent u32 κ-numbers (ν-numbers ∷ []) q-numbers γ-numbers b-numbers o-numbers δ-numbers numbers) ∷ Γ) E opds′ (val-Head h ∷ sliceVal (b-numbers, o-numbers) n-numbers ∷ sliceVal (b-deques, o-deques) n-deques ∷ sliceVal (b-frames, o-frames) n-frames ∷ sliceVal (b-pool, o-pool) n-pool ∷ val-Fields r ∷ [])) →
-      ((res′ : Out) (zs-numbers : List ℕ) (zs-deques : List ℕ) (zs-frames : List Frame) (zs-pool : List ℕ) → Is R-Out res′ (val-Out res′ ∷ []) → (numbersIn zs-numbers ≡ numbersIn numbers) × Leaves h res′ (totalsIn zs-numbers) zs-deques zs-frames zs-pool (stepOn (core h (totalsIn numbers) deques frames pool) (stepBy r)) → length zs-numbers ≡ length numbers → length zs-deques ≡ length deques → length zs-frames ≡ length frames → length zs-pool ≡ length pool → Seq K W (‵ (Mine u32 κ-numbers q-numbers γ-numbers b-numbers o-numbers n-numbers zs-numbers) ∷ ‵ (Mine u32 κ-deques q-deques γ-deques b-deques o-deques n-deques zs-deques) ∷ ‵ (Mine R-Frame κ-frames q-frames γ-frames b-frames o-frames n-frames zs-frames) ∷ ‵ (Mine u32 κ-pool q-pool γ-pool b-pool o-pool n-pool zs-pool) ∷ Γ) (lands C Λ E dest′ (val-Out res′) rest′ post′)) →
+      ((res′ : Out) (zs-numbers : List ℕ) (zs-deques : List ℕ) (zs-frames : List Frame) (zs-pool : List ℕ) → Is R-Out res′ (val-Out res′ ∷ []) → (numbersIn zs-numbers ≡ numbersIn numbers) × Leaves h res′ (totalsIn zs-numbers) zs-deques zs-frames zs-pool (stepOn twoWords (core h (totalsIn numbers) deques frames pool) (stepBy r)) → length zs-numbers ≡ length numbers → length zs-deques ≡ length deques → length zs-frames ≡ length frames → length zs-pool ≡ length pool → Seq K W (‵ (Mine u32 κ-numbers q-numbers γ-numbers b-numbers o-numbers n-numbers zs-numbers) ∷ ‵ (Mine u32 κ-deques q-deques γ-deques b-deques o-deques n-deques zs-deques) ∷ ‵ (Mine R-Frame κ-frames q-frames γ-frames b-frames o-frames n-frames zs-frames) ∷ ‵ (Mine u32 κ-pool q-pool γ-pool b-pool o-pool n-pool zs-pool) ∷ Γ) (lands C Λ E dest′ (val-Out res′) rest′ post′)) →
       Seq K W (‵ (Mine u32 κ-numbers q-numbers γ-numbers b-numbers o-numbers n-numbers numbers) ∷ ‵ (Mine u32 κ-deques q-deques γ-deques b-deques o-deques n-deques deques) ∷ ‵ (Mine R-Frame κ-frames q-frames γ-frames b-frames o-frames n-frames frames) ∷ ‵ (Mine u32 κ-pool q-pool γ-pool b-pool o-pool n-pool pool) ∷ Γ) (runs C Λ E (seq (call name′ opds′ dest′) rest′) post′)
   step t′ fm′ known′ {κ-numbers} {q-numbers} {γ-numbers} {κ-deques} {q-deques} {γ-deques} {κ-frames} {q-frames} {γ-frames} {κ-pool} {q-pool} {γ-pool} b-numbers o-numbers n-numbers numbers b-deques o-deques n-deques deques b-frames o-frames n-frames frames b-pool o-pool n-pool pool h r h-good r-good ok′ len-numbers room-numbers len-deques room-deques len-frames room-frames len-pool room-pool os′ k′ =
       lend t′ tt u32 b-numbers o-numbers n-numbers numbers len-numbers (λ ν-numbers δ-numbers. move t′ (3 ∷ []) $ lend t′ tt u32 b-deques o-deques n-deques deques len-deques (λ ν-deques δ-deques. move t′ (6 ∷ []) $ lend t′ tt R-Frame b-frames o-frames n-frames frames len-frames (λ ν-frames δ-frames. move t′ (9 ∷ []) $ lend t′ tt u32 b-pool o-pool n-pool pool len-pool (λ ν-pool δ-pool.
       move t′ (9 ∷ 6 ∷ 3 ∷ 0 ∷ 10 ∷ 7 ∷ 4 ∷ 1 ∷ []) $ group t′ 8 $ use1 W (raw ((Asked 𝓤 H A mem run) .pre (to-step 𝓤 H A mem run ν-numbers δ-numbers ν-deques δ-deques ν-frames δ-frames ν-pool δ-pool b-numbers o-numbers n-numbers numbers b-deques o-deques n-deques deques b-frames o-frames n-frames frames b-pool o-pool n-pool pool h r))) (goes-step 𝓤 H A mem run W ν-numbers δ-numbers ν-deques δ-deques ν-frames δ-frames ν-pool δ-pool b-numbers o-numbers n-numbers numbers b-deques o-deques n-deques deques b-frames o-frames n-frames frames b-pool o-pool n-pool pool h r h-good r-good ok′) $
       calls-at t′ fm′ (Asked 𝓤 H A mem run) known′ (to-step 𝓤 H A mem run ν-numbers δ-numbers ν-deques δ-deques ν-frames δ-frames ν-pool δ-pool b-numbers o-numbers n-numbers numbers b-deques o-deques n-deques deques b-frames o-frames n-frames frames b-pool o-pool n-pool pool h r) (os′ ν-numbers δ-numbers ν-deques δ-deques ν-frames δ-frames ν-pool δ-pool) (λ w′.
       use1 W (later (some (λ (res′ : Out). ((‵ (flft (ν-numbers ∷ []) fullShare) ⊛ (‵ (flft (ν-deques ∷ []) fullShare) ⊛ (‵ (flft (ν-frames ∷ []) fullShare) ⊛ (‵ (flft (ν-pool ∷ []) fullShare) ⊛ ‵ ftrue)))) ⊛ ‵ (R-Out .own res′ (w′ ∷ []))) ⊛ raw (ensured 𝓤 H A callee′.ended (callee′.clauses 𝓤 H A mem run) ((ν-numbers ∷ []), ((ν-deques ∷ []), ((ν-frames ∷ []), ((ν-pool ∷ []), tt)))) (h, (at-list b-numbers o-numbers δ-numbers numbers, (at-list b-deques o-deques δ-deques deques, (at-list b-frames o-frames δ-frames frames, (at-list b-pool o-pool δ-pool pool, (r, tt)))))) tt res′)))) (id⊢ 𝓤 _) $ await t′ tt $ pick t′ (λ res′. split t′ $ move t′ (1 ∷ []) $
-      use1 W (some (λ (zs′ : Unit {0} × (List ℕ × (List ℕ × (List Frame × (List ℕ × (Unit {0} × Unit {0})))))). ‵ (lasts callee′.ended ((ν-numbers ∷ []), ((ν-deques ∷ []), ((ν-frames ∷ []), ((ν-pool ∷ []), tt)))) (h, (at-list b-numbers o-numbers δ-numbers numbers, (at-list b-deques o-deques δ-deques deques, (at-list b-frames o-frames δ-frames frames, (at-list b-pool o-pool δ-pool pool, (r, tt)))))) zs′) ⊛ raw (fact 𝓤 ((numbersIn (zs′ .1 .0) ≡ numbersIn numbers) × Leaves h res′ (totalsIn (zs′ .1 .0)) (zs′ .1 .1 .0) (zs′ .1 .1 .1 .0) (zs′ .1 .1 .1 .1 .0) (stepOn (core h (totalsIn numbers) deques frames pool) (stepBy r)))))) (id⊢ 𝓤 _) $ pick t′ (λ zs′. split t′ $ move t′ (1 ∷ []) $ heard t′ ((numbersIn (zs′ .1 .0) ≡ numbersIn numbers) × Leaves h res′ (totalsIn (zs′ .1 .0)) (zs′ .1 .1 .0) (zs′ .1 .1 .1 .0) (zs′ .1 .1 .1 .1 .0) (stepOn (core h (totalsIn numbers) deques frames pool) (stepBy r))) (λ e′.
+      use1 W (some (λ (zs′ : Unit {0} × (List ℕ × (List ℕ × (List Frame × (List ℕ × (Unit {0} × Unit {0})))))). ‵ (lasts callee′.ended ((ν-numbers ∷ []), ((ν-deques ∷ []), ((ν-frames ∷ []), ((ν-pool ∷ []), tt)))) (h, (at-list b-numbers o-numbers δ-numbers numbers, (at-list b-deques o-deques δ-deques deques, (at-list b-frames o-frames δ-frames frames, (at-list b-pool o-pool δ-pool pool, (r, tt)))))) zs′) ⊛ raw (fact 𝓤 ((numbersIn (zs′ .1 .0) ≡ numbersIn numbers) × Leaves h res′ (totalsIn (zs′ .1 .0)) (zs′ .1 .1 .0) (zs′ .1 .1 .1 .0) (zs′ .1 .1 .1 .1 .0) (stepOn twoWords (core h (totalsIn numbers) deques frames pool) (stepBy r)))))) (id⊢ 𝓤 _) $ pick t′ (λ zs′. split t′ $ move t′ (1 ∷ []) $ heard t′ ((numbersIn (zs′ .1 .0) ≡ numbersIn numbers) × Leaves h res′ (totalsIn (zs′ .1 .0)) (zs′ .1 .1 .0) (zs′ .1 .1 .1 .0) (zs′ .1 .1 .1 .1 .0) (stepOn twoWords (core h (totalsIn numbers) deques frames pool) (stepBy r))) (λ e′.
       fsplit t′ $ drop t′ $ fsplit t′ $ fsplit t′ $ move t′ (1 ∷ []) $ feqL t′ (λ same-numbers. move t′ (1 ∷ []) $ fsplit t′ $ fsplit t′ $ move t′ (1 ∷ []) $ feqL t′ (λ same-deques. move t′ (1 ∷ []) $ fsplit t′ $ fsplit t′ $ move t′ (1 ∷ []) $ feqL t′ (λ same-frames. move t′ (1 ∷ []) $ fsplit t′ $ fsplit t′ $ move t′ (1 ∷ []) $ feqL t′ (λ same-pool. move t′ (1 ∷ []) $ fsplit t′ $ drop t′ $ drop t′ $
       move t′ (4 ∷ []) $ split t′ $ move t′ (1 ∷ []) $ peeks t′ R-Out (Is R-Out) (shows 𝓤 H A R-Out) res′ (w′ ∷ []) (λ is′. drop t′ $ split t′ $ move t′ (1 ∷ []) $ split t′ $ move t′ (1 ∷ []) $ split t′ $ move t′ (1 ∷ []) $ split t′ $ move t′ (1 ∷ []) $ drop t′ $
       move t′ (0 ∷ 8 ∷ 4 ∷ []) $ home t′ tt u32 b-pool o-pool n-pool pool (zs′ .1 .1 .1 .1 .0) len-pool room-pool same-pool $ move t′ (1 ∷ 7 ∷ 4 ∷ []) $ home t′ tt R-Frame b-frames o-frames n-frames frames (zs′ .1 .1 .1 .0) len-frames room-frames same-frames $ move t′ (2 ∷ 6 ∷ 4 ∷ []) $ home t′ tt u32 b-deques o-deques n-deques deques (zs′ .1 .1 .0) len-deques room-deques same-deques $ move t′ (3 ∷ 5 ∷ 4 ∷ []) $ home t′ tt u32 b-numbers o-numbers n-numbers numbers (zs′ .1 .0) len-numbers room-numbers same-numbers $

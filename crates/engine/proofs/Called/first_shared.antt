@@ -1,4 +1,4 @@
--- Written by tools/walk: the call of `pool::tree::first_shared` as a step of a walk. Do not edit: write it again.
+-- Written by tools/walk: the call of `packed::tree::first_shared` as a step of a walk. Do not edit: write it again.
 -- The operands are read in the context [what the callee asks; the loans; Γ], where an entry of Γ stands one further on than before the call.
 use mathlib.Core.Path.{_≡_, refl, sym, ap, subst}
 use Prim.Native.Nat.{ℕ, _<_, _^_}
@@ -33,13 +33,13 @@ use denote.Triple.Call.{calls-at, calls-at-last}
 use denote.Triple.Clauses.{ensured, lasts}
 use denote.Triple.Walked.{says}
 use Prim.Native.Nat.{_*_, _≤_}
-use Rattle.pool.specs.Links.{PathIn, IsShared}
-use Rattle.pool.specs.Pool.{firstShared}
-use Rattle.pool.proofs.tree.FirstShared as M-FirstShared
-use Rattle.pool.proofs.tree.FirstShared.Laws as L-FirstShared
-use Rattle.pool.specs.declared.tree.FirstShared.{FirstShared}
+use Rattle.packed.specs.Links.{PathIn, IsShared}
+use Rattle.packed.specs.Pool.{firstShared}
+use Rattle.packed.proofs.tree.FirstShared as M-FirstShared
+use Rattle.packed.proofs.tree.FirstShared.Laws as L-FirstShared
+use Rattle.packed.specs.declared.tree.FirstShared.{FirstShared}
 use Rattle.frames.proofs.Lent.{at-list, Mine, Yours, Lent, Shown, lend, home, show, back, give}
-use Rattle.pool.proofs.first_shared as callee′
+use Rattle.packed.proofs.first_shared as callee′
 
 abbrev R-FirstShared : RattleType
 R-FirstShared = M-FirstShared.the-row
@@ -54,22 +54,22 @@ module _ {M : Type 1} (𝓤 : URA M) (H : Heap 𝓤) (A : Atoms 𝓤) (mem : Mem
   abbrev pub to-step-s : (ν-pool : ℕ) (δ-pool : GName) (b-pool o-pool n-pool : ℕ) (pool : List ℕ) (nodes : ℕ) (height : ℕ) (root : ℕ) (x : ℕ) → Asked .Ghost
   to-step-s ν-pool δ-pool b-pool o-pool n-pool pool nodes height root x = ((((ν-pool ∷ []), tt), (fullShare, tt), tt, (at-list b-pool o-pool δ-pool pool, (nodes, (height, (root, (x, tt))))), (sliceVal (b-pool, o-pool) n-pool ∷ [], (vint w32 nodes ∷ [], (vint w32 height ∷ [], (vint w32 root ∷ [], (vint w32 x ∷ [], tt)))))), tt)
 
-  pub goes-step-s : Given 𝓤 H A → (ν-pool : ℕ) (δ-pool : GName) (b-pool o-pool n-pool : ℕ) (pool : List ℕ) (nodes : ℕ) (height : ℕ) (root : ℕ) (x : ℕ) → (nodes-good : nodes < 2 ^ 32) (height-good : height < 2 ^ 32) (root-good : root < 2 ^ 32) (x-good : x < 2 ^ 32) (ok′ : (4 * nodes ≤ length pool) × (height ≤ 32) × PathIn nodes pool height root x) → ent 𝓤 (⋆ 𝓤 H A (‵ (flft (ν-pool ∷ []) fullShare) ∷ ‵ (ShrSlice (named 0) (ν-pool ∷ []) u32 .own (at-list b-pool o-pool δ-pool pool) (sliceVal (b-pool, o-pool) n-pool ∷ [])) ∷ [])) (Asked .pre (to-step-s ν-pool δ-pool b-pool o-pool n-pool pool nodes height root x))
+  pub goes-step-s : Given 𝓤 H A → (ν-pool : ℕ) (δ-pool : GName) (b-pool o-pool n-pool : ℕ) (pool : List ℕ) (nodes : ℕ) (height : ℕ) (root : ℕ) (x : ℕ) → (nodes-good : nodes < 2 ^ 32) (height-good : height < 2 ^ 32) (root-good : root < 2 ^ 32) (x-good : x < 2 ^ 32) (ok′ : (2 * nodes ≤ length pool) × (height ≤ 32) × PathIn nodes pool height root x) → ent 𝓤 (⋆ 𝓤 H A (‵ (flft (ν-pool ∷ []) fullShare) ∷ ‵ (ShrSlice (named 0) (ν-pool ∷ []) u32 .own (at-list b-pool o-pool δ-pool pool) (sliceVal (b-pool, o-pool) n-pool ∷ [])) ∷ [])) (Asked .pre (to-step-s ν-pool δ-pool b-pool o-pool n-pool pool nodes height root x))
   goes-step-s W ν-pool δ-pool b-pool o-pool n-pool pool nodes height root x nodes-good height-good root-good x-good ok′ = qed W (‵ (flft (ν-pool ∷ []) fullShare) ∷ ‵ (ShrSlice (named 0) (ν-pool ∷ []) u32 .own (at-list b-pool o-pool δ-pool pool) (sliceVal (b-pool, o-pool) n-pool ∷ [])) ∷ []) ∵ says ! ok′ $ nothing ! $ move ! (1 ∷ 0 ∷ []) $ group ! 2 $ frame ! $
       nothing ! $ owned ! u32 (Is u32) (uint-makes 𝓤 H A W w32) x _ (refl, x-good) $ fjoin ! $ owned ! u32 (Is u32) (uint-makes 𝓤 H A W w32) root _ (refl, root-good) $ fjoin ! $ owned ! u32 (Is u32) (uint-makes 𝓤 H A W w32) height _ (refl, height-good) $ fjoin ! $ owned ! u32 (Is u32) (uint-makes 𝓤 H A W w32) nodes _ (refl, nodes-good) $ fjoin ! $ move ! (1 ∷ 0 ∷ []) $ fjoin ! $ done !
 
 module _ {M : Type 1} {𝓤 : URA M} {H : Heap 𝓤} {A : Atoms 𝓤} {K : Type 0} {W : Given 𝓤 H A} (mem : Memory → SProp 𝓤) (run : Routine → Fun 𝓤)
     {Γ : List (Item 𝓤)} {E : Env 𝓤 H} {C : Calls 𝓤 H} {Λ : Loops 𝓤 H} {post′ : Post 𝓤 H} {dest′ : Place} {name′ : Name} {opds′ : List Operand} {rest′ : Body} where
-  pub step-s : K → FmC 𝓤 H (W .laws) C → Triple 𝓤 (C name′) (Asked 𝓤 H A mem run) → {κ-pool : Lft} {q-pool : Share} {γ-pool : GName} → (b-pool o-pool n-pool : ℕ) (pool : List ℕ) (nodes : ℕ) (height : ℕ) (root : ℕ) (x : ℕ) → (nodes-good : nodes < 2 ^ 32) → (height-good : height < 2 ^ 32) → (root-good : root < 2 ^ 32) → (x-good : x < 2 ^ 32) → (4 * nodes ≤ length pool) × (height ≤ 32) × PathIn nodes pool height root x → length pool ≡ n-pool → Room u32 n-pool →
+  pub step-s : K → FmC 𝓤 H (W .laws) C → Triple 𝓤 (C name′) (Asked 𝓤 H A mem run) → {κ-pool : Lft} {q-pool : Share} {γ-pool : GName} → (b-pool o-pool n-pool : ℕ) (pool : List ℕ) (nodes : ℕ) (height : ℕ) (root : ℕ) (x : ℕ) → (nodes-good : nodes < 2 ^ 32) → (height-good : height < 2 ^ 32) → (root-good : root < 2 ^ 32) → (x-good : x < 2 ^ 32) → (2 * nodes ≤ length pool) × (height ≤ 32) × PathIn nodes pool height root x → length pool ≡ n-pool → Room u32 n-pool →
       ((ν-pool : ℕ) (δ-pool : GName) → Opds K W (raw ((Asked 𝓤 H A mem run) .pre (to-step-s 𝓤 H A mem run ν-pool δ-pool b-pool o-pool n-pool pool nodes height root x)) ∷ ‵ (Shown u32 κ-pool (ν-pool ∷ []) q-pool γ-pool b-pool o-pool pool) ∷ Γ) E opds′ (sliceVal (b-pool, o-pool) n-pool ∷ vint w32 nodes ∷ vint w32 height ∷ vint w32 root ∷ vint w32 x ∷ [])) →
-      ((res′ : FirstShared) → Is R-FirstShared res′ (val-FirstShared res′ ∷ []) → IsShared height x (res′ .shared) (res′ .level) (res′ .at) (res′ .link) (firstShared height pool root root x) → Seq K W (‵ (Mine u32 κ-pool q-pool γ-pool b-pool o-pool n-pool pool) ∷ Γ) (lands C Λ E dest′ (val-FirstShared res′) rest′ post′)) →
+      ((res′ : FirstShared) → Is R-FirstShared res′ (val-FirstShared res′ ∷ []) → IsShared height (res′ .shared) (res′ .level) (res′ .node) (res′ .above) (firstShared height pool root root x) → Seq K W (‵ (Mine u32 κ-pool q-pool γ-pool b-pool o-pool n-pool pool) ∷ Γ) (lands C Λ E dest′ (val-FirstShared res′) rest′ post′)) →
       Seq K W (‵ (Mine u32 κ-pool q-pool γ-pool b-pool o-pool n-pool pool) ∷ Γ) (runs C Λ E (seq (call name′ opds′ dest′) rest′) post′)
   step-s t′ fm′ known′ {κ-pool} {q-pool} {γ-pool} b-pool o-pool n-pool pool nodes height root x nodes-good height-good root-good x-good ok′ len-pool room-pool os′ k′ =
       show t′ tt u32 b-pool o-pool n-pool pool len-pool (λ ν-pool δ-pool.
       move t′ (0 ∷ 1 ∷ []) $ group t′ 2 $ use1 W (raw ((Asked 𝓤 H A mem run) .pre (to-step-s 𝓤 H A mem run ν-pool δ-pool b-pool o-pool n-pool pool nodes height root x))) (goes-step-s 𝓤 H A mem run W ν-pool δ-pool b-pool o-pool n-pool pool nodes height root x nodes-good height-good root-good x-good ok′) $
       calls-at t′ fm′ (Asked 𝓤 H A mem run) known′ (to-step-s 𝓤 H A mem run ν-pool δ-pool b-pool o-pool n-pool pool nodes height root x) (os′ ν-pool δ-pool) (λ w′.
       use1 W (later (some (λ (res′ : FirstShared). ((‵ (flft (ν-pool ∷ []) fullShare) ⊛ ‵ ftrue) ⊛ ‵ (R-FirstShared .own res′ (w′ ∷ []))) ⊛ raw (ensured 𝓤 H A callee′.ended (callee′.clauses 𝓤 H A mem run) ((ν-pool ∷ []), tt) (at-list b-pool o-pool δ-pool pool, (nodes, (height, (root, (x, tt))))) tt res′)))) (id⊢ 𝓤 _) $ await t′ tt $ pick t′ (λ res′. split t′ $ move t′ (1 ∷ []) $
-      use1 W (some (λ (zs′ : Unit {0} × (Unit {0} × (Unit {0} × (Unit {0} × (Unit {0} × Unit {0}))))). ‵ (lasts callee′.ended ((ν-pool ∷ []), tt) (at-list b-pool o-pool δ-pool pool, (nodes, (height, (root, (x, tt))))) zs′) ⊛ raw (fact 𝓤 (IsShared height x (res′ .shared) (res′ .level) (res′ .at) (res′ .link) (firstShared height pool root root x))))) (id⊢ 𝓤 _) $ pick t′ (λ zs′. split t′ $ move t′ (1 ∷ []) $ heard t′ (IsShared height x (res′ .shared) (res′ .level) (res′ .at) (res′ .link) (firstShared height pool root root x)) (λ e′.
+      use1 W (some (λ (zs′ : Unit {0} × (Unit {0} × (Unit {0} × (Unit {0} × (Unit {0} × Unit {0}))))). ‵ (lasts callee′.ended ((ν-pool ∷ []), tt) (at-list b-pool o-pool δ-pool pool, (nodes, (height, (root, (x, tt))))) zs′) ⊛ raw (fact 𝓤 (IsShared height (res′ .shared) (res′ .level) (res′ .node) (res′ .above) (firstShared height pool root root x))))) (id⊢ 𝓤 _) $ pick t′ (λ zs′. split t′ $ move t′ (1 ∷ []) $ heard t′ (IsShared height (res′ .shared) (res′ .level) (res′ .node) (res′ .above) (firstShared height pool root root x)) (λ e′.
       fsplit t′ $ drop t′ $ fsplit t′ $ drop t′ $ fsplit t′ $ drop t′ $ fsplit t′ $ drop t′ $ fsplit t′ $ drop t′ $ drop t′ $
       move t′ (0 ∷ []) $ split t′ $ move t′ (1 ∷ []) $ peeks t′ R-FirstShared (Is R-FirstShared) (shows 𝓤 H A R-FirstShared) res′ (w′ ∷ []) (λ is′. drop t′ $ split t′ $ move t′ (1 ∷ []) $ drop t′ $
       move t′ (0 ∷ 1 ∷ []) $ back t′ tt u32 b-pool o-pool n-pool pool len-pool room-pool $

@@ -1,4 +1,4 @@
--- Written by tools/walk: the call of `pool::start::init_pool` as a step of a walk. Do not edit: write it again.
+-- Written by tools/walk: the call of `packed::start::init_pool` as a step of a walk. Do not edit: write it again.
 -- The operands are read in the context [what the callee asks; the loans; Γ], where an entry of Γ stands one further on than before the call.
 use mathlib.Core.Path.{_≡_, refl, sym, ap, subst}
 use Prim.Native.Nat.{ℕ, _<_, _^_}
@@ -32,9 +32,9 @@ use denote.Triple.Statement.{Contract, Triple}
 use denote.Triple.Call.{calls-at, calls-at-last}
 use denote.Triple.Clauses.{ensured, lasts}
 use denote.Triple.Walked.{says}
-use Rattle.pool.specs.Pool.{initPool}
+use Rattle.packed.specs.Pool.{initPool}
 use Rattle.frames.proofs.Lent.{at-list, Mine, Yours, Lent, Shown, lend, home, show, back, give}
-use Rattle.pool.proofs.init_pool as callee′
+use Rattle.packed.proofs.init_pool as callee′
 
 module _ {M : Type 1} (𝓤 : URA M) (H : Heap 𝓤) (A : Atoms 𝓤) (mem : Memory → SProp 𝓤) (run : Routine → Fun 𝓤) where
   abbrev pub Asked : Contract 𝓤

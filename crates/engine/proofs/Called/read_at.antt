@@ -1,4 +1,4 @@
--- Written by tools/walk: the call of `pool::tree::read_at` as a step of a walk. Do not edit: write it again.
+-- Written by tools/walk: the call of `packed::tree::read_at` as a step of a walk. Do not edit: write it again.
 -- The operands are read in the context [what the callee asks; the loans; Γ], where an entry of Γ stands one further on than before the call.
 use mathlib.Core.Path.{_≡_, refl, sym, ap, subst}
 use Prim.Native.Nat.{ℕ, _<_, _^_}
@@ -33,10 +33,10 @@ use denote.Triple.Call.{calls-at, calls-at-last}
 use denote.Triple.Clauses.{ensured, lasts}
 use denote.Triple.Walked.{says}
 use Prim.Native.Nat.{_*_, _≤_}
-use Rattle.pool.specs.Links.{PathIn}
-use Rattle.pool.specs.Pool.{readAt}
+use Rattle.packed.specs.Links.{PathIn}
+use Rattle.packed.specs.Pool.{readAt}
 use Rattle.frames.proofs.Lent.{at-list, Mine, Yours, Lent, Shown, lend, home, show, back, give}
-use Rattle.pool.proofs.read_at as callee′
+use Rattle.packed.proofs.read_at as callee′
 
 module _ {M : Type 1} (𝓤 : URA M) (H : Heap 𝓤) (A : Atoms 𝓤) (mem : Memory → SProp 𝓤) (run : Routine → Fun 𝓤) where
   abbrev pub Asked : Contract 𝓤
@@ -45,13 +45,13 @@ module _ {M : Type 1} (𝓤 : URA M) (H : Heap 𝓤) (A : Atoms 𝓤) (mem : Mem
   abbrev pub to-step-s : (ν-pool : ℕ) (δ-pool : GName) (b-pool o-pool n-pool : ℕ) (pool : List ℕ) (nodes : ℕ) (height : ℕ) (root : ℕ) (x : ℕ) → Asked .Ghost
   to-step-s ν-pool δ-pool b-pool o-pool n-pool pool nodes height root x = ((((ν-pool ∷ []), tt), (fullShare, tt), tt, (at-list b-pool o-pool δ-pool pool, (nodes, (height, (root, (x, tt))))), (sliceVal (b-pool, o-pool) n-pool ∷ [], (vint w32 nodes ∷ [], (vint w32 height ∷ [], (vint w32 root ∷ [], (vint w32 x ∷ [], tt)))))), tt)
 
-  pub goes-step-s : Given 𝓤 H A → (ν-pool : ℕ) (δ-pool : GName) (b-pool o-pool n-pool : ℕ) (pool : List ℕ) (nodes : ℕ) (height : ℕ) (root : ℕ) (x : ℕ) → (nodes-good : nodes < 2 ^ 32) (height-good : height < 2 ^ 32) (root-good : root < 2 ^ 32) (x-good : x < 2 ^ 32) (ok′ : (4 * nodes ≤ length pool) × (height ≤ 32) × PathIn nodes pool height root x) → ent 𝓤 (⋆ 𝓤 H A (‵ (flft (ν-pool ∷ []) fullShare) ∷ ‵ (ShrSlice (named 0) (ν-pool ∷ []) u32 .own (at-list b-pool o-pool δ-pool pool) (sliceVal (b-pool, o-pool) n-pool ∷ [])) ∷ [])) (Asked .pre (to-step-s ν-pool δ-pool b-pool o-pool n-pool pool nodes height root x))
+  pub goes-step-s : Given 𝓤 H A → (ν-pool : ℕ) (δ-pool : GName) (b-pool o-pool n-pool : ℕ) (pool : List ℕ) (nodes : ℕ) (height : ℕ) (root : ℕ) (x : ℕ) → (nodes-good : nodes < 2 ^ 32) (height-good : height < 2 ^ 32) (root-good : root < 2 ^ 32) (x-good : x < 2 ^ 32) (ok′ : (2 * nodes ≤ length pool) × (height ≤ 32) × PathIn nodes pool height root x) → ent 𝓤 (⋆ 𝓤 H A (‵ (flft (ν-pool ∷ []) fullShare) ∷ ‵ (ShrSlice (named 0) (ν-pool ∷ []) u32 .own (at-list b-pool o-pool δ-pool pool) (sliceVal (b-pool, o-pool) n-pool ∷ [])) ∷ [])) (Asked .pre (to-step-s ν-pool δ-pool b-pool o-pool n-pool pool nodes height root x))
   goes-step-s W ν-pool δ-pool b-pool o-pool n-pool pool nodes height root x nodes-good height-good root-good x-good ok′ = qed W (‵ (flft (ν-pool ∷ []) fullShare) ∷ ‵ (ShrSlice (named 0) (ν-pool ∷ []) u32 .own (at-list b-pool o-pool δ-pool pool) (sliceVal (b-pool, o-pool) n-pool ∷ [])) ∷ []) ∵ says ! ok′ $ nothing ! $ move ! (1 ∷ 0 ∷ []) $ group ! 2 $ frame ! $
       nothing ! $ owned ! u32 (Is u32) (uint-makes 𝓤 H A W w32) x _ (refl, x-good) $ fjoin ! $ owned ! u32 (Is u32) (uint-makes 𝓤 H A W w32) root _ (refl, root-good) $ fjoin ! $ owned ! u32 (Is u32) (uint-makes 𝓤 H A W w32) height _ (refl, height-good) $ fjoin ! $ owned ! u32 (Is u32) (uint-makes 𝓤 H A W w32) nodes _ (refl, nodes-good) $ fjoin ! $ move ! (1 ∷ 0 ∷ []) $ fjoin ! $ done !
 
 module _ {M : Type 1} {𝓤 : URA M} {H : Heap 𝓤} {A : Atoms 𝓤} {K : Type 0} {W : Given 𝓤 H A} (mem : Memory → SProp 𝓤) (run : Routine → Fun 𝓤)
     {Γ : List (Item 𝓤)} {E : Env 𝓤 H} {C : Calls 𝓤 H} {Λ : Loops 𝓤 H} {post′ : Post 𝓤 H} {dest′ : Place} {name′ : Name} {opds′ : List Operand} {rest′ : Body} where
-  pub step-s : K → FmC 𝓤 H (W .laws) C → Triple 𝓤 (C name′) (Asked 𝓤 H A mem run) → {κ-pool : Lft} {q-pool : Share} {γ-pool : GName} → (b-pool o-pool n-pool : ℕ) (pool : List ℕ) (nodes : ℕ) (height : ℕ) (root : ℕ) (x : ℕ) → (nodes-good : nodes < 2 ^ 32) → (height-good : height < 2 ^ 32) → (root-good : root < 2 ^ 32) → (x-good : x < 2 ^ 32) → (4 * nodes ≤ length pool) × (height ≤ 32) × PathIn nodes pool height root x → length pool ≡ n-pool → Room u32 n-pool →
+  pub step-s : K → FmC 𝓤 H (W .laws) C → Triple 𝓤 (C name′) (Asked 𝓤 H A mem run) → {κ-pool : Lft} {q-pool : Share} {γ-pool : GName} → (b-pool o-pool n-pool : ℕ) (pool : List ℕ) (nodes : ℕ) (height : ℕ) (root : ℕ) (x : ℕ) → (nodes-good : nodes < 2 ^ 32) → (height-good : height < 2 ^ 32) → (root-good : root < 2 ^ 32) → (x-good : x < 2 ^ 32) → (2 * nodes ≤ length pool) × (height ≤ 32) × PathIn nodes pool height root x → length pool ≡ n-pool → Room u32 n-pool →
       ((ν-pool : ℕ) (δ-pool : GName) → Opds K W (raw ((Asked 𝓤 H A mem run) .pre (to-step-s 𝓤 H A mem run ν-pool δ-pool b-pool o-pool n-pool pool nodes height root x)) ∷ ‵ (Shown u32 κ-pool (ν-pool ∷ []) q-pool γ-pool b-pool o-pool pool) ∷ Γ) E opds′ (sliceVal (b-pool, o-pool) n-pool ∷ vint w32 nodes ∷ vint w32 height ∷ vint w32 root ∷ vint w32 x ∷ [])) →
       ((res′ : ℕ) → res′ < 2 ^ 32 → res′ ≡ readAt height pool root x → Seq K W (‵ (Mine u32 κ-pool q-pool γ-pool b-pool o-pool n-pool pool) ∷ Γ) (lands C Λ E dest′ (vint w32 res′) rest′ post′)) →
       Seq K W (‵ (Mine u32 κ-pool q-pool γ-pool b-pool o-pool n-pool pool) ∷ Γ) (runs C Λ E (seq (call name′ opds′ dest′) rest′) post′)

@@ -33,6 +33,7 @@ use denote.Triple.Call.{calls-at, calls-at-last}
 use denote.Triple.Clauses.{ensured, lasts}
 use denote.Triple.Walked.{says}
 use Rattle.semantics.specs.Images.{recordsZero, nodesZero}
+use Rattle.soundness.specs.Layout.{twoWords}
 use Rattle.frames.proofs.Frame as M-Frame
 use Rattle.frames.proofs.Frame.Laws as L-Frame
 use Rattle.frames.specs.declared.Frame.{Frame}
@@ -60,14 +61,14 @@ module _ {M : Type 1} {𝓤 : URA M} {H : Heap 𝓤} {A : Atoms 𝓤} {K : Type 
     {Γ : List (Item 𝓤)} {E : Env 𝓤 H} {C : Calls 𝓤 H} {Λ : Loops 𝓤 H} {post′ : Post 𝓤 H} {dest′ : Place} {name′ : Name} {opds′ : List Operand} {rest′ : Body} where
   pub step : K → FmC 𝓤 H (W .laws) C → Triple 𝓤 (C name′) (Asked 𝓤 H A mem run) → {κ-frames : Lft} {q-frames : Share} {γ-frames : GName} {κ-pool : Lft} {q-pool : Share} {γ-pool : GName} → (b-frames o-frames n-frames : ℕ) (frames : List Frame) (b-pool o-pool n-pool : ℕ) (pool : List ℕ) → length frames ≡ n-frames → Room R-Frame n-frames → length pool ≡ n-pool → Room u32 n-pool →
       ((ν-frames : ℕ) (δ-frames : GName) (ν-pool : ℕ) (δ-pool : GName) → Opds K W (raw ((Asked 𝓤 H A mem run) .pre (to-step 𝓤 H A mem run ν-frames δ-frames ν-pool δ-pool b-frames o-frames n-frames frames b-pool o-pool n-pool pool)) ∷ ‵ (Lent u32 κ-pool (ν-pool ∷ []) q-pool γ-pool b-pool o-pool δ-pool pool) ∷ ‵ (Lent R-Frame κ-frames (ν-frames ∷ []) q-frames γ-frames b-frames o-frames δ-frames frames) ∷ Γ) E opds′ (sliceVal (b-frames, o-frames) n-frames ∷ sliceVal (b-pool, o-pool) n-pool ∷ [])) →
-      ((res′ : ℕ) (zs-frames : List Frame) (zs-pool : List ℕ) → res′ < 2 ^ 32 → (res′ ≡ 6) × (zs-frames ≡ recordsZero frames) × (zs-pool ≡ nodesZero pool) → length zs-frames ≡ length frames → length zs-pool ≡ length pool → Seq K W (‵ (Mine R-Frame κ-frames q-frames γ-frames b-frames o-frames n-frames zs-frames) ∷ ‵ (Mine u32 κ-pool q-pool γ-pool b-pool o-pool n-pool zs-pool) ∷ Γ) (lands C Λ E dest′ (vint w32 res′) rest′ post′)) →
+      ((res′ : ℕ) (zs-frames : List Frame) (zs-pool : List ℕ) → res′ < 2 ^ 32 → (res′ ≡ 6) × (zs-frames ≡ recordsZero frames) × (zs-pool ≡ nodesZero twoWords pool) → length zs-frames ≡ length frames → length zs-pool ≡ length pool → Seq K W (‵ (Mine R-Frame κ-frames q-frames γ-frames b-frames o-frames n-frames zs-frames) ∷ ‵ (Mine u32 κ-pool q-pool γ-pool b-pool o-pool n-pool zs-pool) ∷ Γ) (lands C Λ E dest′ (vint w32 res′) rest′ post′)) →
       Seq K W (‵ (Mine R-Frame κ-frames q-frames γ-frames b-frames o-frames n-frames frames) ∷ ‵ (Mine u32 κ-pool q-pool γ-pool b-pool o-pool n-pool pool) ∷ Γ) (runs C Λ E (seq (call name′ opds′ dest′) rest′) post′)
   step t′ fm′ known′ {κ-frames} {q-frames} {γ-frames} {κ-pool} {q-pool} {γ-pool} b-frames o-frames n-frames frames b-pool o-pool n-pool pool len-frames room-frames len-pool room-pool os′ k′ =
       lend t′ tt R-Frame b-frames o-frames n-frames frames len-frames (λ ν-frames δ-frames. move t′ (3 ∷ []) $ lend t′ tt u32 b-pool o-pool n-pool pool len-pool (λ ν-pool δ-pool.
       move t′ (3 ∷ 0 ∷ 4 ∷ 1 ∷ []) $ group t′ 4 $ use1 W (raw ((Asked 𝓤 H A mem run) .pre (to-step 𝓤 H A mem run ν-frames δ-frames ν-pool δ-pool b-frames o-frames n-frames frames b-pool o-pool n-pool pool))) (goes-step 𝓤 H A mem run W ν-frames δ-frames ν-pool δ-pool b-frames o-frames n-frames frames b-pool o-pool n-pool pool) $
       calls-at t′ fm′ (Asked 𝓤 H A mem run) known′ (to-step 𝓤 H A mem run ν-frames δ-frames ν-pool δ-pool b-frames o-frames n-frames frames b-pool o-pool n-pool pool) (os′ ν-frames δ-frames ν-pool δ-pool) (λ w′.
       use1 W (later (some (λ (res′ : ℕ). ((‵ (flft (ν-frames ∷ []) fullShare) ⊛ (‵ (flft (ν-pool ∷ []) fullShare) ⊛ ‵ ftrue)) ⊛ ‵ (u32 .own res′ (w′ ∷ []))) ⊛ raw (ensured 𝓤 H A callee′.ended (callee′.clauses 𝓤 H A mem run) ((ν-frames ∷ []), ((ν-pool ∷ []), tt)) (at-list b-frames o-frames δ-frames frames, (at-list b-pool o-pool δ-pool pool, tt)) tt res′)))) (id⊢ 𝓤 _) $ await t′ tt $ pick t′ (λ res′. split t′ $ move t′ (1 ∷ []) $
-      use1 W (some (λ (zs′ : List Frame × (List ℕ × Unit {0})). ‵ (lasts callee′.ended ((ν-frames ∷ []), ((ν-pool ∷ []), tt)) (at-list b-frames o-frames δ-frames frames, (at-list b-pool o-pool δ-pool pool, tt)) zs′) ⊛ raw (fact 𝓤 ((res′ ≡ 6) × ((zs′ .0) ≡ recordsZero frames) × ((zs′ .1 .0) ≡ nodesZero pool))))) (id⊢ 𝓤 _) $ pick t′ (λ zs′. split t′ $ move t′ (1 ∷ []) $ heard t′ ((res′ ≡ 6) × ((zs′ .0) ≡ recordsZero frames) × ((zs′ .1 .0) ≡ nodesZero pool)) (λ e′.
+      use1 W (some (λ (zs′ : List Frame × (List ℕ × Unit {0})). ‵ (lasts callee′.ended ((ν-frames ∷ []), ((ν-pool ∷ []), tt)) (at-list b-frames o-frames δ-frames frames, (at-list b-pool o-pool δ-pool pool, tt)) zs′) ⊛ raw (fact 𝓤 ((res′ ≡ 6) × ((zs′ .0) ≡ recordsZero frames) × ((zs′ .1 .0) ≡ nodesZero twoWords pool))))) (id⊢ 𝓤 _) $ pick t′ (λ zs′. split t′ $ move t′ (1 ∷ []) $ heard t′ ((res′ ≡ 6) × ((zs′ .0) ≡ recordsZero frames) × ((zs′ .1 .0) ≡ nodesZero twoWords pool)) (λ e′.
       fsplit t′ $ fsplit t′ $ move t′ (1 ∷ []) $ feqL t′ (λ same-frames. move t′ (1 ∷ []) $ fsplit t′ $ fsplit t′ $ move t′ (1 ∷ []) $ feqL t′ (λ same-pool. move t′ (1 ∷ []) $ drop t′ $
       move t′ (2 ∷ []) $ split t′ $ move t′ (1 ∷ []) $ peeks t′ u32 (Is u32) (shows 𝓤 H A u32) res′ (w′ ∷ []) (λ is′. drop t′ $ split t′ $ move t′ (1 ∷ []) $ split t′ $ move t′ (1 ∷ []) $ drop t′ $
       move t′ (0 ∷ 4 ∷ 2 ∷ []) $ home t′ tt u32 b-pool o-pool n-pool pool (zs′ .1 .0) len-pool room-pool same-pool $ move t′ (1 ∷ 3 ∷ 2 ∷ []) $ home t′ tt R-Frame b-frames o-frames n-frames frames (zs′ .0) len-frames room-frames same-frames $

@@ -1,4 +1,4 @@
--- Written by tools/walk: the call of `pool::refs::release` as a step of a walk. Do not edit: write it again.
+-- Written by tools/walk: the call of `packed::refs::release` as a step of a walk. Do not edit: write it again.
 -- The operands are read in the context [what the callee asks; the loans; Γ], where an entry of Γ stands one further on than before the call.
 use mathlib.Core.Path.{_≡_, refl, sym, ap, subst}
 use Prim.Native.Nat.{ℕ, _<_, _^_}
@@ -32,13 +32,13 @@ use denote.Triple.Statement.{Contract, Triple}
 use denote.Triple.Call.{calls-at, calls-at-last}
 use denote.Triple.Clauses.{ensured, lasts}
 use denote.Triple.Walked.{says}
-use Rattle.pool.specs.Links.{Link, LinksIn}
-use Rattle.pool.specs.Pool.{release}
-use Rattle.pool.proofs.refs.Freed as M-Freed
-use Rattle.pool.proofs.refs.Freed.Laws as L-Freed
-use Rattle.pool.specs.declared.refs.Freed.{Freed}
+use Prim.Native.Nat.{_*_, _≤_}
+use Rattle.packed.specs.Pool.{release}
+use Rattle.packed.proofs.refs.Freed as M-Freed
+use Rattle.packed.proofs.refs.Freed.Laws as L-Freed
+use Rattle.packed.specs.declared.refs.Freed.{Freed}
 use Rattle.frames.proofs.Lent.{at-list, Mine, Yours, Lent, Shown, lend, home, show, back, give}
-use Rattle.pool.proofs.release as callee′
+use Rattle.packed.proofs.release as callee′
 
 abbrev R-Freed : RattleType
 R-Freed = M-Freed.the-row
@@ -53,22 +53,22 @@ module _ {M : Type 1} (𝓤 : URA M) (H : Heap 𝓤) (A : Atoms 𝓤) (mem : Mem
   abbrev pub to-step : (ν-pool : ℕ) (δ-pool : GName) (b-pool o-pool n-pool : ℕ) (pool : List ℕ) (nodes : ℕ) (count : ℕ) (free : ℕ) (i : ℕ) (level : ℕ) → Asked .Ghost
   to-step ν-pool δ-pool b-pool o-pool n-pool pool nodes count free i level = ((((ν-pool ∷ []), tt), (fullShare, tt), tt, (at-list b-pool o-pool δ-pool pool, (nodes, (count, (free, (i, (level, tt)))))), (sliceVal (b-pool, o-pool) n-pool ∷ [], (vint w32 nodes ∷ [], (vint w32 count ∷ [], (vint w32 free ∷ [], (vint w32 i ∷ [], (vint w32 level ∷ [], tt))))))), tt)
 
-  pub goes-step : Given 𝓤 H A → (ν-pool : ℕ) (δ-pool : GName) (b-pool o-pool n-pool : ℕ) (pool : List ℕ) (nodes : ℕ) (count : ℕ) (free : ℕ) (i : ℕ) (level : ℕ) → (nodes-good : nodes < 2 ^ 32) (count-good : count < 2 ^ 32) (free-good : free < 2 ^ 32) (i-good : i < 2 ^ 32) (level-good : level < 2 ^ 32) (ok′ : LinksIn nodes pool × (0 < nodes) × Link nodes free × Link nodes i) → ent 𝓤 (⋆ 𝓤 H A (‵ (flft (ν-pool ∷ []) fullShare) ∷ ‵ (MutSlice (named 0) (ν-pool ∷ []) u32 .own (at-list b-pool o-pool δ-pool pool) (sliceVal (b-pool, o-pool) n-pool ∷ [])) ∷ [])) (Asked .pre (to-step ν-pool δ-pool b-pool o-pool n-pool pool nodes count free i level))
+  pub goes-step : Given 𝓤 H A → (ν-pool : ℕ) (δ-pool : GName) (b-pool o-pool n-pool : ℕ) (pool : List ℕ) (nodes : ℕ) (count : ℕ) (free : ℕ) (i : ℕ) (level : ℕ) → (nodes-good : nodes < 2 ^ 32) (count-good : count < 2 ^ 32) (free-good : free < 2 ^ 32) (i-good : i < 2 ^ 32) (level-good : level < 2 ^ 32) (ok′ : (2 * nodes ≤ length pool) × (nodes ≤ 16384)) → ent 𝓤 (⋆ 𝓤 H A (‵ (flft (ν-pool ∷ []) fullShare) ∷ ‵ (MutSlice (named 0) (ν-pool ∷ []) u32 .own (at-list b-pool o-pool δ-pool pool) (sliceVal (b-pool, o-pool) n-pool ∷ [])) ∷ [])) (Asked .pre (to-step ν-pool δ-pool b-pool o-pool n-pool pool nodes count free i level))
   goes-step W ν-pool δ-pool b-pool o-pool n-pool pool nodes count free i level nodes-good count-good free-good i-good level-good ok′ = qed W (‵ (flft (ν-pool ∷ []) fullShare) ∷ ‵ (MutSlice (named 0) (ν-pool ∷ []) u32 .own (at-list b-pool o-pool δ-pool pool) (sliceVal (b-pool, o-pool) n-pool ∷ [])) ∷ []) ∵ says ! ok′ $ nothing ! $ move ! (1 ∷ 0 ∷ []) $ group ! 2 $ frame ! $
       nothing ! $ owned ! u32 (Is u32) (uint-makes 𝓤 H A W w32) level _ (refl, level-good) $ fjoin ! $ owned ! u32 (Is u32) (uint-makes 𝓤 H A W w32) i _ (refl, i-good) $ fjoin ! $ owned ! u32 (Is u32) (uint-makes 𝓤 H A W w32) free _ (refl, free-good) $ fjoin ! $ owned ! u32 (Is u32) (uint-makes 𝓤 H A W w32) count _ (refl, count-good) $ fjoin ! $ owned ! u32 (Is u32) (uint-makes 𝓤 H A W w32) nodes _ (refl, nodes-good) $ fjoin ! $ move ! (1 ∷ 0 ∷ []) $ fjoin ! $ done !
 
 module _ {M : Type 1} {𝓤 : URA M} {H : Heap 𝓤} {A : Atoms 𝓤} {K : Type 0} {W : Given 𝓤 H A} (mem : Memory → SProp 𝓤) (run : Routine → Fun 𝓤)
     {Γ : List (Item 𝓤)} {E : Env 𝓤 H} {C : Calls 𝓤 H} {Λ : Loops 𝓤 H} {post′ : Post 𝓤 H} {dest′ : Place} {name′ : Name} {opds′ : List Operand} {rest′ : Body} where
-  pub step : K → FmC 𝓤 H (W .laws) C → Triple 𝓤 (C name′) (Asked 𝓤 H A mem run) → {κ-pool : Lft} {q-pool : Share} {γ-pool : GName} → (b-pool o-pool n-pool : ℕ) (pool : List ℕ) (nodes : ℕ) (count : ℕ) (free : ℕ) (i : ℕ) (level : ℕ) → (nodes-good : nodes < 2 ^ 32) → (count-good : count < 2 ^ 32) → (free-good : free < 2 ^ 32) → (i-good : i < 2 ^ 32) → (level-good : level < 2 ^ 32) → LinksIn nodes pool × (0 < nodes) × Link nodes free × Link nodes i → length pool ≡ n-pool → Room u32 n-pool →
+  pub step : K → FmC 𝓤 H (W .laws) C → Triple 𝓤 (C name′) (Asked 𝓤 H A mem run) → {κ-pool : Lft} {q-pool : Share} {γ-pool : GName} → (b-pool o-pool n-pool : ℕ) (pool : List ℕ) (nodes : ℕ) (count : ℕ) (free : ℕ) (i : ℕ) (level : ℕ) → (nodes-good : nodes < 2 ^ 32) → (count-good : count < 2 ^ 32) → (free-good : free < 2 ^ 32) → (i-good : i < 2 ^ 32) → (level-good : level < 2 ^ 32) → (2 * nodes ≤ length pool) × (nodes ≤ 16384) → length pool ≡ n-pool → Room u32 n-pool →
       ((ν-pool : ℕ) (δ-pool : GName) → Opds K W (raw ((Asked 𝓤 H A mem run) .pre (to-step 𝓤 H A mem run ν-pool δ-pool b-pool o-pool n-pool pool nodes count free i level)) ∷ ‵ (Lent u32 κ-pool (ν-pool ∷ []) q-pool γ-pool b-pool o-pool δ-pool pool) ∷ Γ) E opds′ (sliceVal (b-pool, o-pool) n-pool ∷ vint w32 nodes ∷ vint w32 count ∷ vint w32 free ∷ vint w32 i ∷ vint w32 level ∷ [])) →
-      ((res′ : Freed) (zs-pool : List ℕ) → Is R-Freed res′ (val-Freed res′ ∷ []) → (zs-pool ≡ release level pool free count i .0) × (res′ .first ≡ release level pool free count i .1) × (res′ .count ≡ release level pool free count i .2) → length zs-pool ≡ length pool → Seq K W (‵ (Mine u32 κ-pool q-pool γ-pool b-pool o-pool n-pool zs-pool) ∷ Γ) (lands C Λ E dest′ (val-Freed res′) rest′ post′)) →
+      ((res′ : Freed) (zs-pool : List ℕ) → Is R-Freed res′ (val-Freed res′ ∷ []) → (zs-pool ≡ release nodes level pool free count i .0) × (res′ .first ≡ release nodes level pool free count i .1) × (res′ .count ≡ release nodes level pool free count i .2) → length zs-pool ≡ length pool → Seq K W (‵ (Mine u32 κ-pool q-pool γ-pool b-pool o-pool n-pool zs-pool) ∷ Γ) (lands C Λ E dest′ (val-Freed res′) rest′ post′)) →
       Seq K W (‵ (Mine u32 κ-pool q-pool γ-pool b-pool o-pool n-pool pool) ∷ Γ) (runs C Λ E (seq (call name′ opds′ dest′) rest′) post′)
   step t′ fm′ known′ {κ-pool} {q-pool} {γ-pool} b-pool o-pool n-pool pool nodes count free i level nodes-good count-good free-good i-good level-good ok′ len-pool room-pool os′ k′ =
       lend t′ tt u32 b-pool o-pool n-pool pool len-pool (λ ν-pool δ-pool.
       move t′ (0 ∷ 1 ∷ []) $ group t′ 2 $ use1 W (raw ((Asked 𝓤 H A mem run) .pre (to-step 𝓤 H A mem run ν-pool δ-pool b-pool o-pool n-pool pool nodes count free i level))) (goes-step 𝓤 H A mem run W ν-pool δ-pool b-pool o-pool n-pool pool nodes count free i level nodes-good count-good free-good i-good level-good ok′) $
       calls-at t′ fm′ (Asked 𝓤 H A mem run) known′ (to-step 𝓤 H A mem run ν-pool δ-pool b-pool o-pool n-pool pool nodes count free i level) (os′ ν-pool δ-pool) (λ w′.
       use1 W (later (some (λ (res′ : Freed). ((‵ (flft (ν-pool ∷ []) fullShare) ⊛ ‵ ftrue) ⊛ ‵ (R-Freed .own res′ (w′ ∷ []))) ⊛ raw (ensured 𝓤 H A callee′.ended (callee′.clauses 𝓤 H A mem run) ((ν-pool ∷ []), tt) (at-list b-pool o-pool δ-pool pool, (nodes, (count, (free, (i, (level, tt)))))) tt res′)))) (id⊢ 𝓤 _) $ await t′ tt $ pick t′ (λ res′. split t′ $ move t′ (1 ∷ []) $
-      use1 W (some (λ (zs′ : List ℕ × (Unit {0} × (Unit {0} × (Unit {0} × (Unit {0} × (Unit {0} × Unit {0})))))). ‵ (lasts callee′.ended ((ν-pool ∷ []), tt) (at-list b-pool o-pool δ-pool pool, (nodes, (count, (free, (i, (level, tt)))))) zs′) ⊛ raw (fact 𝓤 (((zs′ .0) ≡ release level pool free count i .0) × (res′ .first ≡ release level pool free count i .1) × (res′ .count ≡ release level pool free count i .2))))) (id⊢ 𝓤 _) $ pick t′ (λ zs′. split t′ $ move t′ (1 ∷ []) $ heard t′ (((zs′ .0) ≡ release level pool free count i .0) × (res′ .first ≡ release level pool free count i .1) × (res′ .count ≡ release level pool free count i .2)) (λ e′.
+      use1 W (some (λ (zs′ : List ℕ × (Unit {0} × (Unit {0} × (Unit {0} × (Unit {0} × (Unit {0} × Unit {0})))))). ‵ (lasts callee′.ended ((ν-pool ∷ []), tt) (at-list b-pool o-pool δ-pool pool, (nodes, (count, (free, (i, (level, tt)))))) zs′) ⊛ raw (fact 𝓤 (((zs′ .0) ≡ release nodes level pool free count i .0) × (res′ .first ≡ release nodes level pool free count i .1) × (res′ .count ≡ release nodes level pool free count i .2))))) (id⊢ 𝓤 _) $ pick t′ (λ zs′. split t′ $ move t′ (1 ∷ []) $ heard t′ (((zs′ .0) ≡ release nodes level pool free count i .0) × (res′ .first ≡ release nodes level pool free count i .1) × (res′ .count ≡ release nodes level pool free count i .2)) (λ e′.
       fsplit t′ $ fsplit t′ $ move t′ (1 ∷ []) $ feqL t′ (λ same-pool. move t′ (1 ∷ []) $ fsplit t′ $ drop t′ $ fsplit t′ $ drop t′ $ fsplit t′ $ drop t′ $ fsplit t′ $ drop t′ $ fsplit t′ $ drop t′ $ drop t′ $
       move t′ (1 ∷ []) $ split t′ $ move t′ (1 ∷ []) $ peeks t′ R-Freed (Is R-Freed) (shows 𝓤 H A R-Freed) res′ (w′ ∷ []) (λ is′. drop t′ $ split t′ $ move t′ (1 ∷ []) $ drop t′ $
       move t′ (0 ∷ 2 ∷ 1 ∷ []) $ home t′ tt u32 b-pool o-pool n-pool pool (zs′ .0) len-pool room-pool same-pool $

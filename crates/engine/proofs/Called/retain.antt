@@ -1,4 +1,4 @@
--- Written by tools/walk: the call of `pool::refs::retain` as a step of a walk. Do not edit: write it again.
+-- Written by tools/walk: the call of `packed::refs::retain` as a step of a walk. Do not edit: write it again.
 -- The operands are read in the context [what the callee asks; the loans; Γ], where an entry of Γ stands one further on than before the call.
 use mathlib.Core.Path.{_≡_, refl, sym, ap, subst}
 use Prim.Native.Nat.{ℕ, _<_, _^_}
@@ -34,9 +34,9 @@ use denote.Triple.Clauses.{ensured, lasts}
 use denote.Triple.Walked.{says}
 use Prim.Native.Nat.{_*_, _≤_}
 use Rattle.pool.specs.Links.{Link}
-use Rattle.pool.specs.Pool.{retain}
+use Rattle.packed.specs.Pool.{retain}
 use Rattle.frames.proofs.Lent.{at-list, Mine, Yours, Lent, Shown, lend, home, show, back, give}
-use Rattle.pool.proofs.retain as callee′
+use Rattle.packed.proofs.retain as callee′
 
 module _ {M : Type 1} (𝓤 : URA M) (H : Heap 𝓤) (A : Atoms 𝓤) (mem : Memory → SProp 𝓤) (run : Routine → Fun 𝓤) where
   abbrev pub Asked : Contract 𝓤
@@ -45,13 +45,13 @@ module _ {M : Type 1} (𝓤 : URA M) (H : Heap 𝓤) (A : Atoms 𝓤) (mem : Mem
   abbrev pub to-step : (ν-pool : ℕ) (δ-pool : GName) (b-pool o-pool n-pool : ℕ) (pool : List ℕ) (nodes : ℕ) (i : ℕ) → Asked .Ghost
   to-step ν-pool δ-pool b-pool o-pool n-pool pool nodes i = ((((ν-pool ∷ []), tt), (fullShare, tt), tt, (at-list b-pool o-pool δ-pool pool, (nodes, (i, tt))), (sliceVal (b-pool, o-pool) n-pool ∷ [], (vint w32 nodes ∷ [], (vint w32 i ∷ [], tt)))), tt)
 
-  pub goes-step : Given 𝓤 H A → (ν-pool : ℕ) (δ-pool : GName) (b-pool o-pool n-pool : ℕ) (pool : List ℕ) (nodes : ℕ) (i : ℕ) → (nodes-good : nodes < 2 ^ 32) (i-good : i < 2 ^ 32) (ok′ : (4 * nodes ≤ length pool) × Link nodes i) → ent 𝓤 (⋆ 𝓤 H A (‵ (flft (ν-pool ∷ []) fullShare) ∷ ‵ (MutSlice (named 0) (ν-pool ∷ []) u32 .own (at-list b-pool o-pool δ-pool pool) (sliceVal (b-pool, o-pool) n-pool ∷ [])) ∷ [])) (Asked .pre (to-step ν-pool δ-pool b-pool o-pool n-pool pool nodes i))
+  pub goes-step : Given 𝓤 H A → (ν-pool : ℕ) (δ-pool : GName) (b-pool o-pool n-pool : ℕ) (pool : List ℕ) (nodes : ℕ) (i : ℕ) → (nodes-good : nodes < 2 ^ 32) (i-good : i < 2 ^ 32) (ok′ : (2 * nodes ≤ length pool) × Link nodes i) → ent 𝓤 (⋆ 𝓤 H A (‵ (flft (ν-pool ∷ []) fullShare) ∷ ‵ (MutSlice (named 0) (ν-pool ∷ []) u32 .own (at-list b-pool o-pool δ-pool pool) (sliceVal (b-pool, o-pool) n-pool ∷ [])) ∷ [])) (Asked .pre (to-step ν-pool δ-pool b-pool o-pool n-pool pool nodes i))
   goes-step W ν-pool δ-pool b-pool o-pool n-pool pool nodes i nodes-good i-good ok′ = qed W (‵ (flft (ν-pool ∷ []) fullShare) ∷ ‵ (MutSlice (named 0) (ν-pool ∷ []) u32 .own (at-list b-pool o-pool δ-pool pool) (sliceVal (b-pool, o-pool) n-pool ∷ [])) ∷ []) ∵ says ! ok′ $ nothing ! $ move ! (1 ∷ 0 ∷ []) $ group ! 2 $ frame ! $
       nothing ! $ owned ! u32 (Is u32) (uint-makes 𝓤 H A W w32) i _ (refl, i-good) $ fjoin ! $ owned ! u32 (Is u32) (uint-makes 𝓤 H A W w32) nodes _ (refl, nodes-good) $ fjoin ! $ move ! (1 ∷ 0 ∷ []) $ fjoin ! $ done !
 
 module _ {M : Type 1} {𝓤 : URA M} {H : Heap 𝓤} {A : Atoms 𝓤} {K : Type 0} {W : Given 𝓤 H A} (mem : Memory → SProp 𝓤) (run : Routine → Fun 𝓤)
     {Γ : List (Item 𝓤)} {E : Env 𝓤 H} {C : Calls 𝓤 H} {Λ : Loops 𝓤 H} {post′ : Post 𝓤 H} {dest′ : Place} {name′ : Name} {opds′ : List Operand} {rest′ : Body} where
-  pub step : K → FmC 𝓤 H (W .laws) C → Triple 𝓤 (C name′) (Asked 𝓤 H A mem run) → {κ-pool : Lft} {q-pool : Share} {γ-pool : GName} → (b-pool o-pool n-pool : ℕ) (pool : List ℕ) (nodes : ℕ) (i : ℕ) → (nodes-good : nodes < 2 ^ 32) → (i-good : i < 2 ^ 32) → (4 * nodes ≤ length pool) × Link nodes i → length pool ≡ n-pool → Room u32 n-pool →
+  pub step : K → FmC 𝓤 H (W .laws) C → Triple 𝓤 (C name′) (Asked 𝓤 H A mem run) → {κ-pool : Lft} {q-pool : Share} {γ-pool : GName} → (b-pool o-pool n-pool : ℕ) (pool : List ℕ) (nodes : ℕ) (i : ℕ) → (nodes-good : nodes < 2 ^ 32) → (i-good : i < 2 ^ 32) → (2 * nodes ≤ length pool) × Link nodes i → length pool ≡ n-pool → Room u32 n-pool →
       ((ν-pool : ℕ) (δ-pool : GName) → Opds K W (raw ((Asked 𝓤 H A mem run) .pre (to-step 𝓤 H A mem run ν-pool δ-pool b-pool o-pool n-pool pool nodes i)) ∷ ‵ (Lent u32 κ-pool (ν-pool ∷ []) q-pool γ-pool b-pool o-pool δ-pool pool) ∷ Γ) E opds′ (sliceVal (b-pool, o-pool) n-pool ∷ vint w32 nodes ∷ vint w32 i ∷ [])) →
       ((zs-pool : List ℕ) → zs-pool ≡ retain pool i → length zs-pool ≡ length pool → Seq K W (‵ (Mine u32 κ-pool q-pool γ-pool b-pool o-pool n-pool zs-pool) ∷ Γ) (lands C Λ E dest′ (vunit) rest′ post′)) →
       Seq K W (‵ (Mine u32 κ-pool q-pool γ-pool b-pool o-pool n-pool pool) ∷ Γ) (runs C Λ E (seq (call name′ opds′ dest′) rest′) post′)

@@ -56,14 +56,14 @@ module _ {M : Type 1} {𝓤 : URA M} {H : Heap 𝓤} {A : Atoms 𝓤} {K : Type 
     {Γ : List (Item 𝓤)} {E : Env 𝓤 H} {C : Calls 𝓤 H} {Λ : Loops 𝓤 H} {post′ : Post 𝓤 H} {dest′ : Place} {name′ : Name} {opds′ : List Operand} {rest′ : Body} where
   pub step-gs : K → FmC 𝓤 H (W .laws) C → Triple 𝓤 (C name′) (Asked 𝓤 H A mem run) → {κ-image : Lft} {q-image : Share} {γ-image : GName} {κ-pool : Lft} {q-pool : Share} {γ-pool : GName} → (b-image o-image n-image : ℕ) (image : List ℕ) (b-pool o-pool n-pool : ℕ) (pool : List ℕ) (places : ℕ) → (places-good : places < 2 ^ 64) → blockBytes ≤ length image → length pool ≡ n-pool → Room u32 n-pool →
       ((ν-pool : ℕ) (δ-pool : GName) → Opds K W (raw ((Asked 𝓤 H A mem run) .pre (to-step-gs 𝓤 H A mem run κ-image q-image γ-image ν-pool δ-pool b-image o-image n-image image b-pool o-pool n-pool pool places)) ∷ ‵ (Shown u32 κ-pool (ν-pool ∷ []) q-pool γ-pool b-pool o-pool pool) ∷ ‵ (ShrSlice (named 0) κ-image u8 .own (at-list b-image o-image γ-image image) (sliceVal (b-image, o-image) n-image ∷ [])) ∷ Γ) E opds′ (sliceVal (b-image, o-image) n-image ∷ vint w64 places ∷ sliceVal (b-pool, o-pool) n-pool ∷ [])) →
-      ((res′ : Bool) → res′ ≡ eqb places (placesIn image) && (leb places maxPlaces && leb (4 * nodesIn image) (length pool)) → Seq K W (‵ (Yours u8 κ-image q-image γ-image b-image o-image n-image image) ∷ ‵ (Mine u32 κ-pool q-pool γ-pool b-pool o-pool n-pool pool) ∷ Γ) (lands C Λ E dest′ (vbool res′) rest′ post′)) →
+      ((res′ : Bool) → res′ ≡ eqb places (placesIn image) && (leb places maxPlaces && leb (2 * nodesIn image) (length pool)) → Seq K W (‵ (Yours u8 κ-image q-image γ-image b-image o-image n-image image) ∷ ‵ (Mine u32 κ-pool q-pool γ-pool b-pool o-pool n-pool pool) ∷ Γ) (lands C Λ E dest′ (vbool res′) rest′ post′)) →
       Seq K W (‵ (Yours u8 κ-image q-image γ-image b-image o-image n-image image) ∷ ‵ (Mine u32 κ-pool q-pool γ-pool b-pool o-pool n-pool pool) ∷ Γ) (runs C Λ E (seq (call name′ opds′ dest′) rest′) post′)
   step-gs t′ fm′ known′ {κ-image} {q-image} {γ-image} {κ-pool} {q-pool} {γ-pool} b-image o-image n-image image b-pool o-pool n-pool pool places places-good ok′ len-pool room-pool os′ k′ =
       give t′ u8 b-image o-image n-image image $ move t′ (3 ∷ []) $ show t′ tt u32 b-pool o-pool n-pool pool len-pool (λ ν-pool δ-pool.
       move t′ (3 ∷ 0 ∷ 4 ∷ 1 ∷ []) $ group t′ 4 $ use1 W (raw ((Asked 𝓤 H A mem run) .pre (to-step-gs 𝓤 H A mem run κ-image q-image γ-image ν-pool δ-pool b-image o-image n-image image b-pool o-pool n-pool pool places))) (goes-step-gs 𝓤 H A mem run W κ-image q-image γ-image ν-pool δ-pool b-image o-image n-image image b-pool o-pool n-pool pool places places-good ok′) $
       calls-at t′ fm′ (Asked 𝓤 H A mem run) known′ (to-step-gs 𝓤 H A mem run κ-image q-image γ-image ν-pool δ-pool b-image o-image n-image image b-pool o-pool n-pool pool places) (os′ ν-pool δ-pool) (λ w′.
       use1 W (later (some (λ (res′ : Bool). ((‵ (flft κ-image q-image) ⊛ (‵ (flft (ν-pool ∷ []) fullShare) ⊛ ‵ ftrue)) ⊛ ‵ (bool .own res′ (w′ ∷ []))) ⊛ raw (ensured 𝓤 H A callee′.ended (callee′.clauses 𝓤 H A mem run) (κ-image, ((ν-pool ∷ []), tt)) (at-list b-image o-image γ-image image, (places, (at-list b-pool o-pool δ-pool pool, tt))) tt res′)))) (id⊢ 𝓤 _) $ await t′ tt $ pick t′ (λ res′. split t′ $ move t′ (1 ∷ []) $
-      use1 W (some (λ (zs′ : Unit {0} × (Unit {0} × (Unit {0} × Unit {0}))). ‵ (lasts callee′.ended (κ-image, ((ν-pool ∷ []), tt)) (at-list b-image o-image γ-image image, (places, (at-list b-pool o-pool δ-pool pool, tt))) zs′) ⊛ raw (fact 𝓤 (res′ ≡ eqb places (placesIn image) && (leb places maxPlaces && leb (4 * nodesIn image) (length pool)))))) (id⊢ 𝓤 _) $ pick t′ (λ zs′. split t′ $ move t′ (1 ∷ []) $ heard t′ (res′ ≡ eqb places (placesIn image) && (leb places maxPlaces && leb (4 * nodesIn image) (length pool))) (λ e′.
+      use1 W (some (λ (zs′ : Unit {0} × (Unit {0} × (Unit {0} × Unit {0}))). ‵ (lasts callee′.ended (κ-image, ((ν-pool ∷ []), tt)) (at-list b-image o-image γ-image image, (places, (at-list b-pool o-pool δ-pool pool, tt))) zs′) ⊛ raw (fact 𝓤 (res′ ≡ eqb places (placesIn image) && (leb places maxPlaces && leb (2 * nodesIn image) (length pool)))))) (id⊢ 𝓤 _) $ pick t′ (λ zs′. split t′ $ move t′ (1 ∷ []) $ heard t′ (res′ ≡ eqb places (placesIn image) && (leb places maxPlaces && leb (2 * nodesIn image) (length pool))) (λ e′.
       fsplit t′ $ drop t′ $ fsplit t′ $ drop t′ $ fsplit t′ $ drop t′ $ drop t′ $
       move t′ (0 ∷ []) $ split t′ $ move t′ (1 ∷ []) $ peeks t′ bool (Is bool) (shows 𝓤 H A bool) res′ (w′ ∷ []) (λ is′. drop t′ $ split t′ $ move t′ (1 ∷ []) $ split t′ $ move t′ (1 ∷ []) $ drop t′ $
       move t′ (0 ∷ 2 ∷ []) $ back t′ tt u32 b-pool o-pool n-pool pool len-pool room-pool $ move t′ (2 ∷ 1 ∷ []) $ fjoin t′ $

@@ -38,6 +38,7 @@ use Rattle.soundness.specs.Numbers.{numbersIn, numberCount}
 use Rattle.image.specs.Image.{imageBytes}
 use Rattle.semantics.specs.declared.Refusal.the-variants.{Target}
 use Rattle.semantics.specs.Answers.{refusalNumber}
+use Rattle.soundness.specs.Layout.{twoWords}
 use Rattle.frames.proofs.Lent.{at-list, Mine, Yours, Lent, Shown, lend, home, show, back, give}
 use Rattle.engine.proofs.images.target_number as callee′
 
@@ -56,14 +57,14 @@ module _ {M : Type 1} {𝓤 : URA M} {H : Heap 𝓤} {A : Atoms 𝓤} {K : Type 
     {Γ : List (Item 𝓤)} {E : Env 𝓤 H} {C : Calls 𝓤 H} {Λ : Loops 𝓤 H} {post′ : Post 𝓤 H} {dest′ : Place} {name′ : Name} {opds′ : List Operand} {rest′ : Body} where
   pub step-gs : K → FmC 𝓤 H (W .laws) C → Triple 𝓤 (C name′) (Asked 𝓤 H A mem run) → {κ-numbers : Lft} {q-numbers : Share} {γ-numbers : GName} {κ-target : Lft} {q-target : Share} {γ-target : GName} → (b-numbers o-numbers n-numbers : ℕ) (numbers : List ℕ) (b-target o-target n-target : ℕ) (target : List ℕ) → length numbers ≡ numberCount → length target ≡ n-target → Room u8 n-target →
       ((ν-target : ℕ) (δ-target : GName) → Opds K W (raw ((Asked 𝓤 H A mem run) .pre (to-step-gs 𝓤 H A mem run κ-numbers q-numbers γ-numbers ν-target δ-target b-numbers o-numbers n-numbers numbers b-target o-target n-target target)) ∷ ‵ (Shown u8 κ-target (ν-target ∷ []) q-target γ-target b-target o-target target) ∷ ‵ (ShrSlice (named 0) κ-numbers u32 .own (at-list b-numbers o-numbers γ-numbers numbers) (sliceVal (b-numbers, o-numbers) n-numbers ∷ [])) ∷ Γ) E opds′ (sliceVal (b-numbers, o-numbers) n-numbers ∷ sliceVal (b-target, o-target) n-target ∷ [])) →
-      ((res′ : ℕ) → res′ < 2 ^ 32 → res′ ≡ cond (ltb (length target) (imageBytes (numbersIn numbers .places) (numbersIn numbers .nodes))) (refusalNumber Target) 0 → Seq K W (‵ (Yours u32 κ-numbers q-numbers γ-numbers b-numbers o-numbers n-numbers numbers) ∷ ‵ (Mine u8 κ-target q-target γ-target b-target o-target n-target target) ∷ Γ) (lands C Λ E dest′ (vint w32 res′) rest′ post′)) →
+      ((res′ : ℕ) → res′ < 2 ^ 32 → res′ ≡ cond (ltb (length target) (imageBytes twoWords (numbersIn numbers .places) (numbersIn numbers .nodes))) (refusalNumber Target) 0 → Seq K W (‵ (Yours u32 κ-numbers q-numbers γ-numbers b-numbers o-numbers n-numbers numbers) ∷ ‵ (Mine u8 κ-target q-target γ-target b-target o-target n-target target) ∷ Γ) (lands C Λ E dest′ (vint w32 res′) rest′ post′)) →
       Seq K W (‵ (Yours u32 κ-numbers q-numbers γ-numbers b-numbers o-numbers n-numbers numbers) ∷ ‵ (Mine u8 κ-target q-target γ-target b-target o-target n-target target) ∷ Γ) (runs C Λ E (seq (call name′ opds′ dest′) rest′) post′)
   step-gs t′ fm′ known′ {κ-numbers} {q-numbers} {γ-numbers} {κ-target} {q-target} {γ-target} b-numbers o-numbers n-numbers numbers b-target o-target n-target target ok′ len-target room-target os′ k′ =
       give t′ u32 b-numbers o-numbers n-numbers numbers $ move t′ (3 ∷ []) $ show t′ tt u8 b-target o-target n-target target len-target (λ ν-target δ-target.
       move t′ (3 ∷ 0 ∷ 4 ∷ 1 ∷ []) $ group t′ 4 $ use1 W (raw ((Asked 𝓤 H A mem run) .pre (to-step-gs 𝓤 H A mem run κ-numbers q-numbers γ-numbers ν-target δ-target b-numbers o-numbers n-numbers numbers b-target o-target n-target target))) (goes-step-gs 𝓤 H A mem run W κ-numbers q-numbers γ-numbers ν-target δ-target b-numbers o-numbers n-numbers numbers b-target o-target n-target target ok′) $
       calls-at t′ fm′ (Asked 𝓤 H A mem run) known′ (to-step-gs 𝓤 H A mem run κ-numbers q-numbers γ-numbers ν-target δ-target b-numbers o-numbers n-numbers numbers b-target o-target n-target target) (os′ ν-target δ-target) (λ w′.
       use1 W (later (some (λ (res′ : ℕ). ((‵ (flft κ-numbers q-numbers) ⊛ (‵ (flft (ν-target ∷ []) fullShare) ⊛ ‵ ftrue)) ⊛ ‵ (u32 .own res′ (w′ ∷ []))) ⊛ raw (ensured 𝓤 H A callee′.ended (callee′.clauses 𝓤 H A mem run) (κ-numbers, ((ν-target ∷ []), tt)) (at-list b-numbers o-numbers γ-numbers numbers, (at-list b-target o-target δ-target target, tt)) tt res′)))) (id⊢ 𝓤 _) $ await t′ tt $ pick t′ (λ res′. split t′ $ move t′ (1 ∷ []) $
-      use1 W (some (λ (zs′ : Unit {0} × (Unit {0} × Unit {0})). ‵ (lasts callee′.ended (κ-numbers, ((ν-target ∷ []), tt)) (at-list b-numbers o-numbers γ-numbers numbers, (at-list b-target o-target δ-target target, tt)) zs′) ⊛ raw (fact 𝓤 (res′ ≡ cond (ltb (length target) (imageBytes (numbersIn numbers .places) (numbersIn numbers .nodes))) (refusalNumber Target) 0)))) (id⊢ 𝓤 _) $ pick t′ (λ zs′. split t′ $ move t′ (1 ∷ []) $ heard t′ (res′ ≡ cond (ltb (length target) (imageBytes (numbersIn numbers .places) (numbersIn numbers .nodes))) (refusalNumber Target) 0) (λ e′.
+      use1 W (some (λ (zs′ : Unit {0} × (Unit {0} × Unit {0})). ‵ (lasts callee′.ended (κ-numbers, ((ν-target ∷ []), tt)) (at-list b-numbers o-numbers γ-numbers numbers, (at-list b-target o-target δ-target target, tt)) zs′) ⊛ raw (fact 𝓤 (res′ ≡ cond (ltb (length target) (imageBytes twoWords (numbersIn numbers .places) (numbersIn numbers .nodes))) (refusalNumber Target) 0)))) (id⊢ 𝓤 _) $ pick t′ (λ zs′. split t′ $ move t′ (1 ∷ []) $ heard t′ (res′ ≡ cond (ltb (length target) (imageBytes twoWords (numbersIn numbers .places) (numbersIn numbers .nodes))) (refusalNumber Target) 0) (λ e′.
       fsplit t′ $ drop t′ $ fsplit t′ $ drop t′ $ drop t′ $
       move t′ (0 ∷ []) $ split t′ $ move t′ (1 ∷ []) $ peeks t′ u32 (Is u32) (shows 𝓤 H A u32) res′ (w′ ∷ []) (λ is′. drop t′ $ split t′ $ move t′ (1 ∷ []) $ split t′ $ move t′ (1 ∷ []) $ drop t′ $
       move t′ (0 ∷ 2 ∷ []) $ back t′ tt u8 b-target o-target n-target target len-target room-target $ move t′ (2 ∷ 1 ∷ []) $ fjoin t′ $

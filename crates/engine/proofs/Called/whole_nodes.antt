@@ -33,6 +33,7 @@ use denote.Triple.Call.{calls-at, calls-at-last}
 use denote.Triple.Clauses.{ensured, lasts}
 use denote.Triple.Walked.{says}
 use Rattle.semantics.specs.Entries.{wholeNodes}
+use Rattle.soundness.specs.Layout.{twoWords}
 use Rattle.frames.proofs.Lent.{at-list, Mine, Yours, Lent, Shown, lend, home, show, back, give}
 use Rattle.engine.proofs.begin.whole_nodes as callee′
 
@@ -51,14 +52,14 @@ module _ {M : Type 1} {𝓤 : URA M} {H : Heap 𝓤} {A : Atoms 𝓤} {K : Type 
     {Γ : List (Item 𝓤)} {E : Env 𝓤 H} {C : Calls 𝓤 H} {Λ : Loops 𝓤 H} {post′ : Post 𝓤 H} {dest′ : Place} {name′ : Name} {opds′ : List Operand} {rest′ : Body} where
   pub step-s : K → FmC 𝓤 H (W .laws) C → Triple 𝓤 (C name′) (Asked 𝓤 H A mem run) → {κ-pool : Lft} {q-pool : Share} {γ-pool : GName} → (b-pool o-pool n-pool : ℕ) (pool : List ℕ) → length pool ≡ n-pool → Room u32 n-pool →
       ((ν-pool : ℕ) (δ-pool : GName) → Opds K W (raw ((Asked 𝓤 H A mem run) .pre (to-step-s 𝓤 H A mem run ν-pool δ-pool b-pool o-pool n-pool pool)) ∷ ‵ (Shown u32 κ-pool (ν-pool ∷ []) q-pool γ-pool b-pool o-pool pool) ∷ Γ) E opds′ (sliceVal (b-pool, o-pool) n-pool ∷ [])) →
-      ((res′ : ℕ) → res′ < 2 ^ 64 → res′ ≡ wholeNodes pool → Seq K W (‵ (Mine u32 κ-pool q-pool γ-pool b-pool o-pool n-pool pool) ∷ Γ) (lands C Λ E dest′ (vint w64 res′) rest′ post′)) →
+      ((res′ : ℕ) → res′ < 2 ^ 64 → res′ ≡ wholeNodes twoWords pool → Seq K W (‵ (Mine u32 κ-pool q-pool γ-pool b-pool o-pool n-pool pool) ∷ Γ) (lands C Λ E dest′ (vint w64 res′) rest′ post′)) →
       Seq K W (‵ (Mine u32 κ-pool q-pool γ-pool b-pool o-pool n-pool pool) ∷ Γ) (runs C Λ E (seq (call name′ opds′ dest′) rest′) post′)
   step-s t′ fm′ known′ {κ-pool} {q-pool} {γ-pool} b-pool o-pool n-pool pool len-pool room-pool os′ k′ =
       show t′ tt u32 b-pool o-pool n-pool pool len-pool (λ ν-pool δ-pool.
       move t′ (0 ∷ 1 ∷ []) $ group t′ 2 $ use1 W (raw ((Asked 𝓤 H A mem run) .pre (to-step-s 𝓤 H A mem run ν-pool δ-pool b-pool o-pool n-pool pool))) (goes-step-s 𝓤 H A mem run W ν-pool δ-pool b-pool o-pool n-pool pool) $
       calls-at t′ fm′ (Asked 𝓤 H A mem run) known′ (to-step-s 𝓤 H A mem run ν-pool δ-pool b-pool o-pool n-pool pool) (os′ ν-pool δ-pool) (λ w′.
       use1 W (later (some (λ (res′ : ℕ). ((‵ (flft (ν-pool ∷ []) fullShare) ⊛ ‵ ftrue) ⊛ ‵ (usize .own res′ (w′ ∷ []))) ⊛ raw (ensured 𝓤 H A callee′.ended (callee′.clauses 𝓤 H A mem run) ((ν-pool ∷ []), tt) (at-list b-pool o-pool δ-pool pool, tt) tt res′)))) (id⊢ 𝓤 _) $ await t′ tt $ pick t′ (λ res′. split t′ $ move t′ (1 ∷ []) $
-      use1 W (some (λ (zs′ : Unit {0} × Unit {0}). ‵ (lasts callee′.ended ((ν-pool ∷ []), tt) (at-list b-pool o-pool δ-pool pool, tt) zs′) ⊛ raw (fact 𝓤 (res′ ≡ wholeNodes pool)))) (id⊢ 𝓤 _) $ pick t′ (λ zs′. split t′ $ move t′ (1 ∷ []) $ heard t′ (res′ ≡ wholeNodes pool) (λ e′.
+      use1 W (some (λ (zs′ : Unit {0} × Unit {0}). ‵ (lasts callee′.ended ((ν-pool ∷ []), tt) (at-list b-pool o-pool δ-pool pool, tt) zs′) ⊛ raw (fact 𝓤 (res′ ≡ wholeNodes twoWords pool)))) (id⊢ 𝓤 _) $ pick t′ (λ zs′. split t′ $ move t′ (1 ∷ []) $ heard t′ (res′ ≡ wholeNodes twoWords pool) (λ e′.
       fsplit t′ $ drop t′ $ drop t′ $
       move t′ (0 ∷ []) $ split t′ $ move t′ (1 ∷ []) $ peeks t′ usize (Is usize) (shows 𝓤 H A usize) res′ (w′ ∷ []) (λ is′. drop t′ $ split t′ $ move t′ (1 ∷ []) $ drop t′ $
       move t′ (0 ∷ 1 ∷ []) $ back t′ tt u32 b-pool o-pool n-pool pool len-pool room-pool $

@@ -35,6 +35,7 @@ use denote.Triple.Walked.{says}
 use Prim.Native.Nat.{_*_, _≤_}
 use Rattle.image.specs.Widths.{nodeWords}
 use Rattle.image.specs.Image.{nodeCount, placeCount, imageOf, imageBytes, Lengths, stored}
+use Rattle.soundness.specs.Layout.{twoWords}
 use Rattle.frames.proofs.Frame as M-Frame
 use Rattle.frames.proofs.Frame.Laws as L-Frame
 use Rattle.frames.specs.declared.Frame.{Frame}
@@ -54,22 +55,22 @@ module _ {M : Type 1} (𝓤 : URA M) (H : Heap 𝓤) (A : Atoms 𝓤) (mem : Mem
   abbrev pub to-step-gggg : (κ-numbers : Lft) (q-numbers : Share) (γ-numbers : GName) (κ-deques : Lft) (q-deques : Share) (γ-deques : GName) (κ-frames : Lft) (q-frames : Share) (γ-frames : GName) (κ-pool : Lft) (q-pool : Share) (γ-pool : GName) (ν-target : ℕ) (δ-target : GName) (b-numbers o-numbers n-numbers : ℕ) (numbers : List ℕ) (b-deques o-deques n-deques : ℕ) (deques : List ℕ) (b-frames o-frames n-frames : ℕ) (frames : List Frame) (b-pool o-pool n-pool : ℕ) (pool : List ℕ) (b-target o-target n-target : ℕ) (target : List ℕ) → Asked .Ghost
   to-step-gggg κ-numbers q-numbers γ-numbers κ-deques q-deques γ-deques κ-frames q-frames γ-frames κ-pool q-pool γ-pool ν-target δ-target b-numbers o-numbers n-numbers numbers b-deques o-deques n-deques deques b-frames o-frames n-frames frames b-pool o-pool n-pool pool b-target o-target n-target target = (((κ-numbers, (κ-deques, (κ-frames, (κ-pool, ((ν-target ∷ []), tt))))), (q-numbers, (q-deques, (q-frames, (q-pool, (fullShare, tt))))), tt, (at-list b-numbers o-numbers γ-numbers numbers, (at-list b-deques o-deques γ-deques deques, (at-list b-frames o-frames γ-frames frames, (at-list b-pool o-pool γ-pool pool, (at-list b-target o-target δ-target target, tt))))), (sliceVal (b-numbers, o-numbers) n-numbers ∷ [], (sliceVal (b-deques, o-deques) n-deques ∷ [], (sliceVal (b-frames, o-frames) n-frames ∷ [], (sliceVal (b-pool, o-pool) n-pool ∷ [], (sliceVal (b-target, o-target) n-target ∷ [], tt)))))), tt)
 
-  pub goes-step-gggg : Given 𝓤 H A → (κ-numbers : Lft) (q-numbers : Share) (γ-numbers : GName) (κ-deques : Lft) (q-deques : Share) (γ-deques : GName) (κ-frames : Lft) (q-frames : Share) (γ-frames : GName) (κ-pool : Lft) (q-pool : Share) (γ-pool : GName) (ν-target : ℕ) (δ-target : GName) (b-numbers o-numbers n-numbers : ℕ) (numbers : List ℕ) (b-deques o-deques n-deques : ℕ) (deques : List ℕ) (b-frames o-frames n-frames : ℕ) (frames : List Frame) (b-pool o-pool n-pool : ℕ) (pool : List ℕ) (b-target o-target n-target : ℕ) (target : List ℕ) → (ok′ : Lengths numbers deques frames × (nodeWords * nodeCount numbers ≤ length pool) × (imageBytes (placeCount numbers) (nodeCount numbers) ≤ length target)) → ent 𝓤 (⋆ 𝓤 H A (‵ (flft κ-numbers q-numbers) ∷ ‵ (flft κ-deques q-deques) ∷ ‵ (flft κ-frames q-frames) ∷ ‵ (flft κ-pool q-pool) ∷ ‵ (flft (ν-target ∷ []) fullShare) ∷ ‵ (ShrSlice (named 0) κ-numbers u32 .own (at-list b-numbers o-numbers γ-numbers numbers) (sliceVal (b-numbers, o-numbers) n-numbers ∷ [])) ∷ ‵ (ShrSlice (named 0) κ-deques u32 .own (at-list b-deques o-deques γ-deques deques) (sliceVal (b-deques, o-deques) n-deques ∷ [])) ∷ ‵ (ShrSlice (named 0) κ-frames R-Frame .own (at-list b-frames o-frames γ-frames frames) (sliceVal (b-frames, o-frames) n-frames ∷ [])) ∷ ‵ (ShrSlice (named 0) κ-pool u32 .own (at-list b-pool o-pool γ-pool pool) (sliceVal (b-pool, o-pool) n-pool ∷ [])) ∷ ‵ (MutSlice (named 0) (ν-target ∷ []) u8 .own (at-list b-target o-target δ-target target) (sliceVal (b-target, o-target) n-target ∷ [])) ∷ [])) (Asked .pre (to-step-gggg κ-numbers q-numbers γ-numbers κ-deques q-deques γ-deques κ-frames q-frames γ-frames κ-pool q-pool γ-pool ν-target δ-target b-numbers o-numbers n-numbers numbers b-deques o-deques n-deques deques b-frames o-frames n-frames frames b-pool o-pool n-pool pool b-target o-target n-target target))
+  pub goes-step-gggg : Given 𝓤 H A → (κ-numbers : Lft) (q-numbers : Share) (γ-numbers : GName) (κ-deques : Lft) (q-deques : Share) (γ-deques : GName) (κ-frames : Lft) (q-frames : Share) (γ-frames : GName) (κ-pool : Lft) (q-pool : Share) (γ-pool : GName) (ν-target : ℕ) (δ-target : GName) (b-numbers o-numbers n-numbers : ℕ) (numbers : List ℕ) (b-deques o-deques n-deques : ℕ) (deques : List ℕ) (b-frames o-frames n-frames : ℕ) (frames : List Frame) (b-pool o-pool n-pool : ℕ) (pool : List ℕ) (b-target o-target n-target : ℕ) (target : List ℕ) → (ok′ : Lengths numbers deques frames × (nodeWords * nodeCount numbers ≤ length pool) × (imageBytes twoWords (placeCount numbers) (nodeCount numbers) ≤ length target)) → ent 𝓤 (⋆ 𝓤 H A (‵ (flft κ-numbers q-numbers) ∷ ‵ (flft κ-deques q-deques) ∷ ‵ (flft κ-frames q-frames) ∷ ‵ (flft κ-pool q-pool) ∷ ‵ (flft (ν-target ∷ []) fullShare) ∷ ‵ (ShrSlice (named 0) κ-numbers u32 .own (at-list b-numbers o-numbers γ-numbers numbers) (sliceVal (b-numbers, o-numbers) n-numbers ∷ [])) ∷ ‵ (ShrSlice (named 0) κ-deques u32 .own (at-list b-deques o-deques γ-deques deques) (sliceVal (b-deques, o-deques) n-deques ∷ [])) ∷ ‵ (ShrSlice (named 0) κ-frames R-Frame .own (at-list b-frames o-frames γ-frames frames) (sliceVal (b-frames, o-frames) n-frames ∷ [])) ∷ ‵ (ShrSlice (named 0) κ-pool u32 .own (at-list b-pool o-pool γ-pool pool) (sliceVal (b-pool, o-pool) n-pool ∷ [])) ∷ ‵ (MutSlice (named 0) (ν-target ∷ []) u8 .own (at-list b-target o-target δ-target target) (sliceVal (b-target, o-target) n-target ∷ [])) ∷ [])) (Asked .pre (to-step-gggg κ-numbers q-numbers γ-numbers κ-deques q-deques γ-deques κ-frames q-frames γ-frames κ-pool q-pool γ-pool ν-target δ-target b-numbers o-numbers n-numbers numbers b-deques o-deques n-deques deques b-frames o-frames n-frames frames b-pool o-pool n-pool pool b-target o-target n-target target))
   goes-step-gggg W κ-numbers q-numbers γ-numbers κ-deques q-deques γ-deques κ-frames q-frames γ-frames κ-pool q-pool γ-pool ν-target δ-target b-numbers o-numbers n-numbers numbers b-deques o-deques n-deques deques b-frames o-frames n-frames frames b-pool o-pool n-pool pool b-target o-target n-target target ok′ = qed W (‵ (flft κ-numbers q-numbers) ∷ ‵ (flft κ-deques q-deques) ∷ ‵ (flft κ-frames q-frames) ∷ ‵ (flft κ-pool q-pool) ∷ ‵ (flft (ν-target ∷ []) fullShare) ∷ ‵ (ShrSlice (named 0) κ-numbers u32 .own (at-list b-numbers o-numbers γ-numbers numbers) (sliceVal (b-numbers, o-numbers) n-numbers ∷ [])) ∷ ‵ (ShrSlice (named 0) κ-deques u32 .own (at-list b-deques o-deques γ-deques deques) (sliceVal (b-deques, o-deques) n-deques ∷ [])) ∷ ‵ (ShrSlice (named 0) κ-frames R-Frame .own (at-list b-frames o-frames γ-frames frames) (sliceVal (b-frames, o-frames) n-frames ∷ [])) ∷ ‵ (ShrSlice (named 0) κ-pool u32 .own (at-list b-pool o-pool γ-pool pool) (sliceVal (b-pool, o-pool) n-pool ∷ [])) ∷ ‵ (MutSlice (named 0) (ν-target ∷ []) u8 .own (at-list b-target o-target δ-target target) (sliceVal (b-target, o-target) n-target ∷ [])) ∷ []) ∵ says ! ok′ $ nothing ! $ move ! (1 ∷ 2 ∷ 3 ∷ 4 ∷ 5 ∷ 0 ∷ []) $ group ! 6 $ frame ! $
       nothing ! $ move ! (5 ∷ 0 ∷ []) $ fjoin ! $ move ! (4 ∷ 0 ∷ []) $ fjoin ! $ move ! (3 ∷ 0 ∷ []) $ fjoin ! $ move ! (2 ∷ 0 ∷ []) $ fjoin ! $ move ! (1 ∷ 0 ∷ []) $ fjoin ! $ done !
 
 module _ {M : Type 1} {𝓤 : URA M} {H : Heap 𝓤} {A : Atoms 𝓤} {K : Type 0} {W : Given 𝓤 H A} (mem : Memory → SProp 𝓤) (run : Routine → Fun 𝓤)
     {Γ : List (Item 𝓤)} {E : Env 𝓤 H} {C : Calls 𝓤 H} {Λ : Loops 𝓤 H} {post′ : Post 𝓤 H} {dest′ : Place} {name′ : Name} {opds′ : List Operand} {rest′ : Body} where
-  pub step-gggg : K → FmC 𝓤 H (W .laws) C → Triple 𝓤 (C name′) (Asked 𝓤 H A mem run) → {κ-numbers : Lft} {q-numbers : Share} {γ-numbers : GName} {κ-deques : Lft} {q-deques : Share} {γ-deques : GName} {κ-frames : Lft} {q-frames : Share} {γ-frames : GName} {κ-pool : Lft} {q-pool : Share} {γ-pool : GName} {κ-target : Lft} {q-target : Share} {γ-target : GName} → (b-numbers o-numbers n-numbers : ℕ) (numbers : List ℕ) (b-deques o-deques n-deques : ℕ) (deques : List ℕ) (b-frames o-frames n-frames : ℕ) (frames : List Frame) (b-pool o-pool n-pool : ℕ) (pool : List ℕ) (b-target o-target n-target : ℕ) (target : List ℕ) → Lengths numbers deques frames × (nodeWords * nodeCount numbers ≤ length pool) × (imageBytes (placeCount numbers) (nodeCount numbers) ≤ length target) → length target ≡ n-target → Room u8 n-target →
+  pub step-gggg : K → FmC 𝓤 H (W .laws) C → Triple 𝓤 (C name′) (Asked 𝓤 H A mem run) → {κ-numbers : Lft} {q-numbers : Share} {γ-numbers : GName} {κ-deques : Lft} {q-deques : Share} {γ-deques : GName} {κ-frames : Lft} {q-frames : Share} {γ-frames : GName} {κ-pool : Lft} {q-pool : Share} {γ-pool : GName} {κ-target : Lft} {q-target : Share} {γ-target : GName} → (b-numbers o-numbers n-numbers : ℕ) (numbers : List ℕ) (b-deques o-deques n-deques : ℕ) (deques : List ℕ) (b-frames o-frames n-frames : ℕ) (frames : List Frame) (b-pool o-pool n-pool : ℕ) (pool : List ℕ) (b-target o-target n-target : ℕ) (target : List ℕ) → Lengths numbers deques frames × (nodeWords * nodeCount numbers ≤ length pool) × (imageBytes twoWords (placeCount numbers) (nodeCount numbers) ≤ length target) → length target ≡ n-target → Room u8 n-target →
       ((ν-target : ℕ) (δ-target : GName) → Opds K W (raw ((Asked 𝓤 H A mem run) .pre (to-step-gggg 𝓤 H A mem run κ-numbers q-numbers γ-numbers κ-deques q-deques γ-deques κ-frames q-frames γ-frames κ-pool q-pool γ-pool ν-target δ-target b-numbers o-numbers n-numbers numbers b-deques o-deques n-deques deques b-frames o-frames n-frames frames b-pool o-pool n-pool pool b-target o-target n-target target)) ∷ ‵ (Lent u8 κ-target (ν-target ∷ []) q-target γ-target b-target o-target δ-target target) ∷ ‵ (ShrSlice (named 0) κ-pool u32 .own (at-list b-pool o-pool γ-pool pool) (sliceVal (b-pool, o-pool) n-pool ∷ [])) ∷ ‵ (ShrSlice (named 0) κ-frames R-Frame .own (at-list b-frames o-frames γ-frames frames) (sliceVal (b-frames, o-frames) n-frames ∷ [])) ∷ ‵ (ShrSlice (named 0) κ-deques u32 .own (at-list b-deques o-deques γ-deques deques) (sliceVal (b-deques, o-deques) n-deques ∷ [])) ∷ ‵ (ShrSlice (named 0) κ-numbers u32 .own (at-list b-numbers o-numbers γ-numbers numbers) (sliceVal (b-numbers, o-numbers) n-numbers ∷ [])) ∷ Γ) E opds′ (sliceVal (b-numbers, o-numbers) n-numbers ∷ sliceVal (b-deques, o-deques) n-deques ∷ sliceVal (b-frames, o-frames) n-frames ∷ sliceVal (b-pool, o-pool) n-pool ∷ sliceVal (b-target, o-target) n-target ∷ [])) →
-      ((zs-target : List ℕ) → zs-target ≡ stored (imageOf numbers deques frames pool) target → length zs-target ≡ length target → Seq K W (‵ (Yours u32 κ-numbers q-numbers γ-numbers b-numbers o-numbers n-numbers numbers) ∷ ‵ (Yours u32 κ-deques q-deques γ-deques b-deques o-deques n-deques deques) ∷ ‵ (Yours R-Frame κ-frames q-frames γ-frames b-frames o-frames n-frames frames) ∷ ‵ (Yours u32 κ-pool q-pool γ-pool b-pool o-pool n-pool pool) ∷ ‵ (Mine u8 κ-target q-target γ-target b-target o-target n-target zs-target) ∷ Γ) (lands C Λ E dest′ (vunit) rest′ post′)) →
+      ((zs-target : List ℕ) → zs-target ≡ stored (imageOf twoWords numbers deques frames pool) target → length zs-target ≡ length target → Seq K W (‵ (Yours u32 κ-numbers q-numbers γ-numbers b-numbers o-numbers n-numbers numbers) ∷ ‵ (Yours u32 κ-deques q-deques γ-deques b-deques o-deques n-deques deques) ∷ ‵ (Yours R-Frame κ-frames q-frames γ-frames b-frames o-frames n-frames frames) ∷ ‵ (Yours u32 κ-pool q-pool γ-pool b-pool o-pool n-pool pool) ∷ ‵ (Mine u8 κ-target q-target γ-target b-target o-target n-target zs-target) ∷ Γ) (lands C Λ E dest′ (vunit) rest′ post′)) →
       Seq K W (‵ (Yours u32 κ-numbers q-numbers γ-numbers b-numbers o-numbers n-numbers numbers) ∷ ‵ (Yours u32 κ-deques q-deques γ-deques b-deques o-deques n-deques deques) ∷ ‵ (Yours R-Frame κ-frames q-frames γ-frames b-frames o-frames n-frames frames) ∷ ‵ (Yours u32 κ-pool q-pool γ-pool b-pool o-pool n-pool pool) ∷ ‵ (Mine u8 κ-target q-target γ-target b-target o-target n-target target) ∷ Γ) (runs C Λ E (seq (call name′ opds′ dest′) rest′) post′)
   step-gggg t′ fm′ known′ {κ-numbers} {q-numbers} {γ-numbers} {κ-deques} {q-deques} {γ-deques} {κ-frames} {q-frames} {γ-frames} {κ-pool} {q-pool} {γ-pool} {κ-target} {q-target} {γ-target} b-numbers o-numbers n-numbers numbers b-deques o-deques n-deques deques b-frames o-frames n-frames frames b-pool o-pool n-pool pool b-target o-target n-target target ok′ len-target room-target os′ k′ =
       give t′ u32 b-numbers o-numbers n-numbers numbers $ move t′ (3 ∷ []) $ give t′ u32 b-deques o-deques n-deques deques $ move t′ (6 ∷ []) $ give t′ R-Frame b-frames o-frames n-frames frames $ move t′ (9 ∷ []) $ give t′ u32 b-pool o-pool n-pool pool $ move t′ (12 ∷ []) $ lend t′ tt u8 b-target o-target n-target target len-target (λ ν-target δ-target.
       move t′ (12 ∷ 9 ∷ 6 ∷ 3 ∷ 0 ∷ 13 ∷ 10 ∷ 7 ∷ 4 ∷ 1 ∷ []) $ group t′ 10 $ use1 W (raw ((Asked 𝓤 H A mem run) .pre (to-step-gggg 𝓤 H A mem run κ-numbers q-numbers γ-numbers κ-deques q-deques γ-deques κ-frames q-frames γ-frames κ-pool q-pool γ-pool ν-target δ-target b-numbers o-numbers n-numbers numbers b-deques o-deques n-deques deques b-frames o-frames n-frames frames b-pool o-pool n-pool pool b-target o-target n-target target))) (goes-step-gggg 𝓤 H A mem run W κ-numbers q-numbers γ-numbers κ-deques q-deques γ-deques κ-frames q-frames γ-frames κ-pool q-pool γ-pool ν-target δ-target b-numbers o-numbers n-numbers numbers b-deques o-deques n-deques deques b-frames o-frames n-frames frames b-pool o-pool n-pool pool b-target o-target n-target target ok′) $
       calls-at t′ fm′ (Asked 𝓤 H A mem run) known′ (to-step-gggg 𝓤 H A mem run κ-numbers q-numbers γ-numbers κ-deques q-deques γ-deques κ-frames q-frames γ-frames κ-pool q-pool γ-pool ν-target δ-target b-numbers o-numbers n-numbers numbers b-deques o-deques n-deques deques b-frames o-frames n-frames frames b-pool o-pool n-pool pool b-target o-target n-target target) (os′ ν-target δ-target) (λ w′.
       use1 W (later (some (λ (res′ : Unit {0}). ((‵ (flft κ-numbers q-numbers) ⊛ (‵ (flft κ-deques q-deques) ⊛ (‵ (flft κ-frames q-frames) ⊛ (‵ (flft κ-pool q-pool) ⊛ (‵ (flft (ν-target ∷ []) fullShare) ⊛ ‵ ftrue))))) ⊛ ‵ (unit .own res′ (w′ ∷ []))) ⊛ raw (ensured 𝓤 H A callee′.ended (callee′.clauses 𝓤 H A mem run) (κ-numbers, (κ-deques, (κ-frames, (κ-pool, ((ν-target ∷ []), tt))))) (at-list b-numbers o-numbers γ-numbers numbers, (at-list b-deques o-deques γ-deques deques, (at-list b-frames o-frames γ-frames frames, (at-list b-pool o-pool γ-pool pool, (at-list b-target o-target δ-target target, tt))))) tt res′)))) (id⊢ 𝓤 _) $ await t′ tt $ pick t′ (λ res′. split t′ $ move t′ (1 ∷ []) $
-      use1 W (some (λ (zs′ : Unit {0} × (Unit {0} × (Unit {0} × (Unit {0} × (List ℕ × Unit {0}))))). ‵ (lasts callee′.ended (κ-numbers, (κ-deques, (κ-frames, (κ-pool, ((ν-target ∷ []), tt))))) (at-list b-numbers o-numbers γ-numbers numbers, (at-list b-deques o-deques γ-deques deques, (at-list b-frames o-frames γ-frames frames, (at-list b-pool o-pool γ-pool pool, (at-list b-target o-target δ-target target, tt))))) zs′) ⊛ raw (fact 𝓤 ((zs′ .1 .1 .1 .1 .0) ≡ stored (imageOf numbers deques frames pool) target)))) (id⊢ 𝓤 _) $ pick t′ (λ zs′. split t′ $ move t′ (1 ∷ []) $ heard t′ ((zs′ .1 .1 .1 .1 .0) ≡ stored (imageOf numbers deques frames pool) target) (λ e′.
+      use1 W (some (λ (zs′ : Unit {0} × (Unit {0} × (Unit {0} × (Unit {0} × (List ℕ × Unit {0}))))). ‵ (lasts callee′.ended (κ-numbers, (κ-deques, (κ-frames, (κ-pool, ((ν-target ∷ []), tt))))) (at-list b-numbers o-numbers γ-numbers numbers, (at-list b-deques o-deques γ-deques deques, (at-list b-frames o-frames γ-frames frames, (at-list b-pool o-pool γ-pool pool, (at-list b-target o-target δ-target target, tt))))) zs′) ⊛ raw (fact 𝓤 ((zs′ .1 .1 .1 .1 .0) ≡ stored (imageOf twoWords numbers deques frames pool) target)))) (id⊢ 𝓤 _) $ pick t′ (λ zs′. split t′ $ move t′ (1 ∷ []) $ heard t′ ((zs′ .1 .1 .1 .1 .0) ≡ stored (imageOf twoWords numbers deques frames pool) target) (λ e′.
       fsplit t′ $ drop t′ $ fsplit t′ $ drop t′ $ fsplit t′ $ drop t′ $ fsplit t′ $ drop t′ $ fsplit t′ $ fsplit t′ $ move t′ (1 ∷ []) $ feqL t′ (λ same-target. move t′ (1 ∷ []) $ drop t′ $
       move t′ (1 ∷ []) $ split t′ $ move t′ (1 ∷ []) $ peeks t′ unit (Is unit) (shows 𝓤 H A unit) res′ (w′ ∷ []) (λ is′. drop t′ $ split t′ $ move t′ (1 ∷ []) $ split t′ $ move t′ (1 ∷ []) $ split t′ $ move t′ (1 ∷ []) $ split t′ $ move t′ (1 ∷ []) $ split t′ $ move t′ (1 ∷ []) $ drop t′ $
       move t′ (0 ∷ 6 ∷ 5 ∷ []) $ home t′ tt u8 b-target o-target n-target target (zs′ .1 .1 .1 .1 .0) len-target room-target same-target $ move t′ (5 ∷ 1 ∷ []) $ fjoin t′ $ move t′ (5 ∷ 2 ∷ []) $ fjoin t′ $ move t′ (5 ∷ 3 ∷ []) $ fjoin t′ $ move t′ (5 ∷ 4 ∷ []) $ fjoin t′ $

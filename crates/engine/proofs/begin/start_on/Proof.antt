@@ -47,6 +47,7 @@ use borrow.Author.Needs.{scaled-fits}
 use Rattle.frames.proofs.Lent.{at-list, Mine, Yours, tyAt, exit-unless, exit-if, leave-if, fork, skipped, regroup, matched, matched-last, const, is-true, is-false, not-not, differ, widen, less-fits, after, turn-of, take-out, put-in, put-back, look-out, look-back, free-all}
 use Rattle.semantics.specs.Entries.{startWith}
 use Rattle.semantics.specs.Promises.{parts, Fits, IsStart}
+use Rattle.soundness.specs.Layout.{twoWords}
 use Rattle.engine.proofs.Called.whole_nodes as S-whole-nodes
 use Rattle.engine.proofs.begin.whole_nodes.Symbol as D-whole-nodes
 use Rattle.engine.proofs.begin.whole_nodes.Symbol.{name as #whole-nodes}
@@ -60,9 +61,9 @@ use Rattle.words.proofs.clear_all.Symbol as D-clear-all
 use Rattle.words.proofs.clear_all.Symbol.{name as #clear-all}
 use Rattle.words.proofs.clear_all.Met as T-clear-all
 use Rattle.engine.proofs.Called.init_pool as S-init-pool
-use Rattle.pool.proofs.init_pool.Symbol as D-init-pool
-use Rattle.pool.proofs.init_pool.Symbol.{name as #init-pool}
-use Rattle.pool.proofs.init_pool.Met as T-init-pool
+use Rattle.packed.proofs.init_pool.Symbol as D-init-pool
+use Rattle.packed.proofs.init_pool.Symbol.{name as #init-pool}
+use Rattle.packed.proofs.init_pool.Met as T-init-pool
 use Rattle.engine.proofs.Called.init_deques as S-init-deques
 use Rattle.frames.proofs.init_deques.Symbol as D-init-deques
 use Rattle.frames.proofs.init_deques.Symbol.{name as #init-deques}
@@ -135,7 +136,7 @@ module _ {M : Type 1} (𝓤 : URA M) (H : Heap 𝓤) (A : Atoms 𝓤) (W : Given
   abbrev Post : Val → SProp 𝓤
   Post = walkOf 𝓤 H A f′.ended stayed (f′.clauses 𝓤 H A mem run) .post bound′
 
-  exits′ : (res′ : ℕ) (zs-numbers : List ℕ) (zs-deques : List ℕ) (zs-frames : List Frame) (zs-pool : List ℕ) → res′ < 2 ^ 32 → IsStart (startWith workers values frames pool) zs-numbers zs-deques zs-frames zs-pool res′ → length zs-numbers ≡ length numbers → length zs-deques ≡ length deques → length zs-frames ≡ length frames → length zs-pool ≡ length pool → ent 𝓤 (⋆ 𝓤 H A (‵ (Mine u32 κ-numbers q-numbers γ-numbers b-numbers o-numbers n-numbers zs-numbers) ∷ ‵ (Mine u32 κ-deques q-deques γ-deques b-deques o-deques n-deques zs-deques) ∷ ‵ (Mine R-Frame κ-frames q-frames γ-frames b-frames o-frames n-frames zs-frames) ∷ ‵ (Yours u32 κ-values q-values γ-values b-values o-values n-values values) ∷ ‵ (Mine u32 κ-pool q-pool γ-pool b-pool o-pool n-pool zs-pool) ∷ [])) (Post (vint w32 res′))
+  exits′ : (res′ : ℕ) (zs-numbers : List ℕ) (zs-deques : List ℕ) (zs-frames : List Frame) (zs-pool : List ℕ) → res′ < 2 ^ 32 → IsStart (startWith twoWords workers values frames pool) zs-numbers zs-deques zs-frames zs-pool res′ → length zs-numbers ≡ length numbers → length zs-deques ≡ length deques → length zs-frames ≡ length frames → length zs-pool ≡ length pool → ent 𝓤 (⋆ 𝓤 H A (‵ (Mine u32 κ-numbers q-numbers γ-numbers b-numbers o-numbers n-numbers zs-numbers) ∷ ‵ (Mine u32 κ-deques q-deques γ-deques b-deques o-deques n-deques zs-deques) ∷ ‵ (Mine R-Frame κ-frames q-frames γ-frames b-frames o-frames n-frames zs-frames) ∷ ‵ (Yours u32 κ-values q-values γ-values b-values o-values n-values values) ∷ ‵ (Mine u32 κ-pool q-pool γ-pool b-pool o-pool n-pool zs-pool) ∷ [])) (Post (vint w32 res′))
   exits′ res′ zs-numbers zs-deques zs-frames zs-pool good′ e′ same-numbers same-deques same-frames same-pool =
       qed W (‵ (Mine u32 κ-numbers q-numbers γ-numbers b-numbers o-numbers n-numbers zs-numbers) ∷ ‵ (Mine u32 κ-deques q-deques γ-deques b-deques o-deques n-deques zs-deques) ∷ ‵ (Mine R-Frame κ-frames q-frames γ-frames b-frames o-frames n-frames zs-frames) ∷ ‵ (Yours u32 κ-values q-values γ-values b-values o-values n-values values) ∷ ‵ (Mine u32 κ-pool q-pool γ-pool b-pool o-pool n-pool zs-pool) ∷ []) ∵
       suffices ! _ (ends-at 𝓤 H A f′.ended stayed (f′.clauses 𝓤 H A mem run) W bound′ (vint w32 res′) res′ (zs-numbers, (zs-deques, (zs-frames, (tt, (tt, (zs-pool, tt)))))) (same-numbers, (same-deques, (same-frames, (tt, (tt, (same-pool, tt))))))) $ says ! e′ $
@@ -195,7 +196,7 @@ module _ {M : Type 1} (𝓤 : URA M) (H : Heap 𝓤) (A : Atoms 𝓤) (W : Given
         assigns ! (of-opd ! (load ! (from ! (fld ! refl (stop !))) (look-in ! 59 (sub ! 1 refl (whole !))))) (from ! (stop !)) (store ! 45 refl (tt, record { fits = (room-values .0) })) $
         assigns ! (un ! (load ! (from ! (stop !)) (look ! 45 refl)) (record { fits = (F.small-7 numbers deques frames workers values pool (room-numbers .0) (room-deques .0) (room-frames .0) workers-fits (room-values .0) (room-pool .0) ok′ nodes nodes-fits nodes-is refusal refusal-fits refusal-is (eqb→eq refusal 0 (not-not (eqb refusal 0) test-3))) })) (from ! (stop !)) (init ! 25 refl (tt, record { fits = (F.small-7 numbers deques frames workers values pool (room-numbers .0) (room-deques .0) (room-frames .0) workers-fits (room-values .0) (room-pool .0) ok′ nodes nodes-fits nodes-is refusal refusal-fits refusal-is (eqb→eq refusal 0 (not-not (eqb refusal 0) test-3))) })) $
         assigns ! (un ! (load ! (from ! (stop !)) (look ! 55 refl)) (record { fits = (F.small-8 numbers deques frames workers values pool (room-numbers .0) (room-deques .0) (room-frames .0) workers-fits (room-values .0) (room-pool .0) ok′ nodes nodes-fits nodes-is refusal refusal-fits refusal-is (eqb→eq refusal 0 (not-not (eqb refusal 0) test-3))) })) (from ! (stop !)) (init ! 23 refl (tt, record { fits = (F.small-8 numbers deques frames workers values pool (room-numbers .0) (room-deques .0) (room-frames .0) workers-fits (room-values .0) (room-pool .0) ok′ nodes nodes-fits nodes-is refusal refusal-fits refusal-is (eqb→eq refusal 0 (not-not (eqb refusal 0) test-3))) })) $
-        -- _9 = pool::start::init_pool(_21, _22, _23, _5)
+        -- _9 = packed::start::init_pool(_21, _22, _23, _5)
         move ! (0 ∷ 4 ∷ []) $
         S-init-pool.step-g mem run ! fm known-init-pool b-pool o-pool n-pool pool b-values o-values n-values values (length values) nodes (F.small-7 numbers deques frames workers values pool (room-numbers .0) (room-deques .0) (room-frames .0) workers-fits (room-values .0) (room-pool .0) ok′ nodes nodes-fits nodes-is refusal refusal-fits refusal-is (eqb→eq refusal 0 (not-not (eqb refusal 0) test-3))) (F.small-8 numbers deques frames workers values pool (room-numbers .0) (room-deques .0) (room-frames .0) workers-fits (room-values .0) (room-pool .0) ok′ nodes nodes-fits nodes-is refusal refusal-fits refusal-is (eqb→eq refusal 0 (not-not (eqb refusal 0) test-3))) (refl) room-pool
         (λ ν-0 δ-0. and-then ! (load ! (from ! (stop !)) (look ! 28 refl)) (and-then ! (load ! (from ! (stop !)) (look ! 26 refl)) (and-then ! (load ! (from ! (stop !)) (look ! 24 refl)) (and-then ! (load ! (from ! (stop !)) (look ! 60 refl)) (no-more !))))) (λ free pool-9 free-fits free-is same-pool-9.
@@ -258,7 +259,7 @@ start-on-spec 𝓤 H 𝓜 𝓖 𝓡 =
     (cited 𝓤 H (S-whole-nodes.Asked 𝓤 H (𝓖 .A) (𝓜 .mem) (𝓡 .run)) 𝓜 𝓡 code.env #whole-nodes D-whole-nodes.routine code.calls-engine·begin·whole-nodes (T-whole-nodes.met 𝓤 H 𝓜 𝓖 𝓡))
     (cited 𝓤 H (S-start-refusal.Asked 𝓤 H (𝓖 .A) (𝓜 .mem) (𝓡 .run)) 𝓜 𝓡 code.env #start-refusal D-start-refusal.routine code.calls-engine·begin·start-refusal (T-start-refusal.met 𝓤 H 𝓜 𝓖 𝓡))
     (cited 𝓤 H (S-clear-all.Asked 𝓤 H (𝓖 .A) (𝓜 .mem) (𝓡 .run)) 𝓜 𝓡 code.env #clear-all D-clear-all.routine code.calls-words·clear-all (T-clear-all.met 𝓤 H 𝓜 𝓖 𝓡))
-    (cited 𝓤 H (S-init-pool.Asked 𝓤 H (𝓖 .A) (𝓜 .mem) (𝓡 .run)) 𝓜 𝓡 code.env #init-pool D-init-pool.routine code.calls-pool·init-pool (T-init-pool.met 𝓤 H 𝓜 𝓖 𝓡))
+    (cited 𝓤 H (S-init-pool.Asked 𝓤 H (𝓖 .A) (𝓜 .mem) (𝓡 .run)) 𝓜 𝓡 code.env #init-pool D-init-pool.routine code.calls-packed·init-pool (T-init-pool.met 𝓤 H 𝓜 𝓖 𝓡))
     (cited 𝓤 H (S-init-deques.Asked 𝓤 H (𝓖 .A) (𝓜 .mem) (𝓡 .run)) 𝓜 𝓡 code.env #init-deques D-init-deques.routine code.calls-frames·init-deques (T-init-deques.met 𝓤 H 𝓜 𝓖 𝓡))
     (cited 𝓤 H (S-init-frames.Asked 𝓤 H (𝓖 .A) (𝓜 .mem) (𝓡 .run)) 𝓜 𝓡 code.env #init-frames D-init-frames.routine code.calls-frames·init-frames (T-init-frames.met 𝓤 H 𝓜 𝓖 𝓡))
     (cited 𝓤 H (S-first-numbers.Asked 𝓤 H (𝓖 .A) (𝓜 .mem) (𝓡 .run)) 𝓜 𝓡 code.env #first-numbers D-first-numbers.routine code.calls-engine·begin·first-numbers (T-first-numbers.met 𝓤 H 𝓜 𝓖 𝓡))

@@ -61,9 +61,9 @@ use Rattle.engine.proofs.checking.totals_right.Symbol as D-totals-right
 use Rattle.engine.proofs.checking.totals_right.Symbol.{name as #totals-right}
 use Rattle.engine.proofs.checking.totals_right.Met as T-totals-right
 use Rattle.engine.proofs.Called.check_pool as S-check-pool
-use Rattle.pool_check.proofs.check_pool.Symbol as D-check-pool
-use Rattle.pool_check.proofs.check_pool.Symbol.{name as #check-pool}
-use Rattle.pool_check.proofs.check_pool.Met as T-check-pool
+use Rattle.packed_check.proofs.check_pool.Symbol as D-check-pool
+use Rattle.packed_check.proofs.check_pool.Symbol.{name as #check-pool}
+use Rattle.packed_check.proofs.check_pool.Met as T-check-pool
 use Rattle.engine.proofs.checking.check_rest.Key.{name as #own}
 use Rattle.engine.proofs.checking.check_rest as f′
 use Rattle.engine.proofs.checking.check_rest.Statement as stated
@@ -81,9 +81,9 @@ use Rattle.soundness.specs.declared.Checked.{Checked}
 use Rattle.soundness.proofs.Numbers as M-Numbers
 use Rattle.soundness.proofs.Numbers.Laws as L-Numbers
 use Rattle.soundness.specs.declared.Numbers.{Numbers}
-use Rattle.pool_check.proofs.PoolChecked as M-PoolChecked
-use Rattle.pool_check.proofs.PoolChecked.Laws as L-PoolChecked
-use Rattle.pool_check.specs.declared.PoolChecked.{PoolChecked}
+use Rattle.packed_check.proofs.PoolChecked as M-PoolChecked
+use Rattle.packed_check.proofs.PoolChecked.Laws as L-PoolChecked
+use Rattle.packed_check.specs.declared.PoolChecked.{PoolChecked}
 
 abbrev R-Frame : RattleType
 R-Frame = M-Frame.the-row
@@ -225,7 +225,7 @@ module _ {M : Type 1} (𝓤 : URA M) (H : Heap 𝓤) (A : Atoms 𝓤) (W : Given
         (λ test-6.
         assigns ! (addr ! (from ! (fld ! refl (hop ! (look-in ! 35 (sub ! 0 refl (whole !))) (stop !))))) (from ! (stop !)) (init ! 7 refl (tt, tt)) $
         assigns ! (agg ! (and-then ! (load ! (from ! (stop !)) (look ! 7 refl)) (and-then ! (load ! (from ! (fld ! refl (stop !))) (look-in ! 35 (sub ! 1 refl (whole !)))) (no-more !)))) (from ! (stop !)) (init ! 5 refl (tt, (tt, (record { fits = room-work .0 }, tt)))) $
-        -- _9 = pool_check::check_pool(_7.1, _7.2, _7.3, _8, _3, _4, _20)
+        -- _9 = packed_check::check_pool(_7.1, _7.2, _7.3, _8, _3, _4, _20)
         move ! (2 ∷ 3 ∷ 4 ∷ []) $
         S-check-pool.step-gg mem run ! fm known-check-pool b-frames o-frames n-frames frames b-pool o-pool n-pool pool b-work o-work n-work work (n .splitters) (n .nodes) (n .«free_node») end ((LL.owed M-Numbers.the-type L-Numbers.the-laws n _ n-good .1 .0) .1) ((LL.owed M-Numbers.the-type L-Numbers.the-laws n _ n-good .1 .1 .0) .1) ((LL.owed M-Numbers.the-type L-Numbers.the-laws n _ n-good .1 .1 .1 .0) .1) ((EL.owed M-FramesChecked.the-type L-FramesChecked.the-laws (FramesChecked.Good end) _ (subst (λ (x′ : FramesChecked). Is R-FramesChecked x′ (val-FramesChecked x′ ∷ [])) case-2 tables′-good) .0) .1) (F.needs-9 numbers deques frames pool work tables′ (room-numbers .0) (room-deques .0) (room-frames .0) (room-pool .0) (room-work .0) ok′ n n-is end ((EL.owed M-FramesChecked.the-type L-FramesChecked.the-laws (FramesChecked.Good end) _ (subst (λ (x′ : FramesChecked). Is R-FramesChecked x′ (val-FramesChecked x′ ∷ [])) case-2 tables′-good) .0) .1) case-2 r-5 r-5-is (is-true r-5 (not-not r-5 test-6))) (refl) room-work
         (λ ν-0 δ-0. and-then ! (load ! (from ! (fld ! refl (stop !))) (look-in ! 32 (sub ! 1 refl (whole !)))) (and-then ! (load ! (from ! (fld ! refl (stop !))) (look-in ! 32 (sub ! 2 refl (whole !)))) (and-then ! (load ! (from ! (fld ! refl (stop !))) (look-in ! 32 (sub ! 3 refl (whole !)))) (and-then ! (load ! (from ! (stop !)) (look ! 30 refl)) (and-then ! (load ! (from ! (stop !)) (look ! 40 refl)) (and-then ! (load ! (from ! (stop !)) (look ! 38 refl)) (and-then ! (load ! (from ! (stop !)) (look ! 6 refl)) (no-more !)))))))) (λ answer work-9 answer-good answer-is same-work-9.
@@ -273,4 +273,4 @@ check-rest-spec 𝓤 H 𝓜 𝓖 𝓡 =
     (cited 𝓤 H (S-numbers-in.Asked 𝓤 H (𝓖 .A) (𝓜 .mem) (𝓡 .run)) 𝓜 𝓡 code.env #numbers-in D-numbers-in.routine code.calls-engine·numbers·numbers-in (T-numbers-in.met 𝓤 H 𝓜 𝓖 𝓡))
     (cited 𝓤 H (S-clear.Asked 𝓤 H (𝓖 .A) (𝓜 .mem) (𝓡 .run)) 𝓜 𝓡 code.env #clear D-clear.routine code.calls-pool-check·clear (T-clear.met 𝓤 H 𝓜 𝓖 𝓡))
     (cited 𝓤 H (S-totals-right.Asked 𝓤 H (𝓖 .A) (𝓜 .mem) (𝓡 .run)) 𝓜 𝓡 code.env #totals-right D-totals-right.routine code.calls-engine·checking·totals-right (T-totals-right.met 𝓤 H 𝓜 𝓖 𝓡))
-    (cited 𝓤 H (S-check-pool.Asked 𝓤 H (𝓖 .A) (𝓜 .mem) (𝓡 .run)) 𝓜 𝓡 code.env #check-pool D-check-pool.routine code.calls-pool-check·check-pool (T-check-pool.met 𝓤 H 𝓜 𝓖 𝓡)))
+    (cited 𝓤 H (S-check-pool.Asked 𝓤 H (𝓖 .A) (𝓜 .mem) (𝓡 .run)) 𝓜 𝓡 code.env #check-pool D-check-pool.routine code.calls-packed-check·check-pool (T-check-pool.met 𝓤 H 𝓜 𝓖 𝓡)))

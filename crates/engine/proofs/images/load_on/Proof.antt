@@ -47,6 +47,7 @@ use borrow.Author.Needs.{scaled-fits}
 use Rattle.frames.proofs.Lent.{at-list, Mine, Yours, tyAt, exit-unless, exit-if, leave-if, fork, skipped, regroup, matched, matched-last, const, is-true, is-false, not-not, differ, widen, less-fits, after, turn-of, take-out, put-in, put-back, look-out, look-back, free-all}
 use Rattle.semantics.specs.Images.{loadWith}
 use Rattle.semantics.specs.Promises.{parts, Fits, IsLoad}
+use Rattle.soundness.specs.Layout.{twoWords}
 use Rattle.engine.proofs.Called.read_image as S-read-image
 use Rattle.engine.proofs.images.read_image.Symbol as D-read-image
 use Rattle.engine.proofs.images.read_image.Symbol.{name as #read-image}
@@ -105,7 +106,7 @@ module _ {M : Type 1} (𝓤 : URA M) (H : Heap 𝓤) (A : Atoms 𝓤) (W : Given
   abbrev Post : Val → SProp 𝓤
   Post = walkOf 𝓤 H A f′.ended stayed (f′.clauses 𝓤 H A mem run) .post bound′
 
-  exits′ : (res′ : ℕ) (zs-numbers : List ℕ) (zs-deques : List ℕ) (zs-frames : List Frame) (zs-pool : List ℕ) (zs-work : List ℕ) → res′ < 2 ^ 32 → IsLoad (loadWith frames pool work image) zs-numbers zs-deques zs-frames zs-pool zs-work res′ → length zs-numbers ≡ length numbers → length zs-deques ≡ length deques → length zs-frames ≡ length frames → length zs-pool ≡ length pool → length zs-work ≡ length work → ent 𝓤 (⋆ 𝓤 H A (‵ (Mine u32 κ-numbers q-numbers γ-numbers b-numbers o-numbers n-numbers zs-numbers) ∷ ‵ (Mine u32 κ-deques q-deques γ-deques b-deques o-deques n-deques zs-deques) ∷ ‵ (Mine R-Frame κ-frames q-frames γ-frames b-frames o-frames n-frames zs-frames) ∷ ‵ (Mine u32 κ-pool q-pool γ-pool b-pool o-pool n-pool zs-pool) ∷ ‵ (Mine u32 κ-work q-work γ-work b-work o-work n-work zs-work) ∷ ‵ (Yours u8 κ-image q-image γ-image b-image o-image n-image image) ∷ [])) (Post (vint w32 res′))
+  exits′ : (res′ : ℕ) (zs-numbers : List ℕ) (zs-deques : List ℕ) (zs-frames : List Frame) (zs-pool : List ℕ) (zs-work : List ℕ) → res′ < 2 ^ 32 → IsLoad (loadWith twoWords frames pool work image) zs-numbers zs-deques zs-frames zs-pool zs-work res′ → length zs-numbers ≡ length numbers → length zs-deques ≡ length deques → length zs-frames ≡ length frames → length zs-pool ≡ length pool → length zs-work ≡ length work → ent 𝓤 (⋆ 𝓤 H A (‵ (Mine u32 κ-numbers q-numbers γ-numbers b-numbers o-numbers n-numbers zs-numbers) ∷ ‵ (Mine u32 κ-deques q-deques γ-deques b-deques o-deques n-deques zs-deques) ∷ ‵ (Mine R-Frame κ-frames q-frames γ-frames b-frames o-frames n-frames zs-frames) ∷ ‵ (Mine u32 κ-pool q-pool γ-pool b-pool o-pool n-pool zs-pool) ∷ ‵ (Mine u32 κ-work q-work γ-work b-work o-work n-work zs-work) ∷ ‵ (Yours u8 κ-image q-image γ-image b-image o-image n-image image) ∷ [])) (Post (vint w32 res′))
   exits′ res′ zs-numbers zs-deques zs-frames zs-pool zs-work good′ e′ same-numbers same-deques same-frames same-pool same-work =
       qed W (‵ (Mine u32 κ-numbers q-numbers γ-numbers b-numbers o-numbers n-numbers zs-numbers) ∷ ‵ (Mine u32 κ-deques q-deques γ-deques b-deques o-deques n-deques zs-deques) ∷ ‵ (Mine R-Frame κ-frames q-frames γ-frames b-frames o-frames n-frames zs-frames) ∷ ‵ (Mine u32 κ-pool q-pool γ-pool b-pool o-pool n-pool zs-pool) ∷ ‵ (Mine u32 κ-work q-work γ-work b-work o-work n-work zs-work) ∷ ‵ (Yours u8 κ-image q-image γ-image b-image o-image n-image image) ∷ []) ∵
       suffices ! _ (ends-at 𝓤 H A f′.ended stayed (f′.clauses 𝓤 H A mem run) W bound′ (vint w32 res′) res′ (zs-numbers, (zs-deques, (zs-frames, (zs-pool, (zs-work, (tt, tt)))))) (same-numbers, (same-deques, (same-frames, (same-pool, (same-work, (tt, tt))))))) $ says ! e′ $

@@ -51,6 +51,7 @@ use Rattle.image.specs.Image.{imageCheck, nodesIn}
 use Rattle.semantics.specs.Images.{loadRead}
 use Rattle.semantics.specs.Promises.{parts, Fits}
 use Rattle.engine.specs.Promises.{IsLoading}
+use Rattle.soundness.specs.Layout.{twoWords}
 use Rattle.engine.proofs.Called.takes as S-takes
 use Rattle.engine.proofs.images.takes.Symbol as D-takes
 use Rattle.engine.proofs.images.takes.Symbol.{name as #takes}
@@ -125,7 +126,7 @@ module _ {M : Type 1} (𝓤 : URA M) (H : Heap 𝓤) (A : Atoms 𝓤) (W : Given
   abbrev Post : Val → SProp 𝓤
   Post = walkOf 𝓤 H A f′.ended stayed (f′.clauses 𝓤 H A mem run) .post bound′
 
-  exits′ : (res′ : ℕ) (zs-numbers : List ℕ) (zs-deques : List ℕ) (zs-frames : List Frame) (zs-pool : List ℕ) (zs-work : List ℕ) → res′ < 2 ^ 32 → IsLoading (loadRead frames pool (cleared (nodesIn image) work) image) zs-numbers zs-deques zs-frames zs-pool zs-work res′ → length zs-numbers ≡ length numbers → length zs-deques ≡ length deques → length zs-frames ≡ length frames → length zs-pool ≡ length pool → length zs-work ≡ length work → ent 𝓤 (⋆ 𝓤 H A (‵ (Mine u32 κ-numbers q-numbers γ-numbers b-numbers o-numbers n-numbers zs-numbers) ∷ ‵ (Mine u32 κ-deques q-deques γ-deques b-deques o-deques n-deques zs-deques) ∷ ‵ (Mine R-Frame κ-frames q-frames γ-frames b-frames o-frames n-frames zs-frames) ∷ ‵ (Mine u32 κ-pool q-pool γ-pool b-pool o-pool n-pool zs-pool) ∷ ‵ (Mine u32 κ-work q-work γ-work b-work o-work n-work zs-work) ∷ ‵ (Yours u8 κ-image q-image γ-image b-image o-image n-image image) ∷ [])) (Post (vint w32 res′))
+  exits′ : (res′ : ℕ) (zs-numbers : List ℕ) (zs-deques : List ℕ) (zs-frames : List Frame) (zs-pool : List ℕ) (zs-work : List ℕ) → res′ < 2 ^ 32 → IsLoading (loadRead twoWords frames pool (cleared (nodesIn image) work) image) zs-numbers zs-deques zs-frames zs-pool zs-work res′ → length zs-numbers ≡ length numbers → length zs-deques ≡ length deques → length zs-frames ≡ length frames → length zs-pool ≡ length pool → length zs-work ≡ length work → ent 𝓤 (⋆ 𝓤 H A (‵ (Mine u32 κ-numbers q-numbers γ-numbers b-numbers o-numbers n-numbers zs-numbers) ∷ ‵ (Mine u32 κ-deques q-deques γ-deques b-deques o-deques n-deques zs-deques) ∷ ‵ (Mine R-Frame κ-frames q-frames γ-frames b-frames o-frames n-frames zs-frames) ∷ ‵ (Mine u32 κ-pool q-pool γ-pool b-pool o-pool n-pool zs-pool) ∷ ‵ (Mine u32 κ-work q-work γ-work b-work o-work n-work zs-work) ∷ ‵ (Yours u8 κ-image q-image γ-image b-image o-image n-image image) ∷ [])) (Post (vint w32 res′))
   exits′ res′ zs-numbers zs-deques zs-frames zs-pool zs-work good′ e′ same-numbers same-deques same-frames same-pool same-work =
       qed W (‵ (Mine u32 κ-numbers q-numbers γ-numbers b-numbers o-numbers n-numbers zs-numbers) ∷ ‵ (Mine u32 κ-deques q-deques γ-deques b-deques o-deques n-deques zs-deques) ∷ ‵ (Mine R-Frame κ-frames q-frames γ-frames b-frames o-frames n-frames zs-frames) ∷ ‵ (Mine u32 κ-pool q-pool γ-pool b-pool o-pool n-pool zs-pool) ∷ ‵ (Mine u32 κ-work q-work γ-work b-work o-work n-work zs-work) ∷ ‵ (Yours u8 κ-image q-image γ-image b-image o-image n-image image) ∷ []) ∵
       suffices ! _ (ends-at 𝓤 H A f′.ended stayed (f′.clauses 𝓤 H A mem run) W bound′ (vint w32 res′) res′ (zs-numbers, (zs-deques, (zs-frames, (zs-pool, (zs-work, (tt, tt)))))) (same-numbers, (same-deques, (same-frames, (same-pool, (same-work, (tt, tt))))))) $ says ! e′ $
@@ -137,7 +138,7 @@ module _ {M : Type 1} (𝓤 : URA M) (H : Heap 𝓤) (A : Atoms 𝓤) (W : Given
     abbrev fm : FmC 𝓤 H (W .laws) (𝓣 .C)
     fm = fmOf 𝓤 H (W .laws) 𝓣
 
-    walk : Fits (parts numbers deques frames) × (imageCheck image ≡ Good) × (nodesIn image ≤ length work) → ent 𝓤 (onEntry 𝓤 H A f′.signature (κ-numbers, (κ-deques, (κ-frames, (κ-pool, (κ-work, (κ-image, tt)))))) (q-numbers, (q-deques, (q-frames, (q-pool, (q-work, (q-image, tt)))))) args′ vals′) (WpFn 𝓤 H (𝓣 .C) (𝓣 .Λ) code.function (sliceVal (b-numbers, o-numbers) (length numbers) ∷ sliceVal (b-deques, o-deques) (length deques) ∷ sliceVal (b-frames, o-frames) (length frames) ∷ sliceVal (b-pool, o-pool) (length pool) ∷ sliceVal (b-work, o-work) (length work) ∷ sliceVal (b-image, o-image) (length image) ∷ []) Post)
+    walk : Fits (parts numbers deques frames) × (imageCheck twoWords image ≡ Good) × (nodesIn image ≤ length work) → ent 𝓤 (onEntry 𝓤 H A f′.signature (κ-numbers, (κ-deques, (κ-frames, (κ-pool, (κ-work, (κ-image, tt)))))) (q-numbers, (q-deques, (q-frames, (q-pool, (q-work, (q-image, tt)))))) args′ vals′) (WpFn 𝓤 H (𝓣 .C) (𝓣 .Λ) code.function (sliceVal (b-numbers, o-numbers) (length numbers) ∷ sliceVal (b-deques, o-deques) (length deques) ∷ sliceVal (b-frames, o-frames) (length frames) ∷ sliceVal (b-pool, o-pool) (length pool) ∷ sliceVal (b-work, o-work) (length work) ∷ sliceVal (b-image, o-image) (length image) ∷ []) Post)
     walk ok′ =
         qed W ((‵ (flft κ-numbers q-numbers) ⊛ ‵ (flft κ-deques q-deques) ⊛ ‵ (flft κ-frames q-frames) ⊛ ‵ (flft κ-pool q-pool) ⊛ ‵ (flft κ-work q-work) ⊛ ‵ (flft κ-image q-image) ⊛ ‵ ftrue) ∷ ‵ (owns (MutSlice (named 0) κ-numbers u32 ∷ MutSlice (named 1) κ-deques u32 ∷ MutSlice (named 2) κ-frames R-Frame ∷ MutSlice (named 3) κ-pool u32 ∷ MutSlice (named 4) κ-work u32 ∷ ShrSlice (named 5) κ-image u8 ∷ []) args′ vals′) ∷ []) ∵ enter ! (𝓣 .C) (𝓣 .Λ) code.function (sliceVal (b-numbers, o-numbers) (length numbers) ∷ sliceVal (b-deques, o-deques) (length deques) ∷ sliceVal (b-frames, o-frames) (length frames) ∷ sliceVal (b-pool, o-pool) (length pool) ∷ sliceVal (b-work, o-work) (length work) ∷ sliceVal (b-image, o-image) (length image) ∷ []) _ $
         alloc1 ! (λ l₀. alloc1 ! (λ l₁. alloc1 ! (λ l₂. alloc1 ! (λ l₃. alloc1 ! (λ l₄. alloc1 ! (λ l₅. alloc1 ! (λ l₆. alloc1 ! (λ l₇. alloc1 ! (λ l₈. alloc1 ! (λ l₉. alloc1 ! (λ l₁₀. alloc1 ! (λ l₁₁. alloc1 ! (λ l₁₂. alloc1 ! (λ l₁₃. alloc1 ! (λ l₁₄. alloc1 ! (λ l₁₅. alloc1 ! (λ l₁₆. alloc1 ! (λ l₁₇. alloc1 ! (λ l₁₈. alloc1 ! (λ l₁₉. alloc1 ! (λ l₂₀. alloc1 ! (λ l₂₁. alloc1 ! (λ l₂₂. alloc1 ! (λ l₂₃. alloc1 ! (λ l₂₄. alloc1 ! (λ l₂₅. alloc1 ! (λ l₂₆. alloc1 ! (λ l₂₇. alloc1 ! (λ l₂₈. alloc1 ! (λ l₂₉. alloc1 ! (λ l₃₀. alloc1 ! (λ l₃₁. alloc1 ! (λ l₃₂. alloc1 ! (λ l₃₃. alloc1 ! (λ l₃₄. alloc1 ! (λ l₃₅. alloc1 ! (λ l₃₆. alloc1 ! (λ l₃₇. alloc1 ! (λ l₃₈. alloc0 ! $ params1 ! $
@@ -217,7 +218,7 @@ module _ {M : Type 1} (𝓤 : URA M) (H : Heap 𝓤) (A : Atoms 𝓤) (W : Given
   walks known-takes known-nodes-in known-clear known-refuse-read known-read-parts known-check-read = walked 𝓤 H A f′.ended stayed (f′.clauses 𝓤 H A mem run) (WpFn 𝓤 H (𝓣 .C) (𝓣 .Λ) code.function)
       (λ κs. (slice-vals, (slice-vals, (slice-vals, (slice-vals, (slice-vals, (slice-vals, tt)))))))
       (λ κs. (mut-slice-tells (named 0) (κs .0) u32, (mut-slice-tells (named 1) (κs .1 .0) u32, (mut-slice-tells (named 2) (κs .1 .1 .0) R-Frame, (mut-slice-tells (named 3) (κs .1 .1 .1 .0) u32, (mut-slice-tells (named 4) (κs .1 .1 .1 .1 .0) u32, (shr-slice-tells (named 5) (κs .1 .1 .1 .1 .1 .0) u8, tt)))))))
-      (λ κs qs bounds a g are. needs 𝓤 (Fits (parts (a .0 .now) (a .1 .0 .now) (a .1 .1 .0 .now)) × (imageCheck (a .1 .1 .1 .1 .1 .0 .now) ≡ Good) × (nodesIn (a .1 .1 .1 .1 .1 .0 .now) ≤ length (a .1 .1 .1 .1 .0 .now))) _
+      (λ κs qs bounds a g are. needs 𝓤 (Fits (parts (a .0 .now) (a .1 .0 .now) (a .1 .1 .0 .now)) × (imageCheck twoWords (a .1 .1 .1 .1 .1 .0 .now) ≡ Good) × (nodesIn (a .1 .1 .1 .1 .1 .0 .now) ≤ length (a .1 .1 .1 .1 .0 .now))) _
       (walk 𝓤 H A W mem run (κs .0) (qs .0) (a .0 .ptr .0) (a .0 .ptr .1) (a .0 .name) (a .0 .now) (κs .1 .0) (qs .1 .0) (a .1 .0 .ptr .0) (a .1 .0 .ptr .1) (a .1 .0 .name) (a .1 .0 .now) (κs .1 .1 .0) (qs .1 .1 .0) (a .1 .1 .0 .ptr .0) (a .1 .1 .0 .ptr .1) (a .1 .1 .0 .name) (a .1 .1 .0 .now) (κs .1 .1 .1 .0) (qs .1 .1 .1 .0) (a .1 .1 .1 .0 .ptr .0) (a .1 .1 .1 .0 .ptr .1) (a .1 .1 .1 .0 .name) (a .1 .1 .1 .0 .now) (κs .1 .1 .1 .1 .0) (qs .1 .1 .1 .1 .0) (a .1 .1 .1 .1 .0 .ptr .0) (a .1 .1 .1 .1 .0 .ptr .1) (a .1 .1 .1 .1 .0 .name) (a .1 .1 .1 .1 .0 .now) (κs .1 .1 .1 .1 .1 .0) (qs .1 .1 .1 .1 .1 .0) (a .1 .1 .1 .1 .1 .0 .ptr .0) (a .1 .1 .1 .1 .1 .0 .ptr .1) (a .1 .1 .1 .1 .1 .0 .name) (a .1 .1 .1 .1 .1 .0 .now) (are .0 .0 .1) (are .1 .0 .0 .1) (are .1 .1 .0 .0 .1) (are .1 .1 .1 .0 .0 .1) (are .1 .1 .1 .1 .0 .0 .1) (are .1 .1 .1 .1 .1 .0 .0 .1) 𝓣 known-takes known-nodes-in known-clear known-refuse-read known-read-parts known-check-read))
 
   meets : Triple 𝓤 (𝓣 .C #takes) (S-takes.Asked 𝓤 H A mem run) → Triple 𝓤 (𝓣 .C #nodes-in) (S-nodes-in.Asked 𝓤 H A mem run) → Triple 𝓤 (𝓣 .C #clear) (S-clear.Asked 𝓤 H A mem run) → Triple 𝓤 (𝓣 .C #refuse-read) (S-refuse-read.Asked 𝓤 H A mem run) → Triple 𝓤 (𝓣 .C #read-parts) (S-read-parts.Asked 𝓤 H A mem run) → Triple 𝓤 (𝓣 .C #check-read) (S-check-read.Asked 𝓤 H A mem run) → Meets 𝓤 H A f′.signature (WpFn 𝓤 H (𝓣 .C) (𝓣 .Λ) code.function) (f′.spec 𝓤 H A mem run)

@@ -46,6 +46,7 @@ use denote.Triple.Walked.{says, needs, Stays, stay-slice, stay-none, stay-none-s
 use borrow.Author.Needs.{scaled-fits}
 use Rattle.frames.proofs.Lent.{at-list, Mine, Yours, tyAt, exit-unless, exit-if, leave-if, fork, skipped, regroup, matched, matched-last, const, is-true, is-false, not-not, differ, widen, less-fits, after, turn-of, take-out, put-in, put-back, look-out, look-back, free-all}
 use Rattle.semantics.specs.Images.{recordsZero, nodesZero}
+use Rattle.soundness.specs.Layout.{twoWords}
 use Rattle.engine.proofs.Called.clear_frames as S-clear-frames
 use Rattle.frames.proofs.clear_frames.Symbol as D-clear-frames
 use Rattle.frames.proofs.clear_frames.Symbol.{name as #clear-frames}
@@ -96,7 +97,7 @@ module _ {M : Type 1} (𝓤 : URA M) (H : Heap 𝓤) (A : Atoms 𝓤) (W : Given
   abbrev Post : Val → SProp 𝓤
   Post = walkOf 𝓤 H A f′.ended stayed (f′.clauses 𝓤 H A mem run) .post bound′
 
-  exits′ : (res′ : ℕ) (zs-frames : List Frame) (zs-pool : List ℕ) → res′ < 2 ^ 32 → (res′ ≡ 6) × (zs-frames ≡ recordsZero frames) × (zs-pool ≡ nodesZero pool) → length zs-frames ≡ length frames → length zs-pool ≡ length pool → ent 𝓤 (⋆ 𝓤 H A (‵ (Mine R-Frame κ-frames q-frames γ-frames b-frames o-frames n-frames zs-frames) ∷ ‵ (Mine u32 κ-pool q-pool γ-pool b-pool o-pool n-pool zs-pool) ∷ [])) (Post (vint w32 res′))
+  exits′ : (res′ : ℕ) (zs-frames : List Frame) (zs-pool : List ℕ) → res′ < 2 ^ 32 → (res′ ≡ 6) × (zs-frames ≡ recordsZero frames) × (zs-pool ≡ nodesZero twoWords pool) → length zs-frames ≡ length frames → length zs-pool ≡ length pool → ent 𝓤 (⋆ 𝓤 H A (‵ (Mine R-Frame κ-frames q-frames γ-frames b-frames o-frames n-frames zs-frames) ∷ ‵ (Mine u32 κ-pool q-pool γ-pool b-pool o-pool n-pool zs-pool) ∷ [])) (Post (vint w32 res′))
   exits′ res′ zs-frames zs-pool good′ e′ same-frames same-pool =
       qed W (‵ (Mine R-Frame κ-frames q-frames γ-frames b-frames o-frames n-frames zs-frames) ∷ ‵ (Mine u32 κ-pool q-pool γ-pool b-pool o-pool n-pool zs-pool) ∷ []) ∵
       suffices ! _ (ends-at 𝓤 H A f′.ended stayed (f′.clauses 𝓤 H A mem run) W bound′ (vint w32 res′) res′ (zs-frames, (zs-pool, tt)) (same-frames, (same-pool, tt))) $ says ! e′ $

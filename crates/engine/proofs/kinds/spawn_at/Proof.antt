@@ -57,9 +57,9 @@ use Rattle.frames.proofs.frame_at.Symbol as D-frame-at
 use Rattle.frames.proofs.frame_at.Symbol.{name as #frame-at}
 use Rattle.frames.proofs.frame_at.Met as T-frame-at
 use Rattle.engine.proofs.Called.retain as S-retain
-use Rattle.pool.proofs.retain.Symbol as D-retain
-use Rattle.pool.proofs.retain.Symbol.{name as #retain}
-use Rattle.pool.proofs.retain.Met as T-retain
+use Rattle.packed.proofs.retain.Symbol as D-retain
+use Rattle.packed.proofs.retain.Symbol.{name as #retain}
+use Rattle.packed.proofs.retain.Met as T-retain
 use Rattle.engine.proofs.Called.spawn_frame as S-spawn-frame
 use Rattle.frames.proofs.spawn_frame.Symbol as D-spawn-frame
 use Rattle.frames.proofs.spawn_frame.Symbol.{name as #spawn-frame}
@@ -184,7 +184,7 @@ module _ {M : Type 1} (𝓤 : URA M) (H : Heap 𝓤) (A : Atoms 𝓤) (W : Given
         land ! (from ! (stop !)) (init ! 25 refl (LL.lawful M-Frame.the-type L-Frame.the-laws 𝓤 H A W .typed f _ f-good .0)) $
         assigns ! (addr ! (from ! (fld ! refl (hop ! (look-in ! 33 (sub ! 0 refl (whole !))) (stop !))))) (from ! (stop !)) (init ! 13 refl (tt, tt)) $
         assigns ! (agg ! (and-then ! (load ! (from ! (stop !)) (look ! 13 refl)) (and-then ! (load ! (from ! (fld ! refl (stop !))) (look-in ! 33 (sub ! 1 refl (whole !)))) (no-more !)))) (from ! (stop !)) (init ! 11 refl (tt, (tt, (record { fits = room-pool .0 }, tt)))) $
-        -- _13 = pool::refs::retain(_15, _1.0.2, _8.5)
+        -- _13 = packed::refs::retain(_15, _1.0.2, _8.5)
         move ! (2 ∷ []) $
         S-retain.step mem run ! fm known-retain b-pool o-pool n-pool pool ((h .numbers) .nodes) (f .root) ((LL.owed M-Numbers.the-type L-Numbers.the-laws (h .numbers) _ (LL.owed M-Head.the-type L-Head.the-laws h _ h-good .0) .1 .1 .0) .1) ((LL.owed M-Frame.the-type L-Frame.the-laws f _ f-good .1 .1 .1 .1 .1 .0) .1) (F.needs-5 h deques frames pool w n p (room-deques .0) (room-frames .0) (room-pool .0) w-fits n-fits p-fits ok′ (differ ((h .numbers) .«free_place») 4294967295 test-1) f f-is) (refl) room-pool
         (λ ν-0 δ-0. and-then ! (load ! (from ! (stop !)) (look ! 12 refl)) (and-then ! (load ! (from ! (fld ! refl (fld ! refl (stop !)))) (look-in ! 40 (sub ! 2 refl (sub ! 0 refl (whole !))))) (and-then ! (load ! (from ! (fld ! refl (stop !))) (look-in ! 26 (sub ! 5 refl (whole !)))) (no-more !)))) (λ pool-5 done-5 same-pool-5.
@@ -227,6 +227,6 @@ spawn-at-spec 𝓤 H 𝓜 𝓖 𝓡 =
     (meets 𝓤 H (𝓖 .A) (givenOf 𝓤 H 𝓜 𝓖) (𝓜 .mem) (𝓡 .run) (tablesOf 𝓤 H 𝓜 (tables 𝓤 H 𝓜 𝓡 code.env))
     (cited 𝓤 H (S-frames-full.Asked 𝓤 H (𝓖 .A) (𝓜 .mem) (𝓡 .run)) 𝓜 𝓡 code.env #frames-full D-frames-full.routine code.calls-engine·kinds·frames-full (T-frames-full.met 𝓤 H 𝓜 𝓖 𝓡))
     (cited 𝓤 H (S-frame-at.Asked 𝓤 H (𝓖 .A) (𝓜 .mem) (𝓡 .run)) 𝓜 𝓡 code.env #frame-at D-frame-at.routine code.calls-frames·frame-at (T-frame-at.met 𝓤 H 𝓜 𝓖 𝓡))
-    (cited 𝓤 H (S-retain.Asked 𝓤 H (𝓖 .A) (𝓜 .mem) (𝓡 .run)) 𝓜 𝓡 code.env #retain D-retain.routine code.calls-pool·retain (T-retain.met 𝓤 H 𝓜 𝓖 𝓡))
+    (cited 𝓤 H (S-retain.Asked 𝓤 H (𝓖 .A) (𝓜 .mem) (𝓡 .run)) 𝓜 𝓡 code.env #retain D-retain.routine code.calls-packed·retain (T-retain.met 𝓤 H 𝓜 𝓖 𝓡))
     (cited 𝓤 H (S-spawn-frame.Asked 𝓤 H (𝓖 .A) (𝓜 .mem) (𝓡 .run)) 𝓜 𝓡 code.env #spawn-frame D-spawn-frame.routine code.calls-frames·spawn-frame (T-spawn-frame.met 𝓤 H 𝓜 𝓖 𝓡))
     (cited 𝓤 H (S-spawned.Asked 𝓤 H (𝓖 .A) (𝓜 .mem) (𝓡 .run)) 𝓜 𝓡 code.env #spawned D-spawned.routine code.calls-engine·kinds·spawned (T-spawned.met 𝓤 H 𝓜 𝓖 𝓡)))

@@ -57,9 +57,9 @@ use Rattle.frames.proofs.frame_at.Symbol as D-frame-at
 use Rattle.frames.proofs.frame_at.Symbol.{name as #frame-at}
 use Rattle.frames.proofs.frame_at.Met as T-frame-at
 use Rattle.engine.proofs.Called.read_at as S-read-at
-use Rattle.pool.proofs.read_at.Symbol as D-read-at
-use Rattle.pool.proofs.read_at.Symbol.{name as #read-at}
-use Rattle.pool.proofs.read_at.Met as T-read-at
+use Rattle.packed.proofs.read_at.Symbol as D-read-at
+use Rattle.packed.proofs.read_at.Symbol.{name as #read-at}
+use Rattle.packed.proofs.read_at.Met as T-read-at
 use Rattle.engine.proofs.Called.unchanged as S-unchanged
 use Rattle.engine.proofs.kinds.unchanged.Symbol as D-unchanged
 use Rattle.engine.proofs.kinds.unchanged.Symbol.{name as #unchanged}
@@ -181,7 +181,7 @@ module _ {M : Type 1} (𝓤 : URA M) (H : Heap 𝓤) (A : Atoms 𝓤) (W : Given
         assigns ! (of-opd ! (load ! (from ! (fld ! refl (stop !))) (look-in ! 11 (sub ! 5 refl (whole !))))) (from ! (stop !)) (init ! 17 refl (tt, record { fits = ((LL.owed M-Frame.the-type L-Frame.the-laws r-4 _ r-4-good .1 .1 .1 .1 .1 .0) .1) })) $
         assigns ! (addr ! (from ! (fld ! refl (hop ! (look-in ! 27 (sub ! 0 refl (whole !))) (stop !))))) (from ! (stop !)) (init ! 5 refl (tt, tt)) $
         assigns ! (agg ! (and-then ! (load ! (from ! (stop !)) (look ! 5 refl)) (and-then ! (load ! (from ! (fld ! refl (stop !))) (look-in ! 27 (sub ! 1 refl (whole !)))) (no-more !)))) (from ! (stop !)) (init ! 3 refl (tt, (tt, (record { fits = room-pool .0 }, tt)))) $
-        -- _10 = pool::tree::read_at(_16, _1.0.2, _1.1, _9, _8)
+        -- _10 = packed::tree::read_at(_16, _1.0.2, _1.1, _9, _8)
         move ! (2 ∷ []) $
         S-read-at.step-s mem run ! fm known-read-at b-pool o-pool n-pool pool ((h .numbers) .nodes) (h .height) (r-4 .root) x ((LL.owed M-Numbers.the-type L-Numbers.the-laws (h .numbers) _ (LL.owed M-Head.the-type L-Head.the-laws h _ h-good .0) .1 .1 .0) .1) ((LL.owed M-Head.the-type L-Head.the-laws h _ h-good .1 .0) .1) ((LL.owed M-Frame.the-type L-Frame.the-laws r-4 _ r-4-good .1 .1 .1 .1 .1 .0) .1) x-fits (F.needs-5 h deques frames pool w n p x (room-deques .0) (room-frames .0) (room-pool .0) w-fits n-fits p-fits x-fits ok′ (nleb→lt ((h .numbers) .splitters) x test-1) r-4 r-4-is) (refl) room-pool
         (λ ν-0 δ-0. and-then ! (load ! (from ! (stop !)) (look ! 4 refl)) (and-then ! (load ! (from ! (fld ! refl (fld ! refl (stop !)))) (look-in ! 34 (sub ! 2 refl (sub ! 0 refl (whole !))))) (and-then ! (load ! (from ! (fld ! refl (stop !))) (look-in ! 34 (sub ! 1 refl (whole !)))) (and-then ! (load ! (from ! (stop !)) (look ! 18 refl)) (and-then ! (load ! (from ! (stop !)) (look ! 20 refl)) (no-more !)))))) (λ value value-fits value-is.
@@ -216,5 +216,5 @@ value-at-spec 𝓤 H 𝓜 𝓖 𝓡 =
     (meets 𝓤 H (𝓖 .A) (givenOf 𝓤 H 𝓜 𝓖) (𝓜 .mem) (𝓡 .run) (tablesOf 𝓤 H 𝓜 (tables 𝓤 H 𝓜 𝓡 code.env))
     (cited 𝓤 H (S-no-splitter.Asked 𝓤 H (𝓖 .A) (𝓜 .mem) (𝓡 .run)) 𝓜 𝓡 code.env #no-splitter D-no-splitter.routine code.calls-engine·kinds·no-splitter (T-no-splitter.met 𝓤 H 𝓜 𝓖 𝓡))
     (cited 𝓤 H (S-frame-at.Asked 𝓤 H (𝓖 .A) (𝓜 .mem) (𝓡 .run)) 𝓜 𝓡 code.env #frame-at D-frame-at.routine code.calls-frames·frame-at (T-frame-at.met 𝓤 H 𝓜 𝓖 𝓡))
-    (cited 𝓤 H (S-read-at.Asked 𝓤 H (𝓖 .A) (𝓜 .mem) (𝓡 .run)) 𝓜 𝓡 code.env #read-at D-read-at.routine code.calls-pool·read-at (T-read-at.met 𝓤 H 𝓜 𝓖 𝓡))
+    (cited 𝓤 H (S-read-at.Asked 𝓤 H (𝓖 .A) (𝓜 .mem) (𝓡 .run)) 𝓜 𝓡 code.env #read-at D-read-at.routine code.calls-packed·read-at (T-read-at.met 𝓤 H 𝓜 𝓖 𝓡))
     (cited 𝓤 H (S-unchanged.Asked 𝓤 H (𝓖 .A) (𝓜 .mem) (𝓡 .run)) 𝓜 𝓡 code.env #unchanged D-unchanged.routine code.calls-engine·kinds·unchanged (T-unchanged.met 𝓤 H 𝓜 𝓖 𝓡)))

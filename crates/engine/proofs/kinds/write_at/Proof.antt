@@ -57,13 +57,13 @@ use Rattle.frames.proofs.frame_at.Symbol as D-frame-at
 use Rattle.frames.proofs.frame_at.Symbol.{name as #frame-at}
 use Rattle.frames.proofs.frame_at.Met as T-frame-at
 use Rattle.engine.proofs.Called.first_shared as S-first-shared
-use Rattle.pool.proofs.first_shared.Symbol as D-first-shared
-use Rattle.pool.proofs.first_shared.Symbol.{name as #first-shared}
-use Rattle.pool.proofs.first_shared.Met as T-first-shared
+use Rattle.packed.proofs.first_shared.Symbol as D-first-shared
+use Rattle.packed.proofs.first_shared.Symbol.{name as #first-shared}
+use Rattle.packed.proofs.first_shared.Met as T-first-shared
 use Rattle.engine.proofs.Called.set_value as S-set-value
-use Rattle.pool.proofs.set_value.Symbol as D-set-value
-use Rattle.pool.proofs.set_value.Symbol.{name as #set-value}
-use Rattle.pool.proofs.set_value.Met as T-set-value
+use Rattle.packed.proofs.set_value.Symbol as D-set-value
+use Rattle.packed.proofs.set_value.Symbol.{name as #set-value}
+use Rattle.packed.proofs.set_value.Met as T-set-value
 use Rattle.engine.proofs.Called.unchanged as S-unchanged
 use Rattle.engine.proofs.kinds.unchanged.Symbol as D-unchanged
 use Rattle.engine.proofs.kinds.unchanged.Symbol.{name as #unchanged}
@@ -73,9 +73,9 @@ use Rattle.engine.proofs.kinds.pool_full.Symbol as D-pool-full
 use Rattle.engine.proofs.kinds.pool_full.Symbol.{name as #pool-full}
 use Rattle.engine.proofs.kinds.pool_full.Met as T-pool-full
 use Rattle.engine.proofs.Called.write_shared as S-write-shared
-use Rattle.pool.proofs.write_shared.Symbol as D-write-shared
-use Rattle.pool.proofs.write_shared.Symbol.{name as #write-shared}
-use Rattle.pool.proofs.write_shared.Met as T-write-shared
+use Rattle.packed.proofs.write_shared.Symbol as D-write-shared
+use Rattle.packed.proofs.write_shared.Symbol.{name as #write-shared}
+use Rattle.packed.proofs.write_shared.Met as T-write-shared
 use Rattle.engine.proofs.Called.with_root as S-with-root
 use Rattle.frames.proofs.with_root.Symbol as D-with-root
 use Rattle.frames.proofs.with_root.Symbol.{name as #with-root}
@@ -108,12 +108,12 @@ use Rattle.soundness.specs.declared.Numbers.{Numbers}
 use Rattle.reducers.proofs.View as M-View
 use Rattle.reducers.proofs.View.Laws as L-View
 use Rattle.reducers.specs.declared.View.{View}
-use Rattle.pool.proofs.tree.FirstShared as M-FirstShared
-use Rattle.pool.proofs.tree.FirstShared.Laws as L-FirstShared
-use Rattle.pool.specs.declared.tree.FirstShared.{FirstShared}
-use Rattle.pool.proofs.tree.Written as M-Written
-use Rattle.pool.proofs.tree.Written.Laws as L-Written
-use Rattle.pool.specs.declared.tree.Written.{Written}
+use Rattle.packed.proofs.tree.FirstShared as M-FirstShared
+use Rattle.packed.proofs.tree.FirstShared.Laws as L-FirstShared
+use Rattle.packed.specs.declared.tree.FirstShared.{FirstShared}
+use Rattle.packed.proofs.tree.Written as M-Written
+use Rattle.packed.proofs.tree.Written.Laws as L-Written
+use Rattle.packed.specs.declared.tree.Written.{Written}
 
 abbrev R-Head : RattleType
 R-Head = M-Head.the-row
@@ -223,7 +223,7 @@ module _ {M : Type 1} (𝓤 : URA M) (H : Heap 𝓤) (A : Atoms 𝓤) (W : Given
         assigns ! (of-opd ! (load ! (from ! (fld ! refl (stop !))) (look-in ! 31 (sub ! 5 refl (whole !))))) (from ! (stop !)) (init ! 41 refl (tt, record { fits = ((LL.owed M-Frame.the-type L-Frame.the-laws r-4 _ r-4-good .1 .1 .1 .1 .1 .0) .1) })) $
         assigns ! (addr ! (from ! (fld ! refl (hop ! (look-in ! 53 (sub ! 0 refl (whole !))) (stop !))))) (from ! (stop !)) (init ! 25 refl (tt, tt)) $
         assigns ! (agg ! (and-then ! (load ! (from ! (stop !)) (look ! 25 refl)) (and-then ! (load ! (from ! (fld ! refl (stop !))) (look-in ! 53 (sub ! 1 refl (whole !)))) (no-more !)))) (from ! (stop !)) (init ! 23 refl (tt, (tt, (record { fits = room-pool .0 }, tt)))) $
-        -- _11 = pool::tree::first_shared(_19, _1.0.2, _1.1, _10, _8)
+        -- _11 = packed::tree::first_shared(_19, _1.0.2, _1.1, _10, _8)
         move ! (2 ∷ []) $
         S-first-shared.step-s mem run ! fm known-first-shared b-pool o-pool n-pool pool ((h .numbers) .nodes) (h .height) (r-4 .root) x ((LL.owed M-Numbers.the-type L-Numbers.the-laws (h .numbers) _ (LL.owed M-Head.the-type L-Head.the-laws h _ h-good .0) .1 .1 .0) .1) ((LL.owed M-Head.the-type L-Head.the-laws h _ h-good .1 .0) .1) ((LL.owed M-Frame.the-type L-Frame.the-laws r-4 _ r-4-good .1 .1 .1 .1 .1 .0) .1) x-fits (F.needs-5 h deques frames pool w n p x v (room-deques .0) (room-frames .0) (room-pool .0) w-fits n-fits p-fits x-fits v-fits ok′ (nleb→lt ((h .numbers) .splitters) x test-1) r-4 r-4-is) (refl) room-pool
         (λ ν-0 δ-0. and-then ! (load ! (from ! (stop !)) (look ! 24 refl)) (and-then ! (load ! (from ! (fld ! refl (fld ! refl (stop !)))) (look-in ! 60 (sub ! 2 refl (sub ! 0 refl (whole !))))) (and-then ! (load ! (from ! (fld ! refl (stop !))) (look-in ! 60 (sub ! 1 refl (whole !)))) (and-then ! (load ! (from ! (stop !)) (look ! 42 refl)) (and-then ! (load ! (from ! (stop !)) (look ! 46 refl)) (no-more !)))))) (λ found found-good found-is.
@@ -233,9 +233,9 @@ module _ {M : Type 1} (𝓤 : URA M) (H : Heap 𝓤) (A : Atoms 𝓤) (W : Given
         (λ test-6.
         assigns ! (addr ! (from ! (fld ! refl (hop ! (look-in ! 53 (sub ! 0 refl (whole !))) (stop !))))) (from ! (stop !)) (init ! 19 refl (tt, tt)) $
         assigns ! (agg ! (and-then ! (load ! (from ! (stop !)) (look ! 19 refl)) (and-then ! (load ! (from ! (fld ! refl (stop !))) (look-in ! 53 (sub ! 1 refl (whole !)))) (no-more !)))) (from ! (stop !)) (init ! 17 refl (tt, (tt, (record { fits = room-pool .0 }, tt)))) $
-        -- _20 = pool::tree::set_value(_22, _11.2, _9)
-        S-set-value.step mem run ! fm known-set-value b-pool o-pool n-pool pool (found .at) v ((LL.owed M-FirstShared.the-type L-FirstShared.the-laws found _ found-good .1 .1 .0) .1) v-fits (F.needs-7 h deques frames pool w n p x v (room-deques .0) (room-frames .0) (room-pool .0) w-fits n-fits p-fits x-fits v-fits ok′ (nleb→lt ((h .numbers) .splitters) x test-1) r-4 r-4-is found found-is (is-false (found .shared) test-6)) (refl) room-pool
-        (λ ν-0 δ-0. and-then ! (load ! (from ! (stop !)) (look ! 18 refl)) (and-then ! (load ! (from ! (fld ! refl (stop !))) (look-in ! 40 (sub ! 2 refl (whole !)))) (and-then ! (load ! (from ! (stop !)) (look ! 44 refl)) (no-more !)))) (λ pool-7 done-7 same-pool-7.
+        -- _20 = packed::tree::set_value(_22, _1.0.2, _11.2, _9)
+        S-set-value.step mem run ! fm known-set-value b-pool o-pool n-pool pool ((h .numbers) .nodes) (found .node) v ((LL.owed M-Numbers.the-type L-Numbers.the-laws (h .numbers) _ (LL.owed M-Head.the-type L-Head.the-laws h _ h-good .0) .1 .1 .0) .1) ((LL.owed M-FirstShared.the-type L-FirstShared.the-laws found _ found-good .1 .1 .0) .1) v-fits (F.needs-7 h deques frames pool w n p x v (room-deques .0) (room-frames .0) (room-pool .0) w-fits n-fits p-fits x-fits v-fits ok′ (nleb→lt ((h .numbers) .splitters) x test-1) r-4 r-4-is found found-is (is-false (found .shared) test-6)) (refl) room-pool
+        (λ ν-0 δ-0. and-then ! (load ! (from ! (stop !)) (look ! 18 refl)) (and-then ! (load ! (from ! (fld ! refl (fld ! refl (stop !)))) (look-in ! 60 (sub ! 2 refl (sub ! 0 refl (whole !))))) (and-then ! (load ! (from ! (fld ! refl (stop !))) (look-in ! 40 (sub ! 2 refl (whole !)))) (and-then ! (load ! (from ! (stop !)) (look ! 44 refl)) (no-more !))))) (λ pool-7 done-7 same-pool-7.
         land ! (from ! (stop !)) (init ! 21 refl (tt, tt)) $
         -- _0 = engine::kinds::unchanged(_1, 106, _1.2)
         S-unchanged.step mem run ! fm known-unchanged h 106 (h .«free_count») h-good (lit< tt) ((LL.owed M-Head.the-type L-Head.the-laws h _ h-good .1 .1 .0) .1)
@@ -260,7 +260,7 @@ module _ {M : Type 1} (𝓤 : URA M) (H : Heap 𝓤) (A : Atoms 𝓤) (W : Given
         (λ test-10.
         assigns ! (addr ! (from ! (fld ! refl (hop ! (look-in ! 53 (sub ! 0 refl (whole !))) (stop !))))) (from ! (stop !)) (init ! 15 refl (tt, tt)) $
         assigns ! (agg ! (and-then ! (load ! (from ! (stop !)) (look ! 15 refl)) (and-then ! (load ! (from ! (fld ! refl (stop !))) (look-in ! 53 (sub ! 1 refl (whole !)))) (no-more !)))) (from ! (stop !)) (init ! 13 refl (tt, (tt, (record { fits = room-pool .0 }, tt)))) $
-        -- _12 = pool::tree::write_shared(_24, _1.0.2, _1.1, _1.0.3, _1.2, _10, _8, _9, _11)
+        -- _12 = packed::tree::write_shared(_24, _1.0.2, _1.1, _1.0.3, _1.2, _10, _8, _9, _11)
         S-write-shared.step mem run ! fm known-write-shared b-pool o-pool n-pool pool ((h .numbers) .nodes) (h .height) ((h .numbers) .«free_node») (h .«free_count») (r-4 .root) x v found ((LL.owed M-Numbers.the-type L-Numbers.the-laws (h .numbers) _ (LL.owed M-Head.the-type L-Head.the-laws h _ h-good .0) .1 .1 .0) .1) ((LL.owed M-Head.the-type L-Head.the-laws h _ h-good .1 .0) .1) ((LL.owed M-Numbers.the-type L-Numbers.the-laws (h .numbers) _ (LL.owed M-Head.the-type L-Head.the-laws h _ h-good .0) .1 .1 .1 .0) .1) ((LL.owed M-Head.the-type L-Head.the-laws h _ h-good .1 .1 .0) .1) ((LL.owed M-Frame.the-type L-Frame.the-laws r-4 _ r-4-good .1 .1 .1 .1 .1 .0) .1) x-fits v-fits found-good (F.needs-13 h deques frames pool w n p x v (room-deques .0) (room-frames .0) (room-pool .0) w-fits n-fits p-fits x-fits v-fits ok′ (nleb→lt ((h .numbers) .splitters) x test-1) r-4 r-4-is found found-is (is-true (found .shared) (not-not (found .shared) test-6)) (nleb→lt (h .«free_count») (found .level) test-10)) (refl) room-pool
         (λ ν-0 δ-0. and-then ! (load ! (from ! (stop !)) (look ! 14 refl)) (and-then ! (load ! (from ! (fld ! refl (fld ! refl (stop !)))) (look-in ! 60 (sub ! 2 refl (sub ! 0 refl (whole !))))) (and-then ! (load ! (from ! (fld ! refl (stop !))) (look-in ! 60 (sub ! 1 refl (whole !)))) (and-then ! (load ! (from ! (fld ! refl (fld ! refl (stop !)))) (look-in ! 60 (sub ! 3 refl (sub ! 0 refl (whole !))))) (and-then ! (load ! (from ! (fld ! refl (stop !))) (look-in ! 60 (sub ! 2 refl (whole !)))) (and-then ! (load ! (from ! (stop !)) (look ! 42 refl)) (and-then ! (load ! (from ! (stop !)) (look ! 46 refl)) (and-then ! (load ! (from ! (stop !)) (look ! 44 refl)) (and-then ! (load ! (from ! (stop !)) (look ! 40 refl)) (no-more !)))))))))) (λ new pool-13 new-good new-is same-pool-13.
         land ! (from ! (stop !)) (init ! 37 refl (LL.lawful M-Written.the-type L-Written.the-laws 𝓤 H A W .typed new _ new-good .0)) $
@@ -311,11 +311,11 @@ write-at-spec 𝓤 H 𝓜 𝓖 𝓡 =
     (meets 𝓤 H (𝓖 .A) (givenOf 𝓤 H 𝓜 𝓖) (𝓜 .mem) (𝓡 .run) (tablesOf 𝓤 H 𝓜 (tables 𝓤 H 𝓜 𝓡 code.env))
     (cited 𝓤 H (S-no-splitter.Asked 𝓤 H (𝓖 .A) (𝓜 .mem) (𝓡 .run)) 𝓜 𝓡 code.env #no-splitter D-no-splitter.routine code.calls-engine·kinds·no-splitter (T-no-splitter.met 𝓤 H 𝓜 𝓖 𝓡))
     (cited 𝓤 H (S-frame-at.Asked 𝓤 H (𝓖 .A) (𝓜 .mem) (𝓡 .run)) 𝓜 𝓡 code.env #frame-at D-frame-at.routine code.calls-frames·frame-at (T-frame-at.met 𝓤 H 𝓜 𝓖 𝓡))
-    (cited 𝓤 H (S-first-shared.Asked 𝓤 H (𝓖 .A) (𝓜 .mem) (𝓡 .run)) 𝓜 𝓡 code.env #first-shared D-first-shared.routine code.calls-pool·first-shared (T-first-shared.met 𝓤 H 𝓜 𝓖 𝓡))
-    (cited 𝓤 H (S-set-value.Asked 𝓤 H (𝓖 .A) (𝓜 .mem) (𝓡 .run)) 𝓜 𝓡 code.env #set-value D-set-value.routine code.calls-pool·set-value (T-set-value.met 𝓤 H 𝓜 𝓖 𝓡))
+    (cited 𝓤 H (S-first-shared.Asked 𝓤 H (𝓖 .A) (𝓜 .mem) (𝓡 .run)) 𝓜 𝓡 code.env #first-shared D-first-shared.routine code.calls-packed·first-shared (T-first-shared.met 𝓤 H 𝓜 𝓖 𝓡))
+    (cited 𝓤 H (S-set-value.Asked 𝓤 H (𝓖 .A) (𝓜 .mem) (𝓡 .run)) 𝓜 𝓡 code.env #set-value D-set-value.routine code.calls-packed·set-value (T-set-value.met 𝓤 H 𝓜 𝓖 𝓡))
     (cited 𝓤 H (S-unchanged.Asked 𝓤 H (𝓖 .A) (𝓜 .mem) (𝓡 .run)) 𝓜 𝓡 code.env #unchanged D-unchanged.routine code.calls-engine·kinds·unchanged (T-unchanged.met 𝓤 H 𝓜 𝓖 𝓡))
     (cited 𝓤 H (S-pool-full.Asked 𝓤 H (𝓖 .A) (𝓜 .mem) (𝓡 .run)) 𝓜 𝓡 code.env #pool-full D-pool-full.routine code.calls-engine·kinds·pool-full (T-pool-full.met 𝓤 H 𝓜 𝓖 𝓡))
-    (cited 𝓤 H (S-write-shared.Asked 𝓤 H (𝓖 .A) (𝓜 .mem) (𝓡 .run)) 𝓜 𝓡 code.env #write-shared D-write-shared.routine code.calls-pool·write-shared (T-write-shared.met 𝓤 H 𝓜 𝓖 𝓡))
+    (cited 𝓤 H (S-write-shared.Asked 𝓤 H (𝓖 .A) (𝓜 .mem) (𝓡 .run)) 𝓜 𝓡 code.env #write-shared D-write-shared.routine code.calls-packed·write-shared (T-write-shared.met 𝓤 H 𝓜 𝓖 𝓡))
     (cited 𝓤 H (S-with-root.Asked 𝓤 H (𝓖 .A) (𝓜 .mem) (𝓡 .run)) 𝓜 𝓡 code.env #with-root D-with-root.routine code.calls-frames·with-root (T-with-root.met 𝓤 H 𝓜 𝓖 𝓡))
     (cited 𝓤 H (S-put-frame.Asked 𝓤 H (𝓖 .A) (𝓜 .mem) (𝓡 .run)) 𝓜 𝓡 code.env #put-frame D-put-frame.routine code.calls-frames·put-frame (T-put-frame.met 𝓤 H 𝓜 𝓖 𝓡))
     (cited 𝓤 H (S-written.Asked 𝓤 H (𝓖 .A) (𝓜 .mem) (𝓡 .run)) 𝓜 𝓡 code.env #written D-written.routine code.calls-engine·kinds·written (T-written.met 𝓤 H 𝓜 𝓖 𝓡)))

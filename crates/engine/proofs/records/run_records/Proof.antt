@@ -83,6 +83,7 @@ use Rattle.soundness.specs.declared.Numbers.{Numbers}
 use Rattle.engine.proofs.Out as M-Out
 use Rattle.engine.proofs.Out.Laws as L-Out
 use Rattle.engine.specs.declared.Out.{Out}
+use Rattle.soundness.specs.Layout.{twoWords}
 
 abbrev R-Head : RattleType
 R-Head = M-Head.the-row
@@ -122,7 +123,7 @@ abbrev rest′ : Code
 rest′ = after 6 (code.function .body)
 
 -- where a turn of the loop begins
-record State′ (h : Head) (numbers : List ℕ) (deques : List ℕ) (frames : List Frame) (pool : List ℕ) (tape : List ℕ) (answers : List ℕ) (from′ : ℕ) (to : ℕ) (numbers-fits : length numbers < 2 ^ 64) (deques-fits : length deques < 2 ^ 64) (frames-fits : length frames < 2 ^ 64) (pool-fits : length pool < 2 ^ 64) (tape-fits : length tape < 2 ^ 64) (answers-fits : length answers < 2 ^ 64) (from′-fits : from′ < 2 ^ 64) (to-fits : to < 2 ^ 64) (ok : (length numbers ≡ numberCount) × Kept (core h (totalsIn numbers) deques frames pool) × (2 * (length tape / 8) ≤ length answers) × (from′ ≤ to) × (to ≤ length tape / 8)) : Type 0 where
+record State′ (h : Head) (numbers : List ℕ) (deques : List ℕ) (frames : List Frame) (pool : List ℕ) (tape : List ℕ) (answers : List ℕ) (from′ : ℕ) (to : ℕ) (numbers-fits : length numbers < 2 ^ 64) (deques-fits : length deques < 2 ^ 64) (frames-fits : length frames < 2 ^ 64) (pool-fits : length pool < 2 ^ 64) (tape-fits : length tape < 2 ^ 64) (answers-fits : length answers < 2 ^ 64) (from′-fits : from′ < 2 ^ 64) (to-fits : to < 2 ^ 64) (ok : (length numbers ≡ numberCount) × Kept twoWords (core h (totalsIn numbers) deques frames pool) × (2 * (length tape / 8) ≤ length answers) × (from′ ≤ to) × (to ≤ length tape / 8)) : Type 0 where
   v-free-node : ℕ
   g-free-node : v-free-node < 2 ^ 32
   v-free-place : ℕ
@@ -177,7 +178,7 @@ module _ {M : Type 1} (𝓤 : URA M) (H : Heap 𝓤) (A : Atoms 𝓤) (W : Given
   abbrev Post : Val → SProp 𝓤
   Post = walkOf 𝓤 H A f′.ended stayed (f′.clauses 𝓤 H A mem run) .post bound′
 
-  exits′ : (res′ : Head) (zs-numbers : List ℕ) (zs-deques : List ℕ) (zs-frames : List Frame) (zs-pool : List ℕ) (zs-answers : List ℕ) → Is R-Head res′ (val-Head res′ ∷ []) → (numbersIn zs-numbers ≡ numbersIn numbers) × (recordsResult (core res′ (totalsIn zs-numbers) zs-deques zs-frames zs-pool) zs-answers ≡ runOn (recordsResult (core h (totalsIn numbers) deques frames pool) answers) (2 * from′) (recordsFrom (to - from′) tape (8 * from′))) × (res′ ≡ renewed h (res′ .numbers .«free_node») (res′ .numbers .«free_place») (res′ .«free_count»)) → length zs-numbers ≡ length numbers → length zs-deques ≡ length deques → length zs-frames ≡ length frames → length zs-pool ≡ length pool → length zs-answers ≡ length answers → ent 𝓤 (⋆ 𝓤 H A (‵ (Mine u32 κ-numbers q-numbers γ-numbers b-numbers o-numbers n-numbers zs-numbers) ∷ ‵ (Mine u32 κ-deques q-deques γ-deques b-deques o-deques n-deques zs-deques) ∷ ‵ (Mine R-Frame κ-frames q-frames γ-frames b-frames o-frames n-frames zs-frames) ∷ ‵ (Mine u32 κ-pool q-pool γ-pool b-pool o-pool n-pool zs-pool) ∷ ‵ (Yours u8 κ-tape q-tape γ-tape b-tape o-tape n-tape tape) ∷ ‵ (Mine u32 κ-answers q-answers γ-answers b-answers o-answers n-answers zs-answers) ∷ [])) (Post (val-Head res′))
+  exits′ : (res′ : Head) (zs-numbers : List ℕ) (zs-deques : List ℕ) (zs-frames : List Frame) (zs-pool : List ℕ) (zs-answers : List ℕ) → Is R-Head res′ (val-Head res′ ∷ []) → (numbersIn zs-numbers ≡ numbersIn numbers) × (recordsResult (core res′ (totalsIn zs-numbers) zs-deques zs-frames zs-pool) zs-answers ≡ runOn twoWords (recordsResult (core h (totalsIn numbers) deques frames pool) answers) (2 * from′) (recordsFrom (to - from′) tape (8 * from′))) × (res′ ≡ renewed h (res′ .numbers .«free_node») (res′ .numbers .«free_place») (res′ .«free_count»)) → length zs-numbers ≡ length numbers → length zs-deques ≡ length deques → length zs-frames ≡ length frames → length zs-pool ≡ length pool → length zs-answers ≡ length answers → ent 𝓤 (⋆ 𝓤 H A (‵ (Mine u32 κ-numbers q-numbers γ-numbers b-numbers o-numbers n-numbers zs-numbers) ∷ ‵ (Mine u32 κ-deques q-deques γ-deques b-deques o-deques n-deques zs-deques) ∷ ‵ (Mine R-Frame κ-frames q-frames γ-frames b-frames o-frames n-frames zs-frames) ∷ ‵ (Mine u32 κ-pool q-pool γ-pool b-pool o-pool n-pool zs-pool) ∷ ‵ (Yours u8 κ-tape q-tape γ-tape b-tape o-tape n-tape tape) ∷ ‵ (Mine u32 κ-answers q-answers γ-answers b-answers o-answers n-answers zs-answers) ∷ [])) (Post (val-Head res′))
   exits′ res′ zs-numbers zs-deques zs-frames zs-pool zs-answers good′ e′ same-numbers same-deques same-frames same-pool same-answers =
       qed W (‵ (Mine u32 κ-numbers q-numbers γ-numbers b-numbers o-numbers n-numbers zs-numbers) ∷ ‵ (Mine u32 κ-deques q-deques γ-deques b-deques o-deques n-deques zs-deques) ∷ ‵ (Mine R-Frame κ-frames q-frames γ-frames b-frames o-frames n-frames zs-frames) ∷ ‵ (Mine u32 κ-pool q-pool γ-pool b-pool o-pool n-pool zs-pool) ∷ ‵ (Yours u8 κ-tape q-tape γ-tape b-tape o-tape n-tape tape) ∷ ‵ (Mine u32 κ-answers q-answers γ-answers b-answers o-answers n-answers zs-answers) ∷ []) ∵
       suffices ! _ (ends-at 𝓤 H A f′.ended stayed (f′.clauses 𝓤 H A mem run) W bound′ (val-Head res′) res′ (tt, (zs-numbers, (zs-deques, (zs-frames, (zs-pool, (tt, (zs-answers, (tt, (tt, tt))))))))) (tt, (same-numbers, (same-deques, (same-frames, (same-pool, (tt, (same-answers, (tt, (tt, tt)))))))))) $ says ! e′ $
@@ -189,7 +190,7 @@ module _ {M : Type 1} (𝓤 : URA M) (H : Heap 𝓤) (A : Atoms 𝓤) (W : Given
     abbrev fm : FmC 𝓤 H (W .laws) (𝓣 .C)
     fm = fmOf 𝓤 H (W .laws) 𝓣
 
-    module _ (ok′ : (length numbers ≡ numberCount) × Kept (core h (totalsIn numbers) deques frames pool) × (2 * (length tape / 8) ≤ length answers) × (from′ ≤ to) × (to ≤ length tape / 8)) (l₀ l₁ l₂ l₃ l₄ l₅ l₆ l₇ l₈ l₉ l₁₀ l₁₁ l₁₂ l₁₃ l₁₄ l₁₅ l₁₆ l₁₇ l₁₈ l₁₉ l₂₀ l₂₁ l₂₂ l₂₃ l₂₄ l₂₅ l₂₆ l₂₇ l₂₈ l₂₉ : ℕ) where
+    module _ (ok′ : (length numbers ≡ numberCount) × Kept twoWords (core h (totalsIn numbers) deques frames pool) × (2 * (length tape / 8) ≤ length answers) × (from′ ≤ to) × (to ≤ length tape / 8)) (l₀ l₁ l₂ l₃ l₄ l₅ l₆ l₇ l₈ l₉ l₁₀ l₁₁ l₁₂ l₁₃ l₁₄ l₁₅ l₁₆ l₁₇ l₁₈ l₁₉ l₂₀ l₂₁ l₂₂ l₂₃ l₂₄ l₂₅ l₂₆ l₂₇ l₂₈ l₂₉ : ℕ) where
       abbrev S′ : Type 0
       S′ = State′ h numbers deques frames pool tape answers from′ to (room-numbers .0) (room-deques .0) (room-frames .0) (room-pool .0) (room-tape .0) (room-answers .0) from′-fits to-fits ok′
 
@@ -263,7 +264,7 @@ module _ {M : Type 1} (𝓤 : URA M) (H : Heap 𝓤) (A : Atoms 𝓤) (W : Given
       unfolding afterTurn
       loop′ = loops ! 𝓣 Less′ less-wf Inv′ (λ s′. turn′ (s′ .v-free-node) (s′ .v-free-place) (s′ .v-free-count) (s′ .v-i) (s′ .v-more) (s′ .l-numbers) (s′ .l-deques) (s′ .l-frames) (s′ .l-pool) (s′ .l-answers) (s′ .g-free-node) (s′ .g-free-place) (s′ .g-free-count) (s′ .g-i) (s′ .g-more) (s′ .s-numbers) (s′ .s-deques) (s′ .s-frames) (s′ .s-pool) (s′ .s-answers) (s′ .holds)) (record { v-free-node = ((h .numbers) .«free_node»); g-free-node = ((LL.owed M-Numbers.the-type L-Numbers.the-laws (h .numbers) _ (LL.owed M-Head.the-type L-Head.the-laws h _ h-good .0) .1 .1 .1 .0) .1); v-free-place = ((h .numbers) .«free_place»); g-free-place = ((LL.owed M-Numbers.the-type L-Numbers.the-laws (h .numbers) _ (LL.owed M-Head.the-type L-Head.the-laws h _ h-good .0) .1 .1 .1 .1 .0) .1); v-free-count = (h .«free_count»); g-free-count = ((LL.owed M-Head.the-type L-Head.the-laws h _ h-good .1 .1 .0) .1); v-i = from′; g-i = from′-fits; v-more = (to - from′); g-more = (less-fits to from′ (2 ^ 64) to-fits); l-numbers = numbers; s-numbers = refl; l-deques = deques; s-deques = refl; l-frames = frames; s-frames = refl; l-pool = pool; s-pool = refl; l-answers = answers; s-answers = refl; holds = (F.begins h numbers deques frames pool tape answers from′ to (room-numbers .0) (room-deques .0) (room-frames .0) (room-pool .0) (room-tape .0) (room-answers .0) from′-fits to-fits ok′) })
 
-    walk : (length numbers ≡ numberCount) × Kept (core h (totalsIn numbers) deques frames pool) × (2 * (length tape / 8) ≤ length answers) × (from′ ≤ to) × (to ≤ length tape / 8) → ent 𝓤 (onEntry 𝓤 H A f′.signature (κ-numbers, (κ-deques, (κ-frames, (κ-pool, (κ-tape, (κ-answers, tt)))))) (q-numbers, (q-deques, (q-frames, (q-pool, (q-tape, (q-answers, tt)))))) args′ vals′) (WpFn 𝓤 H (𝓣 .C) (𝓣 .Λ) code.function (val-Head h ∷ sliceVal (b-numbers, o-numbers) (length numbers) ∷ sliceVal (b-deques, o-deques) (length deques) ∷ sliceVal (b-frames, o-frames) (length frames) ∷ sliceVal (b-pool, o-pool) (length pool) ∷ sliceVal (b-tape, o-tape) (length tape) ∷ sliceVal (b-answers, o-answers) (length answers) ∷ vint w64 from′ ∷ vint w64 to ∷ []) Post)
+    walk : (length numbers ≡ numberCount) × Kept twoWords (core h (totalsIn numbers) deques frames pool) × (2 * (length tape / 8) ≤ length answers) × (from′ ≤ to) × (to ≤ length tape / 8) → ent 𝓤 (onEntry 𝓤 H A f′.signature (κ-numbers, (κ-deques, (κ-frames, (κ-pool, (κ-tape, (κ-answers, tt)))))) (q-numbers, (q-deques, (q-frames, (q-pool, (q-tape, (q-answers, tt)))))) args′ vals′) (WpFn 𝓤 H (𝓣 .C) (𝓣 .Λ) code.function (val-Head h ∷ sliceVal (b-numbers, o-numbers) (length numbers) ∷ sliceVal (b-deques, o-deques) (length deques) ∷ sliceVal (b-frames, o-frames) (length frames) ∷ sliceVal (b-pool, o-pool) (length pool) ∷ sliceVal (b-tape, o-tape) (length tape) ∷ sliceVal (b-answers, o-answers) (length answers) ∷ vint w64 from′ ∷ vint w64 to ∷ []) Post)
     walk ok′ =
         qed W ((‵ (flft κ-numbers q-numbers) ⊛ ‵ (flft κ-deques q-deques) ⊛ ‵ (flft κ-frames q-frames) ⊛ ‵ (flft κ-pool q-pool) ⊛ ‵ (flft κ-tape q-tape) ⊛ ‵ (flft κ-answers q-answers) ⊛ ‵ ftrue) ∷ ‵ (owns (R-Head ∷ MutSlice (named 0) κ-numbers u32 ∷ MutSlice (named 1) κ-deques u32 ∷ MutSlice (named 2) κ-frames R-Frame ∷ MutSlice (named 3) κ-pool u32 ∷ ShrSlice (named 4) κ-tape u8 ∷ MutSlice (named 5) κ-answers u32 ∷ usize ∷ usize ∷ []) args′ vals′) ∷ []) ∵ enter ! (𝓣 .C) (𝓣 .Λ) code.function (val-Head h ∷ sliceVal (b-numbers, o-numbers) (length numbers) ∷ sliceVal (b-deques, o-deques) (length deques) ∷ sliceVal (b-frames, o-frames) (length frames) ∷ sliceVal (b-pool, o-pool) (length pool) ∷ sliceVal (b-tape, o-tape) (length tape) ∷ sliceVal (b-answers, o-answers) (length answers) ∷ vint w64 from′ ∷ vint w64 to ∷ []) _ $
         alloc1 ! (λ l₀. alloc1 ! (λ l₁. alloc1 ! (λ l₂. alloc1 ! (λ l₃. alloc1 ! (λ l₄. alloc1 ! (λ l₅. alloc1 ! (λ l₆. alloc1 ! (λ l₇. alloc1 ! (λ l₈. alloc1 ! (λ l₉. alloc1 ! (λ l₁₀. alloc1 ! (λ l₁₁. alloc1 ! (λ l₁₂. alloc1 ! (λ l₁₃. alloc1 ! (λ l₁₄. alloc1 ! (λ l₁₅. alloc1 ! (λ l₁₆. alloc1 ! (λ l₁₇. alloc1 ! (λ l₁₈. alloc1 ! (λ l₁₉. alloc1 ! (λ l₂₀. alloc1 ! (λ l₂₁. alloc1 ! (λ l₂₂. alloc1 ! (λ l₂₃. alloc1 ! (λ l₂₄. alloc1 ! (λ l₂₅. alloc1 ! (λ l₂₆. alloc1 ! (λ l₂₇. alloc1 ! (λ l₂₈. alloc1 ! (λ l₂₉. alloc0 ! $ params1 ! $
@@ -282,7 +283,7 @@ module _ {M : Type 1} (𝓤 : URA M) (H : Heap 𝓤) (A : Atoms 𝓤) (W : Given
   walks known-head-with known-step-record known-put-answer = walked 𝓤 H A f′.ended stayed (f′.clauses 𝓤 H A mem run) (WpFn 𝓤 H (𝓣 .C) (𝓣 .Λ) code.function)
       (λ κs. (LL.vals M-Head.the-type L-Head.the-laws, (slice-vals, (slice-vals, (slice-vals, (slice-vals, (slice-vals, (slice-vals, (uint-vals w64, (uint-vals w64, tt))))))))))
       (λ κs. (LL.tells M-Head.the-type L-Head.the-laws, (mut-slice-tells (named 0) (κs .0) u32, (mut-slice-tells (named 1) (κs .1 .0) u32, (mut-slice-tells (named 2) (κs .1 .1 .0) R-Frame, (mut-slice-tells (named 3) (κs .1 .1 .1 .0) u32, (shr-slice-tells (named 4) (κs .1 .1 .1 .1 .0) u8, (mut-slice-tells (named 5) (κs .1 .1 .1 .1 .1 .0) u32, (uint-tells w64, (uint-tells w64, tt))))))))))
-      (λ κs qs bounds a g are. needs 𝓤 ((length (a .1 .0 .now) ≡ numberCount) × Kept (core (a .0) (totalsIn (a .1 .0 .now)) (a .1 .1 .0 .now) (a .1 .1 .1 .0 .now) (a .1 .1 .1 .1 .0 .now)) × (2 * (length (a .1 .1 .1 .1 .1 .0 .now) / 8) ≤ length (a .1 .1 .1 .1 .1 .1 .0 .now)) × ((a .1 .1 .1 .1 .1 .1 .1 .0) ≤ (a .1 .1 .1 .1 .1 .1 .1 .1 .0)) × ((a .1 .1 .1 .1 .1 .1 .1 .1 .0) ≤ length (a .1 .1 .1 .1 .1 .0 .now) / 8)) _
+      (λ κs qs bounds a g are. needs 𝓤 ((length (a .1 .0 .now) ≡ numberCount) × Kept twoWords (core (a .0) (totalsIn (a .1 .0 .now)) (a .1 .1 .0 .now) (a .1 .1 .1 .0 .now) (a .1 .1 .1 .1 .0 .now)) × (2 * (length (a .1 .1 .1 .1 .1 .0 .now) / 8) ≤ length (a .1 .1 .1 .1 .1 .1 .0 .now)) × ((a .1 .1 .1 .1 .1 .1 .1 .0) ≤ (a .1 .1 .1 .1 .1 .1 .1 .1 .0)) × ((a .1 .1 .1 .1 .1 .1 .1 .1 .0) ≤ length (a .1 .1 .1 .1 .1 .0 .now) / 8)) _
       (walk 𝓤 H A W mem run (κs .0) (qs .0) (a .1 .0 .ptr .0) (a .1 .0 .ptr .1) (a .1 .0 .name) (a .1 .0 .now) (κs .1 .0) (qs .1 .0) (a .1 .1 .0 .ptr .0) (a .1 .1 .0 .ptr .1) (a .1 .1 .0 .name) (a .1 .1 .0 .now) (κs .1 .1 .0) (qs .1 .1 .0) (a .1 .1 .1 .0 .ptr .0) (a .1 .1 .1 .0 .ptr .1) (a .1 .1 .1 .0 .name) (a .1 .1 .1 .0 .now) (κs .1 .1 .1 .0) (qs .1 .1 .1 .0) (a .1 .1 .1 .1 .0 .ptr .0) (a .1 .1 .1 .1 .0 .ptr .1) (a .1 .1 .1 .1 .0 .name) (a .1 .1 .1 .1 .0 .now) (κs .1 .1 .1 .1 .0) (qs .1 .1 .1 .1 .0) (a .1 .1 .1 .1 .1 .0 .ptr .0) (a .1 .1 .1 .1 .1 .0 .ptr .1) (a .1 .1 .1 .1 .1 .0 .name) (a .1 .1 .1 .1 .1 .0 .now) (κs .1 .1 .1 .1 .1 .0) (qs .1 .1 .1 .1 .1 .0) (a .1 .1 .1 .1 .1 .1 .0 .ptr .0) (a .1 .1 .1 .1 .1 .1 .0 .ptr .1) (a .1 .1 .1 .1 .1 .1 .0 .name) (a .1 .1 .1 .1 .1 .1 .0 .now) (a .0) (are .0) (a .1 .1 .1 .1 .1 .1 .1 .0) (are .1 .1 .1 .1 .1 .1 .1 .0 .1) (a .1 .1 .1 .1 .1 .1 .1 .1 .0) (are .1 .1 .1 .1 .1 .1 .1 .1 .0 .1) (are .1 .0 .0 .1) (are .1 .1 .0 .0 .1) (are .1 .1 .1 .0 .0 .1) (are .1 .1 .1 .1 .0 .0 .1) (are .1 .1 .1 .1 .1 .0 .0 .1) (are .1 .1 .1 .1 .1 .1 .0 .0 .1) 𝓣 known-head-with known-step-record known-put-answer))
 
   meets : Triple 𝓤 (𝓣 .C #head-with) (S-head-with.Asked 𝓤 H A mem run) → Triple 𝓤 (𝓣 .C #step-record) (S-step-record.Asked 𝓤 H A mem run) → Triple 𝓤 (𝓣 .C #put-answer) (S-put-answer.Asked 𝓤 H A mem run) → Meets 𝓤 H A f′.signature (WpFn 𝓤 H (𝓣 .C) (𝓣 .Λ) code.function) (f′.spec 𝓤 H A mem run)

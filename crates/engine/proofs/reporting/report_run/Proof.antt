@@ -83,6 +83,7 @@ use Rattle.soundness.specs.declared.Checked.{Checked}
 use Rattle.timing.proofs.Tally as M-Tally
 use Rattle.timing.proofs.Tally.Laws as L-Tally
 use Rattle.timing.specs.declared.Tally.{Tally}
+use Rattle.soundness.specs.Layout.{twoWords}
 
 abbrev R-Frame : RattleType
 R-Frame = M-Frame.the-row
@@ -146,7 +147,7 @@ module _ {M : Type 1} (𝓤 : URA M) (H : Heap 𝓤) (A : Atoms 𝓤) (W : Given
   abbrev Post : Val → SProp 𝓤
   Post = walkOf 𝓤 H A f′.ended stayed (f′.clauses 𝓤 H A mem run) .post bound′
 
-  exits′ : (res′ : ℕ) (zs-numbers : List ℕ) (zs-deques : List ℕ) (zs-frames : List Frame) (zs-pool : List ℕ) (zs-work : List ℕ) (zs-answers : List ℕ) (zs-clocks : List ℕ) (zs-report : List ℕ) → res′ < 2 ^ 32 → IsReport (reportDone (tapeWith (parts numbers deques frames) pool work tape answers) (timingOf (parts numbers deques frames) pool tape clocks) report) zs-numbers zs-deques zs-frames zs-pool zs-work zs-answers zs-clocks zs-report res′ → length zs-numbers ≡ length numbers → length zs-deques ≡ length deques → length zs-frames ≡ length frames → length zs-pool ≡ length pool → length zs-work ≡ length work → length zs-answers ≡ length answers → length zs-clocks ≡ length clocks → length zs-report ≡ length report → ent 𝓤 (⋆ 𝓤 H A (‵ (Mine u32 κ-numbers q-numbers γ-numbers b-numbers o-numbers n-numbers zs-numbers) ∷ ‵ (Mine u32 κ-deques q-deques γ-deques b-deques o-deques n-deques zs-deques) ∷ ‵ (Mine R-Frame κ-frames q-frames γ-frames b-frames o-frames n-frames zs-frames) ∷ ‵ (Mine u32 κ-pool q-pool γ-pool b-pool o-pool n-pool zs-pool) ∷ ‵ (Mine u32 κ-work q-work γ-work b-work o-work n-work zs-work) ∷ ‵ (Yours u8 κ-tape q-tape γ-tape b-tape o-tape n-tape tape) ∷ ‵ (Mine u32 κ-answers q-answers γ-answers b-answers o-answers n-answers zs-answers) ∷ ‵ (Mine u64 κ-clocks q-clocks γ-clocks b-clocks o-clocks n-clocks zs-clocks) ∷ ‵ (Mine u64 κ-report q-report γ-report b-report o-report n-report zs-report) ∷ [])) (Post (vint w32 res′))
+  exits′ : (res′ : ℕ) (zs-numbers : List ℕ) (zs-deques : List ℕ) (zs-frames : List Frame) (zs-pool : List ℕ) (zs-work : List ℕ) (zs-answers : List ℕ) (zs-clocks : List ℕ) (zs-report : List ℕ) → res′ < 2 ^ 32 → IsReport (reportDone (tapeWith twoWords (parts numbers deques frames) pool work tape answers) (timingOf twoWords (parts numbers deques frames) pool tape clocks) report) zs-numbers zs-deques zs-frames zs-pool zs-work zs-answers zs-clocks zs-report res′ → length zs-numbers ≡ length numbers → length zs-deques ≡ length deques → length zs-frames ≡ length frames → length zs-pool ≡ length pool → length zs-work ≡ length work → length zs-answers ≡ length answers → length zs-clocks ≡ length clocks → length zs-report ≡ length report → ent 𝓤 (⋆ 𝓤 H A (‵ (Mine u32 κ-numbers q-numbers γ-numbers b-numbers o-numbers n-numbers zs-numbers) ∷ ‵ (Mine u32 κ-deques q-deques γ-deques b-deques o-deques n-deques zs-deques) ∷ ‵ (Mine R-Frame κ-frames q-frames γ-frames b-frames o-frames n-frames zs-frames) ∷ ‵ (Mine u32 κ-pool q-pool γ-pool b-pool o-pool n-pool zs-pool) ∷ ‵ (Mine u32 κ-work q-work γ-work b-work o-work n-work zs-work) ∷ ‵ (Yours u8 κ-tape q-tape γ-tape b-tape o-tape n-tape tape) ∷ ‵ (Mine u32 κ-answers q-answers γ-answers b-answers o-answers n-answers zs-answers) ∷ ‵ (Mine u64 κ-clocks q-clocks γ-clocks b-clocks o-clocks n-clocks zs-clocks) ∷ ‵ (Mine u64 κ-report q-report γ-report b-report o-report n-report zs-report) ∷ [])) (Post (vint w32 res′))
   exits′ res′ zs-numbers zs-deques zs-frames zs-pool zs-work zs-answers zs-clocks zs-report good′ e′ same-numbers same-deques same-frames same-pool same-work same-answers same-clocks same-report =
       qed W (‵ (Mine u32 κ-numbers q-numbers γ-numbers b-numbers o-numbers n-numbers zs-numbers) ∷ ‵ (Mine u32 κ-deques q-deques γ-deques b-deques o-deques n-deques zs-deques) ∷ ‵ (Mine R-Frame κ-frames q-frames γ-frames b-frames o-frames n-frames zs-frames) ∷ ‵ (Mine u32 κ-pool q-pool γ-pool b-pool o-pool n-pool zs-pool) ∷ ‵ (Mine u32 κ-work q-work γ-work b-work o-work n-work zs-work) ∷ ‵ (Yours u8 κ-tape q-tape γ-tape b-tape o-tape n-tape tape) ∷ ‵ (Mine u32 κ-answers q-answers γ-answers b-answers o-answers n-answers zs-answers) ∷ ‵ (Mine u64 κ-clocks q-clocks γ-clocks b-clocks o-clocks n-clocks zs-clocks) ∷ ‵ (Mine u64 κ-report q-report γ-report b-report o-report n-report zs-report) ∷ []) ∵
       suffices ! _ (ends-at 𝓤 H A f′.ended stayed (f′.clauses 𝓤 H A mem run) W bound′ (vint w32 res′) res′ (zs-numbers, (zs-deques, (zs-frames, (zs-pool, (zs-work, (tt, (zs-answers, (zs-clocks, (zs-report, tt))))))))) (same-numbers, (same-deques, (same-frames, (same-pool, (same-work, (tt, (same-answers, (same-clocks, (same-report, tt)))))))))) $ says ! e′ $
@@ -158,7 +159,7 @@ module _ {M : Type 1} (𝓤 : URA M) (H : Heap 𝓤) (A : Atoms 𝓤) (W : Given
     abbrev fm : FmC 𝓤 H (W .laws) (𝓣 .C)
     fm = fmOf 𝓤 H (W .laws) 𝓣
 
-    walk : Fits (parts numbers deques frames) × (checkedState (parts numbers deques frames) pool work ≡ Sound (chainFree (parts numbers deques frames) pool)) × (unfitTape tape answers ≡ false) × (length clocks ≡ 2 * length frames) × (length report ≡ 4) → ent 𝓤 (onEntry 𝓤 H A f′.signature (κ-numbers, (κ-deques, (κ-frames, (κ-pool, (κ-work, (κ-tape, (κ-answers, (κ-clocks, (κ-report, tt))))))))) (q-numbers, (q-deques, (q-frames, (q-pool, (q-work, (q-tape, (q-answers, (q-clocks, (q-report, tt))))))))) args′ vals′) (WpFn 𝓤 H (𝓣 .C) (𝓣 .Λ) code.function (sliceVal (b-numbers, o-numbers) (length numbers) ∷ sliceVal (b-deques, o-deques) (length deques) ∷ sliceVal (b-frames, o-frames) (length frames) ∷ sliceVal (b-pool, o-pool) (length pool) ∷ sliceVal (b-work, o-work) (length work) ∷ sliceVal (b-tape, o-tape) (length tape) ∷ sliceVal (b-answers, o-answers) (length answers) ∷ sliceVal (b-clocks, o-clocks) (length clocks) ∷ sliceVal (b-report, o-report) (length report) ∷ []) Post)
+    walk : Fits (parts numbers deques frames) × (checkedState twoWords (parts numbers deques frames) pool work ≡ Sound (chainFree twoWords (parts numbers deques frames) pool)) × (unfitTape tape answers ≡ false) × (length clocks ≡ 2 * length frames) × (length report ≡ 4) → ent 𝓤 (onEntry 𝓤 H A f′.signature (κ-numbers, (κ-deques, (κ-frames, (κ-pool, (κ-work, (κ-tape, (κ-answers, (κ-clocks, (κ-report, tt))))))))) (q-numbers, (q-deques, (q-frames, (q-pool, (q-work, (q-tape, (q-answers, (q-clocks, (q-report, tt))))))))) args′ vals′) (WpFn 𝓤 H (𝓣 .C) (𝓣 .Λ) code.function (sliceVal (b-numbers, o-numbers) (length numbers) ∷ sliceVal (b-deques, o-deques) (length deques) ∷ sliceVal (b-frames, o-frames) (length frames) ∷ sliceVal (b-pool, o-pool) (length pool) ∷ sliceVal (b-work, o-work) (length work) ∷ sliceVal (b-tape, o-tape) (length tape) ∷ sliceVal (b-answers, o-answers) (length answers) ∷ sliceVal (b-clocks, o-clocks) (length clocks) ∷ sliceVal (b-report, o-report) (length report) ∷ []) Post)
     walk ok′ =
         qed W ((‵ (flft κ-numbers q-numbers) ⊛ ‵ (flft κ-deques q-deques) ⊛ ‵ (flft κ-frames q-frames) ⊛ ‵ (flft κ-pool q-pool) ⊛ ‵ (flft κ-work q-work) ⊛ ‵ (flft κ-tape q-tape) ⊛ ‵ (flft κ-answers q-answers) ⊛ ‵ (flft κ-clocks q-clocks) ⊛ ‵ (flft κ-report q-report) ⊛ ‵ ftrue) ∷ ‵ (owns (MutSlice (named 0) κ-numbers u32 ∷ MutSlice (named 1) κ-deques u32 ∷ MutSlice (named 2) κ-frames R-Frame ∷ MutSlice (named 3) κ-pool u32 ∷ MutSlice (named 4) κ-work u32 ∷ ShrSlice (named 5) κ-tape u8 ∷ MutSlice (named 6) κ-answers u32 ∷ MutSlice (named 7) κ-clocks u64 ∷ MutSlice (named 8) κ-report u64 ∷ []) args′ vals′) ∷ []) ∵ enter ! (𝓣 .C) (𝓣 .Λ) code.function (sliceVal (b-numbers, o-numbers) (length numbers) ∷ sliceVal (b-deques, o-deques) (length deques) ∷ sliceVal (b-frames, o-frames) (length frames) ∷ sliceVal (b-pool, o-pool) (length pool) ∷ sliceVal (b-work, o-work) (length work) ∷ sliceVal (b-tape, o-tape) (length tape) ∷ sliceVal (b-answers, o-answers) (length answers) ∷ sliceVal (b-clocks, o-clocks) (length clocks) ∷ sliceVal (b-report, o-report) (length report) ∷ []) _ $
         alloc1 ! (λ l₀. alloc1 ! (λ l₁. alloc1 ! (λ l₂. alloc1 ! (λ l₃. alloc1 ! (λ l₄. alloc1 ! (λ l₅. alloc1 ! (λ l₆. alloc1 ! (λ l₇. alloc1 ! (λ l₈. alloc1 ! (λ l₉. alloc1 ! (λ l₁₀. alloc1 ! (λ l₁₁. alloc1 ! (λ l₁₂. alloc1 ! (λ l₁₃. alloc1 ! (λ l₁₄. alloc1 ! (λ l₁₅. alloc1 ! (λ l₁₆. alloc1 ! (λ l₁₇. alloc1 ! (λ l₁₈. alloc1 ! (λ l₁₉. alloc1 ! (λ l₂₀. alloc1 ! (λ l₂₁. alloc1 ! (λ l₂₂. alloc1 ! (λ l₂₃. alloc1 ! (λ l₂₄. alloc1 ! (λ l₂₅. alloc1 ! (λ l₂₆. alloc1 ! (λ l₂₇. alloc1 ! (λ l₂₈. alloc1 ! (λ l₂₉. alloc1 ! (λ l₃₀. alloc1 ! (λ l₃₁. alloc1 ! (λ l₃₂. alloc1 ! (λ l₃₃. alloc1 ! (λ l₃₄. alloc1 ! (λ l₃₅. alloc1 ! (λ l₃₆. alloc1 ! (λ l₃₇. alloc1 ! (λ l₃₈. alloc1 ! (λ l₃₉. alloc0 ! $ params1 ! $
@@ -224,7 +225,7 @@ module _ {M : Type 1} (𝓤 : URA M) (H : Heap 𝓤) (A : Atoms 𝓤) (W : Given
   walks known-check-state known-clear-clocks known-free-in known-run-timed known-put-report = walked 𝓤 H A f′.ended stayed (f′.clauses 𝓤 H A mem run) (WpFn 𝓤 H (𝓣 .C) (𝓣 .Λ) code.function)
       (λ κs. (slice-vals, (slice-vals, (slice-vals, (slice-vals, (slice-vals, (slice-vals, (slice-vals, (slice-vals, (slice-vals, tt))))))))))
       (λ κs. (mut-slice-tells (named 0) (κs .0) u32, (mut-slice-tells (named 1) (κs .1 .0) u32, (mut-slice-tells (named 2) (κs .1 .1 .0) R-Frame, (mut-slice-tells (named 3) (κs .1 .1 .1 .0) u32, (mut-slice-tells (named 4) (κs .1 .1 .1 .1 .0) u32, (shr-slice-tells (named 5) (κs .1 .1 .1 .1 .1 .0) u8, (mut-slice-tells (named 6) (κs .1 .1 .1 .1 .1 .1 .0) u32, (mut-slice-tells (named 7) (κs .1 .1 .1 .1 .1 .1 .1 .0) u64, (mut-slice-tells (named 8) (κs .1 .1 .1 .1 .1 .1 .1 .1 .0) u64, tt))))))))))
-      (λ κs qs bounds a g are. needs 𝓤 (Fits (parts (a .0 .now) (a .1 .0 .now) (a .1 .1 .0 .now)) × (checkedState (parts (a .0 .now) (a .1 .0 .now) (a .1 .1 .0 .now)) (a .1 .1 .1 .0 .now) (a .1 .1 .1 .1 .0 .now) ≡ Sound (chainFree (parts (a .0 .now) (a .1 .0 .now) (a .1 .1 .0 .now)) (a .1 .1 .1 .0 .now))) × (unfitTape (a .1 .1 .1 .1 .1 .0 .now) (a .1 .1 .1 .1 .1 .1 .0 .now) ≡ false) × (length (a .1 .1 .1 .1 .1 .1 .1 .0 .now) ≡ 2 * length (a .1 .1 .0 .now)) × (length (a .1 .1 .1 .1 .1 .1 .1 .1 .0 .now) ≡ 4)) _
+      (λ κs qs bounds a g are. needs 𝓤 (Fits (parts (a .0 .now) (a .1 .0 .now) (a .1 .1 .0 .now)) × (checkedState twoWords (parts (a .0 .now) (a .1 .0 .now) (a .1 .1 .0 .now)) (a .1 .1 .1 .0 .now) (a .1 .1 .1 .1 .0 .now) ≡ Sound (chainFree twoWords (parts (a .0 .now) (a .1 .0 .now) (a .1 .1 .0 .now)) (a .1 .1 .1 .0 .now))) × (unfitTape (a .1 .1 .1 .1 .1 .0 .now) (a .1 .1 .1 .1 .1 .1 .0 .now) ≡ false) × (length (a .1 .1 .1 .1 .1 .1 .1 .0 .now) ≡ 2 * length (a .1 .1 .0 .now)) × (length (a .1 .1 .1 .1 .1 .1 .1 .1 .0 .now) ≡ 4)) _
       (walk 𝓤 H A W mem run (κs .0) (qs .0) (a .0 .ptr .0) (a .0 .ptr .1) (a .0 .name) (a .0 .now) (κs .1 .0) (qs .1 .0) (a .1 .0 .ptr .0) (a .1 .0 .ptr .1) (a .1 .0 .name) (a .1 .0 .now) (κs .1 .1 .0) (qs .1 .1 .0) (a .1 .1 .0 .ptr .0) (a .1 .1 .0 .ptr .1) (a .1 .1 .0 .name) (a .1 .1 .0 .now) (κs .1 .1 .1 .0) (qs .1 .1 .1 .0) (a .1 .1 .1 .0 .ptr .0) (a .1 .1 .1 .0 .ptr .1) (a .1 .1 .1 .0 .name) (a .1 .1 .1 .0 .now) (κs .1 .1 .1 .1 .0) (qs .1 .1 .1 .1 .0) (a .1 .1 .1 .1 .0 .ptr .0) (a .1 .1 .1 .1 .0 .ptr .1) (a .1 .1 .1 .1 .0 .name) (a .1 .1 .1 .1 .0 .now) (κs .1 .1 .1 .1 .1 .0) (qs .1 .1 .1 .1 .1 .0) (a .1 .1 .1 .1 .1 .0 .ptr .0) (a .1 .1 .1 .1 .1 .0 .ptr .1) (a .1 .1 .1 .1 .1 .0 .name) (a .1 .1 .1 .1 .1 .0 .now) (κs .1 .1 .1 .1 .1 .1 .0) (qs .1 .1 .1 .1 .1 .1 .0) (a .1 .1 .1 .1 .1 .1 .0 .ptr .0) (a .1 .1 .1 .1 .1 .1 .0 .ptr .1) (a .1 .1 .1 .1 .1 .1 .0 .name) (a .1 .1 .1 .1 .1 .1 .0 .now) (κs .1 .1 .1 .1 .1 .1 .1 .0) (qs .1 .1 .1 .1 .1 .1 .1 .0) (a .1 .1 .1 .1 .1 .1 .1 .0 .ptr .0) (a .1 .1 .1 .1 .1 .1 .1 .0 .ptr .1) (a .1 .1 .1 .1 .1 .1 .1 .0 .name) (a .1 .1 .1 .1 .1 .1 .1 .0 .now) (κs .1 .1 .1 .1 .1 .1 .1 .1 .0) (qs .1 .1 .1 .1 .1 .1 .1 .1 .0) (a .1 .1 .1 .1 .1 .1 .1 .1 .0 .ptr .0) (a .1 .1 .1 .1 .1 .1 .1 .1 .0 .ptr .1) (a .1 .1 .1 .1 .1 .1 .1 .1 .0 .name) (a .1 .1 .1 .1 .1 .1 .1 .1 .0 .now) (are .0 .0 .1) (are .1 .0 .0 .1) (are .1 .1 .0 .0 .1) (are .1 .1 .1 .0 .0 .1) (are .1 .1 .1 .1 .0 .0 .1) (are .1 .1 .1 .1 .1 .0 .0 .1) (are .1 .1 .1 .1 .1 .1 .0 .0 .1) (are .1 .1 .1 .1 .1 .1 .1 .0 .0 .1) (are .1 .1 .1 .1 .1 .1 .1 .1 .0 .0 .1) 𝓣 known-check-state known-clear-clocks known-free-in known-run-timed known-put-report))
 
   meets : Triple 𝓤 (𝓣 .C #check-state) (S-check-state.Asked 𝓤 H A mem run) → Triple 𝓤 (𝓣 .C #clear-clocks) (S-clear-clocks.Asked 𝓤 H A mem run) → Triple 𝓤 (𝓣 .C #free-in) (S-free-in.Asked 𝓤 H A mem run) → Triple 𝓤 (𝓣 .C #run-timed) (S-run-timed.Asked 𝓤 H A mem run) → Triple 𝓤 (𝓣 .C #put-report) (S-put-report.Asked 𝓤 H A mem run) → Meets 𝓤 H A f′.signature (WpFn 𝓤 H (𝓣 .C) (𝓣 .Λ) code.function) (f′.spec 𝓤 H A mem run)

@@ -107,6 +107,7 @@ use Rattle.semantics.specs.declared.Head.{Head}
 use Rattle.engine.proofs.Turn as M-Turn
 use Rattle.engine.proofs.Turn.Laws as L-Turn
 use Rattle.engine.specs.declared.Turn.{Turn}
+use Rattle.soundness.specs.Layout.{twoWords}
 
 abbrev R-Frame : RattleType
 R-Frame = M-Frame.the-row
@@ -155,7 +156,7 @@ abbrev rest′ : Code
 rest′ = after 11 (code.function .body)
 
 -- where a turn of the loop begins
-record State′ (numbers : List ℕ) (deques : List ℕ) (frames : List Frame) (pool : List ℕ) (tape : List ℕ) (answers : List ℕ) (clocks : List ℕ) (free-count : ℕ) (numbers-fits : length numbers < 2 ^ 64) (deques-fits : length deques < 2 ^ 64) (frames-fits : length frames < 2 ^ 64) (pool-fits : length pool < 2 ^ 64) (tape-fits : length tape < 2 ^ 64) (answers-fits : length answers < 2 ^ 64) (clocks-fits : length clocks < 2 ^ 64) (free-count-fits : free-count < 2 ^ 32) (ok : Fits (parts numbers deques frames) × Kept (coreOf (parts numbers deques frames) pool free-count) × (2 * (length tape / 8) ≤ length answers) × (length clocks ≡ 2 * length frames) × ((j : ℕ) → getD clocks j 0 ≤ 0)) (r-1 : Numbers) (r-1-is : r-1 ≡ numbersIn numbers) (h : Head) (h-is : h ≡ headOf r-1 free-count) (records : ℕ) (records-fits : records < 2 ^ 64) (records-is : records ≡ length tape / 8) : Type 0 where
+record State′ (numbers : List ℕ) (deques : List ℕ) (frames : List Frame) (pool : List ℕ) (tape : List ℕ) (answers : List ℕ) (clocks : List ℕ) (free-count : ℕ) (numbers-fits : length numbers < 2 ^ 64) (deques-fits : length deques < 2 ^ 64) (frames-fits : length frames < 2 ^ 64) (pool-fits : length pool < 2 ^ 64) (tape-fits : length tape < 2 ^ 64) (answers-fits : length answers < 2 ^ 64) (clocks-fits : length clocks < 2 ^ 64) (free-count-fits : free-count < 2 ^ 32) (ok : Fits (parts numbers deques frames) × Kept twoWords (coreOf (parts numbers deques frames) pool free-count) × (2 * (length tape / 8) ≤ length answers) × (length clocks ≡ 2 * length frames) × ((j : ℕ) → getD clocks j 0 ≤ 0)) (r-1 : Numbers) (r-1-is : r-1 ≡ numbersIn numbers) (h : Head) (h-is : h ≡ headOf r-1 free-count) (records : ℕ) (records-fits : records < 2 ^ 64) (records-is : records ≡ length tape / 8) : Type 0 where
   v-node : ℕ
   g-node : v-node < 2 ^ 32
   v-place : ℕ
@@ -215,7 +216,7 @@ module _ {M : Type 1} (𝓤 : URA M) (H : Heap 𝓤) (A : Atoms 𝓤) (W : Given
   abbrev Post : Val → SProp 𝓤
   Post = walkOf 𝓤 H A f′.ended stayed (f′.clauses 𝓤 H A mem run) .post bound′
 
-  exits′ : (res′ : Tally) (zs-numbers : List ℕ) (zs-deques : List ℕ) (zs-frames : List Frame) (zs-pool : List ℕ) (zs-answers : List ℕ) (zs-clocks : List ℕ) → Is R-Tally res′ (val-Tally res′ ∷ []) → IsRun (runOn (recordsResult (coreOf (parts numbers deques frames) pool free-count) answers) 0 (recordsOf tape)) zs-numbers zs-deques zs-frames zs-pool zs-answers × (timing zs-clocks (res′ .work) (res′ .span) ≡ timedOver (coreOf (parts numbers deques frames) pool free-count) (recordsOf tape) (timing clocks 0 0)) → length zs-numbers ≡ length numbers → length zs-deques ≡ length deques → length zs-frames ≡ length frames → length zs-pool ≡ length pool → length zs-answers ≡ length answers → length zs-clocks ≡ length clocks → ent 𝓤 (⋆ 𝓤 H A (‵ (Mine u32 κ-numbers q-numbers γ-numbers b-numbers o-numbers n-numbers zs-numbers) ∷ ‵ (Mine u32 κ-deques q-deques γ-deques b-deques o-deques n-deques zs-deques) ∷ ‵ (Mine R-Frame κ-frames q-frames γ-frames b-frames o-frames n-frames zs-frames) ∷ ‵ (Mine u32 κ-pool q-pool γ-pool b-pool o-pool n-pool zs-pool) ∷ ‵ (Yours u8 κ-tape q-tape γ-tape b-tape o-tape n-tape tape) ∷ ‵ (Mine u32 κ-answers q-answers γ-answers b-answers o-answers n-answers zs-answers) ∷ ‵ (Mine u64 κ-clocks q-clocks γ-clocks b-clocks o-clocks n-clocks zs-clocks) ∷ [])) (Post (val-Tally res′))
+  exits′ : (res′ : Tally) (zs-numbers : List ℕ) (zs-deques : List ℕ) (zs-frames : List Frame) (zs-pool : List ℕ) (zs-answers : List ℕ) (zs-clocks : List ℕ) → Is R-Tally res′ (val-Tally res′ ∷ []) → IsRun (runOn twoWords (recordsResult (coreOf (parts numbers deques frames) pool free-count) answers) 0 (recordsOf tape)) zs-numbers zs-deques zs-frames zs-pool zs-answers × (timing zs-clocks (res′ .work) (res′ .span) ≡ timedOver twoWords (coreOf (parts numbers deques frames) pool free-count) (recordsOf tape) (timing clocks 0 0)) → length zs-numbers ≡ length numbers → length zs-deques ≡ length deques → length zs-frames ≡ length frames → length zs-pool ≡ length pool → length zs-answers ≡ length answers → length zs-clocks ≡ length clocks → ent 𝓤 (⋆ 𝓤 H A (‵ (Mine u32 κ-numbers q-numbers γ-numbers b-numbers o-numbers n-numbers zs-numbers) ∷ ‵ (Mine u32 κ-deques q-deques γ-deques b-deques o-deques n-deques zs-deques) ∷ ‵ (Mine R-Frame κ-frames q-frames γ-frames b-frames o-frames n-frames zs-frames) ∷ ‵ (Mine u32 κ-pool q-pool γ-pool b-pool o-pool n-pool zs-pool) ∷ ‵ (Yours u8 κ-tape q-tape γ-tape b-tape o-tape n-tape tape) ∷ ‵ (Mine u32 κ-answers q-answers γ-answers b-answers o-answers n-answers zs-answers) ∷ ‵ (Mine u64 κ-clocks q-clocks γ-clocks b-clocks o-clocks n-clocks zs-clocks) ∷ [])) (Post (val-Tally res′))
   exits′ res′ zs-numbers zs-deques zs-frames zs-pool zs-answers zs-clocks good′ e′ same-numbers same-deques same-frames same-pool same-answers same-clocks =
       qed W (‵ (Mine u32 κ-numbers q-numbers γ-numbers b-numbers o-numbers n-numbers zs-numbers) ∷ ‵ (Mine u32 κ-deques q-deques γ-deques b-deques o-deques n-deques zs-deques) ∷ ‵ (Mine R-Frame κ-frames q-frames γ-frames b-frames o-frames n-frames zs-frames) ∷ ‵ (Mine u32 κ-pool q-pool γ-pool b-pool o-pool n-pool zs-pool) ∷ ‵ (Yours u8 κ-tape q-tape γ-tape b-tape o-tape n-tape tape) ∷ ‵ (Mine u32 κ-answers q-answers γ-answers b-answers o-answers n-answers zs-answers) ∷ ‵ (Mine u64 κ-clocks q-clocks γ-clocks b-clocks o-clocks n-clocks zs-clocks) ∷ []) ∵
       suffices ! _ (ends-at 𝓤 H A f′.ended stayed (f′.clauses 𝓤 H A mem run) W bound′ (val-Tally res′) res′ (zs-numbers, (zs-deques, (zs-frames, (zs-pool, (tt, (zs-answers, (zs-clocks, (tt, tt)))))))) (same-numbers, (same-deques, (same-frames, (same-pool, (tt, (same-answers, (same-clocks, (tt, tt))))))))) $ says ! e′ $
@@ -227,7 +228,7 @@ module _ {M : Type 1} (𝓤 : URA M) (H : Heap 𝓤) (A : Atoms 𝓤) (W : Given
     abbrev fm : FmC 𝓤 H (W .laws) (𝓣 .C)
     fm = fmOf 𝓤 H (W .laws) 𝓣
 
-    module _ (ok′ : Fits (parts numbers deques frames) × Kept (coreOf (parts numbers deques frames) pool free-count) × (2 * (length tape / 8) ≤ length answers) × (length clocks ≡ 2 * length frames) × ((j : ℕ) → getD clocks j 0 ≤ 0)) (r-1 : Numbers) (r-1-is : r-1 ≡ numbersIn numbers) (h : Head) (h-is : h ≡ headOf r-1 free-count) (records : ℕ) (records-fits : records < 2 ^ 64) (records-is : records ≡ length tape / 8) (r-1-good : Is R-Numbers r-1 (val-Numbers r-1 ∷ [])) (h-good : Is R-Head h (val-Head h ∷ [])) (l₀ l₁ l₂ l₃ l₄ l₅ l₆ l₇ l₈ l₉ l₁₀ l₁₁ l₁₂ l₁₃ l₁₄ l₁₅ l₁₆ l₁₇ l₁₈ l₁₉ l₂₀ l₂₁ l₂₂ l₂₃ l₂₄ l₂₅ l₂₆ l₂₇ l₂₈ l₂₉ l₃₀ l₃₁ l₃₂ l₃₃ l₃₄ l₃₅ l₃₆ l₃₇ l₃₈ : ℕ) where
+    module _ (ok′ : Fits (parts numbers deques frames) × Kept twoWords (coreOf (parts numbers deques frames) pool free-count) × (2 * (length tape / 8) ≤ length answers) × (length clocks ≡ 2 * length frames) × ((j : ℕ) → getD clocks j 0 ≤ 0)) (r-1 : Numbers) (r-1-is : r-1 ≡ numbersIn numbers) (h : Head) (h-is : h ≡ headOf r-1 free-count) (records : ℕ) (records-fits : records < 2 ^ 64) (records-is : records ≡ length tape / 8) (r-1-good : Is R-Numbers r-1 (val-Numbers r-1 ∷ [])) (h-good : Is R-Head h (val-Head h ∷ [])) (l₀ l₁ l₂ l₃ l₄ l₅ l₆ l₇ l₈ l₉ l₁₀ l₁₁ l₁₂ l₁₃ l₁₄ l₁₅ l₁₆ l₁₇ l₁₈ l₁₉ l₂₀ l₂₁ l₂₂ l₂₃ l₂₄ l₂₅ l₂₆ l₂₇ l₂₈ l₂₉ l₃₀ l₃₁ l₃₂ l₃₃ l₃₄ l₃₅ l₃₆ l₃₇ l₃₈ : ℕ) where
       abbrev S′ : Type 0
       S′ = State′ numbers deques frames pool tape answers clocks free-count (room-numbers .0) (room-deques .0) (room-frames .0) (room-pool .0) (room-tape .0) (room-answers .0) (room-clocks .0) free-count-fits ok′ r-1 r-1-is h h-is records records-fits records-is
 
@@ -305,7 +306,7 @@ module _ {M : Type 1} (𝓤 : URA M) (H : Heap 𝓤) (A : Atoms 𝓤) (W : Given
       unfolding afterTurn
       loop′ = loops ! 𝓣 Less′ less-wf Inv′ (λ s′. turn′ (s′ .v-node) (s′ .v-place) (s′ .v-count) (s′ .v-t) (s′ .v-i) (s′ .l-numbers) (s′ .l-deques) (s′ .l-frames) (s′ .l-pool) (s′ .l-answers) (s′ .l-clocks) (s′ .g-node) (s′ .g-place) (s′ .g-count) (s′ .g-t) (s′ .g-i) (s′ .s-numbers) (s′ .s-deques) (s′ .s-frames) (s′ .s-pool) (s′ .s-answers) (s′ .s-clocks) (s′ .holds)) (record { v-node = ((h .numbers) .«free_node»); g-node = ((LL.owed M-Numbers.the-type L-Numbers.the-laws (h .numbers) _ (LL.owed M-Head.the-type L-Head.the-laws h _ h-good .0) .1 .1 .1 .0) .1); v-place = ((h .numbers) .«free_place»); g-place = ((LL.owed M-Numbers.the-type L-Numbers.the-laws (h .numbers) _ (LL.owed M-Head.the-type L-Head.the-laws h _ h-good .0) .1 .1 .1 .1 .0) .1); v-count = (h .«free_count»); g-count = ((LL.owed M-Head.the-type L-Head.the-laws h _ h-good .1 .1 .0) .1); v-t = (make-Tally 0 0); g-t = (LL.owes M-Tally.the-type L-Tally.the-laws (make-Tally 0 0) ((refl, (lit< tt)), ((refl, (lit< tt)), tt))); v-i = 0; g-i = (lit< tt); l-numbers = numbers; s-numbers = refl; l-deques = deques; s-deques = refl; l-frames = frames; s-frames = refl; l-pool = pool; s-pool = refl; l-answers = answers; s-answers = refl; l-clocks = clocks; s-clocks = refl; holds = (F.begins numbers deques frames pool tape answers clocks free-count (room-numbers .0) (room-deques .0) (room-frames .0) (room-pool .0) (room-tape .0) (room-answers .0) (room-clocks .0) free-count-fits ok′ r-1 r-1-is h h-is records records-fits records-is) })
 
-    walk : Fits (parts numbers deques frames) × Kept (coreOf (parts numbers deques frames) pool free-count) × (2 * (length tape / 8) ≤ length answers) × (length clocks ≡ 2 * length frames) × ((j : ℕ) → getD clocks j 0 ≤ 0) → ent 𝓤 (onEntry 𝓤 H A f′.signature (κ-numbers, (κ-deques, (κ-frames, (κ-pool, (κ-tape, (κ-answers, (κ-clocks, tt))))))) (q-numbers, (q-deques, (q-frames, (q-pool, (q-tape, (q-answers, (q-clocks, tt))))))) args′ vals′) (WpFn 𝓤 H (𝓣 .C) (𝓣 .Λ) code.function (sliceVal (b-numbers, o-numbers) (length numbers) ∷ sliceVal (b-deques, o-deques) (length deques) ∷ sliceVal (b-frames, o-frames) (length frames) ∷ sliceVal (b-pool, o-pool) (length pool) ∷ sliceVal (b-tape, o-tape) (length tape) ∷ sliceVal (b-answers, o-answers) (length answers) ∷ sliceVal (b-clocks, o-clocks) (length clocks) ∷ vint w32 free-count ∷ []) Post)
+    walk : Fits (parts numbers deques frames) × Kept twoWords (coreOf (parts numbers deques frames) pool free-count) × (2 * (length tape / 8) ≤ length answers) × (length clocks ≡ 2 * length frames) × ((j : ℕ) → getD clocks j 0 ≤ 0) → ent 𝓤 (onEntry 𝓤 H A f′.signature (κ-numbers, (κ-deques, (κ-frames, (κ-pool, (κ-tape, (κ-answers, (κ-clocks, tt))))))) (q-numbers, (q-deques, (q-frames, (q-pool, (q-tape, (q-answers, (q-clocks, tt))))))) args′ vals′) (WpFn 𝓤 H (𝓣 .C) (𝓣 .Λ) code.function (sliceVal (b-numbers, o-numbers) (length numbers) ∷ sliceVal (b-deques, o-deques) (length deques) ∷ sliceVal (b-frames, o-frames) (length frames) ∷ sliceVal (b-pool, o-pool) (length pool) ∷ sliceVal (b-tape, o-tape) (length tape) ∷ sliceVal (b-answers, o-answers) (length answers) ∷ sliceVal (b-clocks, o-clocks) (length clocks) ∷ vint w32 free-count ∷ []) Post)
     walk ok′ =
         qed W ((‵ (flft κ-numbers q-numbers) ⊛ ‵ (flft κ-deques q-deques) ⊛ ‵ (flft κ-frames q-frames) ⊛ ‵ (flft κ-pool q-pool) ⊛ ‵ (flft κ-tape q-tape) ⊛ ‵ (flft κ-answers q-answers) ⊛ ‵ (flft κ-clocks q-clocks) ⊛ ‵ ftrue) ∷ ‵ (owns (MutSlice (named 0) κ-numbers u32 ∷ MutSlice (named 1) κ-deques u32 ∷ MutSlice (named 2) κ-frames R-Frame ∷ MutSlice (named 3) κ-pool u32 ∷ ShrSlice (named 4) κ-tape u8 ∷ MutSlice (named 5) κ-answers u32 ∷ MutSlice (named 6) κ-clocks u64 ∷ u32 ∷ []) args′ vals′) ∷ []) ∵ enter ! (𝓣 .C) (𝓣 .Λ) code.function (sliceVal (b-numbers, o-numbers) (length numbers) ∷ sliceVal (b-deques, o-deques) (length deques) ∷ sliceVal (b-frames, o-frames) (length frames) ∷ sliceVal (b-pool, o-pool) (length pool) ∷ sliceVal (b-tape, o-tape) (length tape) ∷ sliceVal (b-answers, o-answers) (length answers) ∷ sliceVal (b-clocks, o-clocks) (length clocks) ∷ vint w32 free-count ∷ []) _ $
         alloc1 ! (λ l₀. alloc1 ! (λ l₁. alloc1 ! (λ l₂. alloc1 ! (λ l₃. alloc1 ! (λ l₄. alloc1 ! (λ l₅. alloc1 ! (λ l₆. alloc1 ! (λ l₇. alloc1 ! (λ l₈. alloc1 ! (λ l₉. alloc1 ! (λ l₁₀. alloc1 ! (λ l₁₁. alloc1 ! (λ l₁₂. alloc1 ! (λ l₁₃. alloc1 ! (λ l₁₄. alloc1 ! (λ l₁₅. alloc1 ! (λ l₁₆. alloc1 ! (λ l₁₇. alloc1 ! (λ l₁₈. alloc1 ! (λ l₁₉. alloc1 ! (λ l₂₀. alloc1 ! (λ l₂₁. alloc1 ! (λ l₂₂. alloc1 ! (λ l₂₃. alloc1 ! (λ l₂₄. alloc1 ! (λ l₂₅. alloc1 ! (λ l₂₆. alloc1 ! (λ l₂₇. alloc1 ! (λ l₂₈. alloc1 ! (λ l₂₉. alloc1 ! (λ l₃₀. alloc1 ! (λ l₃₁. alloc1 ! (λ l₃₂. alloc1 ! (λ l₃₃. alloc1 ! (λ l₃₄. alloc1 ! (λ l₃₅. alloc1 ! (λ l₃₆. alloc1 ! (λ l₃₇. alloc1 ! (λ l₃₈. alloc0 ! $ params1 ! $
@@ -340,7 +341,7 @@ module _ {M : Type 1} (𝓤 : URA M) (H : Heap 𝓤) (A : Atoms 𝓤) (W : Given
   walks known-numbers-in known-head-of known-record-count known-put-free known-turn-end known-head-with known-run-turn = walked 𝓤 H A f′.ended stayed (f′.clauses 𝓤 H A mem run) (WpFn 𝓤 H (𝓣 .C) (𝓣 .Λ) code.function)
       (λ κs. (slice-vals, (slice-vals, (slice-vals, (slice-vals, (slice-vals, (slice-vals, (slice-vals, (uint-vals w32, tt)))))))))
       (λ κs. (mut-slice-tells (named 0) (κs .0) u32, (mut-slice-tells (named 1) (κs .1 .0) u32, (mut-slice-tells (named 2) (κs .1 .1 .0) R-Frame, (mut-slice-tells (named 3) (κs .1 .1 .1 .0) u32, (shr-slice-tells (named 4) (κs .1 .1 .1 .1 .0) u8, (mut-slice-tells (named 5) (κs .1 .1 .1 .1 .1 .0) u32, (mut-slice-tells (named 6) (κs .1 .1 .1 .1 .1 .1 .0) u64, (uint-tells w32, tt)))))))))
-      (λ κs qs bounds a g are. needs 𝓤 (Fits (parts (a .0 .now) (a .1 .0 .now) (a .1 .1 .0 .now)) × Kept (coreOf (parts (a .0 .now) (a .1 .0 .now) (a .1 .1 .0 .now)) (a .1 .1 .1 .0 .now) (a .1 .1 .1 .1 .1 .1 .1 .0)) × (2 * (length (a .1 .1 .1 .1 .0 .now) / 8) ≤ length (a .1 .1 .1 .1 .1 .0 .now)) × (length (a .1 .1 .1 .1 .1 .1 .0 .now) ≡ 2 * length (a .1 .1 .0 .now)) × ((j : ℕ) → getD (a .1 .1 .1 .1 .1 .1 .0 .now) j 0 ≤ 0)) _
+      (λ κs qs bounds a g are. needs 𝓤 (Fits (parts (a .0 .now) (a .1 .0 .now) (a .1 .1 .0 .now)) × Kept twoWords (coreOf (parts (a .0 .now) (a .1 .0 .now) (a .1 .1 .0 .now)) (a .1 .1 .1 .0 .now) (a .1 .1 .1 .1 .1 .1 .1 .0)) × (2 * (length (a .1 .1 .1 .1 .0 .now) / 8) ≤ length (a .1 .1 .1 .1 .1 .0 .now)) × (length (a .1 .1 .1 .1 .1 .1 .0 .now) ≡ 2 * length (a .1 .1 .0 .now)) × ((j : ℕ) → getD (a .1 .1 .1 .1 .1 .1 .0 .now) j 0 ≤ 0)) _
       (walk 𝓤 H A W mem run (κs .0) (qs .0) (a .0 .ptr .0) (a .0 .ptr .1) (a .0 .name) (a .0 .now) (κs .1 .0) (qs .1 .0) (a .1 .0 .ptr .0) (a .1 .0 .ptr .1) (a .1 .0 .name) (a .1 .0 .now) (κs .1 .1 .0) (qs .1 .1 .0) (a .1 .1 .0 .ptr .0) (a .1 .1 .0 .ptr .1) (a .1 .1 .0 .name) (a .1 .1 .0 .now) (κs .1 .1 .1 .0) (qs .1 .1 .1 .0) (a .1 .1 .1 .0 .ptr .0) (a .1 .1 .1 .0 .ptr .1) (a .1 .1 .1 .0 .name) (a .1 .1 .1 .0 .now) (κs .1 .1 .1 .1 .0) (qs .1 .1 .1 .1 .0) (a .1 .1 .1 .1 .0 .ptr .0) (a .1 .1 .1 .1 .0 .ptr .1) (a .1 .1 .1 .1 .0 .name) (a .1 .1 .1 .1 .0 .now) (κs .1 .1 .1 .1 .1 .0) (qs .1 .1 .1 .1 .1 .0) (a .1 .1 .1 .1 .1 .0 .ptr .0) (a .1 .1 .1 .1 .1 .0 .ptr .1) (a .1 .1 .1 .1 .1 .0 .name) (a .1 .1 .1 .1 .1 .0 .now) (κs .1 .1 .1 .1 .1 .1 .0) (qs .1 .1 .1 .1 .1 .1 .0) (a .1 .1 .1 .1 .1 .1 .0 .ptr .0) (a .1 .1 .1 .1 .1 .1 .0 .ptr .1) (a .1 .1 .1 .1 .1 .1 .0 .name) (a .1 .1 .1 .1 .1 .1 .0 .now) (a .1 .1 .1 .1 .1 .1 .1 .0) (are .1 .1 .1 .1 .1 .1 .1 .0 .1) (are .0 .0 .1) (are .1 .0 .0 .1) (are .1 .1 .0 .0 .1) (are .1 .1 .1 .0 .0 .1) (are .1 .1 .1 .1 .0 .0 .1) (are .1 .1 .1 .1 .1 .0 .0 .1) (are .1 .1 .1 .1 .1 .1 .0 .0 .1) 𝓣 known-numbers-in known-head-of known-record-count known-put-free known-turn-end known-head-with known-run-turn))
 
   meets : Triple 𝓤 (𝓣 .C #numbers-in) (S-numbers-in.Asked 𝓤 H A mem run) → Triple 𝓤 (𝓣 .C #head-of) (S-head-of.Asked 𝓤 H A mem run) → Triple 𝓤 (𝓣 .C #record-count) (S-record-count.Asked 𝓤 H A mem run) → Triple 𝓤 (𝓣 .C #put-free) (S-put-free.Asked 𝓤 H A mem run) → Triple 𝓤 (𝓣 .C #turn-end) (S-turn-end.Asked 𝓤 H A mem run) → Triple 𝓤 (𝓣 .C #head-with) (S-head-with.Asked 𝓤 H A mem run) → Triple 𝓤 (𝓣 .C #run-turn) (S-run-turn.Asked 𝓤 H A mem run) → Meets 𝓤 H A f′.signature (WpFn 𝓤 H (𝓣 .C) (𝓣 .Λ) code.function) (f′.spec 𝓤 H A mem run)

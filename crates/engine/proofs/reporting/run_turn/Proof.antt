@@ -95,6 +95,7 @@ use Rattle.semantics.specs.declared.Rise.{Rise}
 use Rattle.soundness.proofs.Numbers as M-Numbers
 use Rattle.soundness.proofs.Numbers.Laws as L-Numbers
 use Rattle.soundness.specs.declared.Numbers.{Numbers}
+use Rattle.soundness.specs.Layout.{twoWords}
 
 abbrev R-Head : RattleType
 R-Head = M-Head.the-row
@@ -173,7 +174,7 @@ module _ {M : Type 1} (𝓤 : URA M) (H : Heap 𝓤) (A : Atoms 𝓤) (W : Given
   abbrev Post : Val → SProp 𝓤
   Post = walkOf 𝓤 H A f′.ended stayed (f′.clauses 𝓤 H A mem run) .post bound′
 
-  exits′ : (res′ : Turn) (zs-numbers : List ℕ) (zs-deques : List ℕ) (zs-frames : List Frame) (zs-pool : List ℕ) (zs-answers : List ℕ) (zs-clocks : List ℕ) → Is R-Turn res′ (val-Turn res′ ∷ []) → (numbersIn zs-numbers ≡ numbersIn numbers) × (recordsResult (core (renewed h (res′ .«free_node») (res′ .«free_place») (res′ .«free_count»)) (totalsIn zs-numbers) zs-deques zs-frames zs-pool) zs-answers ≡ runOn (recordsResult (core h (totalsIn numbers) deques frames pool) answers) (2 * i) (recordsFrom (to - i) tape (8 * i))) × (timing zs-clocks (res′ .work) (res′ .span) ≡ timedOver (core h (totalsIn numbers) deques frames pool) (recordsFrom (to - i) tape (8 * i)) (timing clocks (t .work) (t .span))) → length zs-numbers ≡ length numbers → length zs-deques ≡ length deques → length zs-frames ≡ length frames → length zs-pool ≡ length pool → length zs-answers ≡ length answers → length zs-clocks ≡ length clocks → ent 𝓤 (⋆ 𝓤 H A (‵ (Mine u32 κ-numbers q-numbers γ-numbers b-numbers o-numbers n-numbers zs-numbers) ∷ ‵ (Mine u32 κ-deques q-deques γ-deques b-deques o-deques n-deques zs-deques) ∷ ‵ (Mine R-Frame κ-frames q-frames γ-frames b-frames o-frames n-frames zs-frames) ∷ ‵ (Mine u32 κ-pool q-pool γ-pool b-pool o-pool n-pool zs-pool) ∷ ‵ (Yours u8 κ-tape q-tape γ-tape b-tape o-tape n-tape tape) ∷ ‵ (Mine u32 κ-answers q-answers γ-answers b-answers o-answers n-answers zs-answers) ∷ ‵ (Mine u64 κ-clocks q-clocks γ-clocks b-clocks o-clocks n-clocks zs-clocks) ∷ [])) (Post (val-Turn res′))
+  exits′ : (res′ : Turn) (zs-numbers : List ℕ) (zs-deques : List ℕ) (zs-frames : List Frame) (zs-pool : List ℕ) (zs-answers : List ℕ) (zs-clocks : List ℕ) → Is R-Turn res′ (val-Turn res′ ∷ []) → (numbersIn zs-numbers ≡ numbersIn numbers) × (recordsResult (core (renewed h (res′ .«free_node») (res′ .«free_place») (res′ .«free_count»)) (totalsIn zs-numbers) zs-deques zs-frames zs-pool) zs-answers ≡ runOn twoWords (recordsResult (core h (totalsIn numbers) deques frames pool) answers) (2 * i) (recordsFrom (to - i) tape (8 * i))) × (timing zs-clocks (res′ .work) (res′ .span) ≡ timedOver twoWords (core h (totalsIn numbers) deques frames pool) (recordsFrom (to - i) tape (8 * i)) (timing clocks (t .work) (t .span))) → length zs-numbers ≡ length numbers → length zs-deques ≡ length deques → length zs-frames ≡ length frames → length zs-pool ≡ length pool → length zs-answers ≡ length answers → length zs-clocks ≡ length clocks → ent 𝓤 (⋆ 𝓤 H A (‵ (Mine u32 κ-numbers q-numbers γ-numbers b-numbers o-numbers n-numbers zs-numbers) ∷ ‵ (Mine u32 κ-deques q-deques γ-deques b-deques o-deques n-deques zs-deques) ∷ ‵ (Mine R-Frame κ-frames q-frames γ-frames b-frames o-frames n-frames zs-frames) ∷ ‵ (Mine u32 κ-pool q-pool γ-pool b-pool o-pool n-pool zs-pool) ∷ ‵ (Yours u8 κ-tape q-tape γ-tape b-tape o-tape n-tape tape) ∷ ‵ (Mine u32 κ-answers q-answers γ-answers b-answers o-answers n-answers zs-answers) ∷ ‵ (Mine u64 κ-clocks q-clocks γ-clocks b-clocks o-clocks n-clocks zs-clocks) ∷ [])) (Post (val-Turn res′))
   exits′ res′ zs-numbers zs-deques zs-frames zs-pool zs-answers zs-clocks good′ e′ same-numbers same-deques same-frames same-pool same-answers same-clocks =
       qed W (‵ (Mine u32 κ-numbers q-numbers γ-numbers b-numbers o-numbers n-numbers zs-numbers) ∷ ‵ (Mine u32 κ-deques q-deques γ-deques b-deques o-deques n-deques zs-deques) ∷ ‵ (Mine R-Frame κ-frames q-frames γ-frames b-frames o-frames n-frames zs-frames) ∷ ‵ (Mine u32 κ-pool q-pool γ-pool b-pool o-pool n-pool zs-pool) ∷ ‵ (Yours u8 κ-tape q-tape γ-tape b-tape o-tape n-tape tape) ∷ ‵ (Mine u32 κ-answers q-answers γ-answers b-answers o-answers n-answers zs-answers) ∷ ‵ (Mine u64 κ-clocks q-clocks γ-clocks b-clocks o-clocks n-clocks zs-clocks) ∷ []) ∵
       suffices ! _ (ends-at 𝓤 H A f′.ended stayed (f′.clauses 𝓤 H A mem run) W bound′ (val-Turn res′) res′ (tt, (zs-numbers, (zs-deques, (zs-frames, (zs-pool, (tt, (zs-answers, (zs-clocks, (tt, (tt, (tt, tt))))))))))) (tt, (same-numbers, (same-deques, (same-frames, (same-pool, (tt, (same-answers, (same-clocks, (tt, (tt, (tt, tt)))))))))))) $ says ! e′ $
@@ -185,7 +186,7 @@ module _ {M : Type 1} (𝓤 : URA M) (H : Heap 𝓤) (A : Atoms 𝓤) (W : Given
     abbrev fm : FmC 𝓤 H (W .laws) (𝓣 .C)
     fm = fmOf 𝓤 H (W .laws) 𝓣
 
-    walk : (length numbers ≡ numberCount) × Kept (core h (totalsIn numbers) deques frames pool) × (2 * (length tape / 8) ≤ length answers) × (i < to) × (to ≤ length tape / 8) × ((j : ℕ) → i + 1 ≤ j → j < to → 5 ≤ kindAt tape j) × (length clocks ≡ 2 * length frames) × ((j : ℕ) → getD clocks j 0 ≤ i) × (t .work ≤ i) × (t .span ≤ i) → ent 𝓤 (onEntry 𝓤 H A f′.signature (κ-numbers, (κ-deques, (κ-frames, (κ-pool, (κ-tape, (κ-answers, (κ-clocks, tt))))))) (q-numbers, (q-deques, (q-frames, (q-pool, (q-tape, (q-answers, (q-clocks, tt))))))) args′ vals′) (WpFn 𝓤 H (𝓣 .C) (𝓣 .Λ) code.function (val-Head h ∷ sliceVal (b-numbers, o-numbers) (length numbers) ∷ sliceVal (b-deques, o-deques) (length deques) ∷ sliceVal (b-frames, o-frames) (length frames) ∷ sliceVal (b-pool, o-pool) (length pool) ∷ sliceVal (b-tape, o-tape) (length tape) ∷ sliceVal (b-answers, o-answers) (length answers) ∷ sliceVal (b-clocks, o-clocks) (length clocks) ∷ vint w64 i ∷ vint w64 to ∷ val-Tally t ∷ []) Post)
+    walk : (length numbers ≡ numberCount) × Kept twoWords (core h (totalsIn numbers) deques frames pool) × (2 * (length tape / 8) ≤ length answers) × (i < to) × (to ≤ length tape / 8) × ((j : ℕ) → i + 1 ≤ j → j < to → 5 ≤ kindAt tape j) × (length clocks ≡ 2 * length frames) × ((j : ℕ) → getD clocks j 0 ≤ i) × (t .work ≤ i) × (t .span ≤ i) → ent 𝓤 (onEntry 𝓤 H A f′.signature (κ-numbers, (κ-deques, (κ-frames, (κ-pool, (κ-tape, (κ-answers, (κ-clocks, tt))))))) (q-numbers, (q-deques, (q-frames, (q-pool, (q-tape, (q-answers, (q-clocks, tt))))))) args′ vals′) (WpFn 𝓤 H (𝓣 .C) (𝓣 .Λ) code.function (val-Head h ∷ sliceVal (b-numbers, o-numbers) (length numbers) ∷ sliceVal (b-deques, o-deques) (length deques) ∷ sliceVal (b-frames, o-frames) (length frames) ∷ sliceVal (b-pool, o-pool) (length pool) ∷ sliceVal (b-tape, o-tape) (length tape) ∷ sliceVal (b-answers, o-answers) (length answers) ∷ sliceVal (b-clocks, o-clocks) (length clocks) ∷ vint w64 i ∷ vint w64 to ∷ val-Tally t ∷ []) Post)
     walk ok′ =
         qed W ((‵ (flft κ-numbers q-numbers) ⊛ ‵ (flft κ-deques q-deques) ⊛ ‵ (flft κ-frames q-frames) ⊛ ‵ (flft κ-pool q-pool) ⊛ ‵ (flft κ-tape q-tape) ⊛ ‵ (flft κ-answers q-answers) ⊛ ‵ (flft κ-clocks q-clocks) ⊛ ‵ ftrue) ∷ ‵ (owns (R-Head ∷ MutSlice (named 0) κ-numbers u32 ∷ MutSlice (named 1) κ-deques u32 ∷ MutSlice (named 2) κ-frames R-Frame ∷ MutSlice (named 3) κ-pool u32 ∷ ShrSlice (named 4) κ-tape u8 ∷ MutSlice (named 5) κ-answers u32 ∷ MutSlice (named 6) κ-clocks u64 ∷ usize ∷ usize ∷ R-Tally ∷ []) args′ vals′) ∷ []) ∵ enter ! (𝓣 .C) (𝓣 .Λ) code.function (val-Head h ∷ sliceVal (b-numbers, o-numbers) (length numbers) ∷ sliceVal (b-deques, o-deques) (length deques) ∷ sliceVal (b-frames, o-frames) (length frames) ∷ sliceVal (b-pool, o-pool) (length pool) ∷ sliceVal (b-tape, o-tape) (length tape) ∷ sliceVal (b-answers, o-answers) (length answers) ∷ sliceVal (b-clocks, o-clocks) (length clocks) ∷ vint w64 i ∷ vint w64 to ∷ val-Tally t ∷ []) _ $
         alloc1 ! (λ l₀. alloc1 ! (λ l₁. alloc1 ! (λ l₂. alloc1 ! (λ l₃. alloc1 ! (λ l₄. alloc1 ! (λ l₅. alloc1 ! (λ l₆. alloc1 ! (λ l₇. alloc1 ! (λ l₈. alloc1 ! (λ l₉. alloc1 ! (λ l₁₀. alloc1 ! (λ l₁₁. alloc1 ! (λ l₁₂. alloc1 ! (λ l₁₃. alloc1 ! (λ l₁₄. alloc1 ! (λ l₁₅. alloc1 ! (λ l₁₆. alloc1 ! (λ l₁₇. alloc1 ! (λ l₁₈. alloc1 ! (λ l₁₉. alloc1 ! (λ l₂₀. alloc1 ! (λ l₂₁. alloc1 ! (λ l₂₂. alloc1 ! (λ l₂₃. alloc1 ! (λ l₂₄. alloc1 ! (λ l₂₅. alloc1 ! (λ l₂₆. alloc1 ! (λ l₂₇. alloc1 ! (λ l₂₈. alloc1 ! (λ l₂₉. alloc1 ! (λ l₃₀. alloc1 ! (λ l₃₁. alloc1 ! (λ l₃₂. alloc1 ! (λ l₃₃. alloc1 ! (λ l₃₄. alloc1 ! (λ l₃₅. alloc1 ! (λ l₃₆. alloc1 ! (λ l₃₇. alloc1 ! (λ l₃₈. alloc1 ! (λ l₃₉. alloc1 ! (λ l₄₀. alloc1 ! (λ l₄₁. alloc1 ! (λ l₄₂. alloc1 ! (λ l₄₃. alloc1 ! (λ l₄₄. alloc1 ! (λ l₄₅. alloc1 ! (λ l₄₆. alloc1 ! (λ l₄₇. alloc1 ! (λ l₄₈. alloc1 ! (λ l₄₉. alloc0 ! $ params1 ! $
@@ -269,7 +270,7 @@ module _ {M : Type 1} (𝓤 : URA M) (H : Heap 𝓤) (A : Atoms 𝓤) (W : Given
   walks known-bottom-of known-rise-of known-run-records known-time-first known-time-data = walked 𝓤 H A f′.ended stayed (f′.clauses 𝓤 H A mem run) (WpFn 𝓤 H (𝓣 .C) (𝓣 .Λ) code.function)
       (λ κs. (LL.vals M-Head.the-type L-Head.the-laws, (slice-vals, (slice-vals, (slice-vals, (slice-vals, (slice-vals, (slice-vals, (slice-vals, (uint-vals w64, (uint-vals w64, (LL.vals M-Tally.the-type L-Tally.the-laws, tt))))))))))))
       (λ κs. (LL.tells M-Head.the-type L-Head.the-laws, (mut-slice-tells (named 0) (κs .0) u32, (mut-slice-tells (named 1) (κs .1 .0) u32, (mut-slice-tells (named 2) (κs .1 .1 .0) R-Frame, (mut-slice-tells (named 3) (κs .1 .1 .1 .0) u32, (shr-slice-tells (named 4) (κs .1 .1 .1 .1 .0) u8, (mut-slice-tells (named 5) (κs .1 .1 .1 .1 .1 .0) u32, (mut-slice-tells (named 6) (κs .1 .1 .1 .1 .1 .1 .0) u64, (uint-tells w64, (uint-tells w64, (LL.tells M-Tally.the-type L-Tally.the-laws, tt))))))))))))
-      (λ κs qs bounds a g are. needs 𝓤 ((length (a .1 .0 .now) ≡ numberCount) × Kept (core (a .0) (totalsIn (a .1 .0 .now)) (a .1 .1 .0 .now) (a .1 .1 .1 .0 .now) (a .1 .1 .1 .1 .0 .now)) × (2 * (length (a .1 .1 .1 .1 .1 .0 .now) / 8) ≤ length (a .1 .1 .1 .1 .1 .1 .0 .now)) × ((a .1 .1 .1 .1 .1 .1 .1 .1 .0) < (a .1 .1 .1 .1 .1 .1 .1 .1 .1 .0)) × ((a .1 .1 .1 .1 .1 .1 .1 .1 .1 .0) ≤ length (a .1 .1 .1 .1 .1 .0 .now) / 8) × ((j : ℕ) → (a .1 .1 .1 .1 .1 .1 .1 .1 .0) + 1 ≤ j → j < (a .1 .1 .1 .1 .1 .1 .1 .1 .1 .0) → 5 ≤ kindAt (a .1 .1 .1 .1 .1 .0 .now) j) × (length (a .1 .1 .1 .1 .1 .1 .1 .0 .now) ≡ 2 * length (a .1 .1 .1 .0 .now)) × ((j : ℕ) → getD (a .1 .1 .1 .1 .1 .1 .1 .0 .now) j 0 ≤ (a .1 .1 .1 .1 .1 .1 .1 .1 .0)) × ((a .1 .1 .1 .1 .1 .1 .1 .1 .1 .1 .0) .work ≤ (a .1 .1 .1 .1 .1 .1 .1 .1 .0)) × ((a .1 .1 .1 .1 .1 .1 .1 .1 .1 .1 .0) .span ≤ (a .1 .1 .1 .1 .1 .1 .1 .1 .0))) _
+      (λ κs qs bounds a g are. needs 𝓤 ((length (a .1 .0 .now) ≡ numberCount) × Kept twoWords (core (a .0) (totalsIn (a .1 .0 .now)) (a .1 .1 .0 .now) (a .1 .1 .1 .0 .now) (a .1 .1 .1 .1 .0 .now)) × (2 * (length (a .1 .1 .1 .1 .1 .0 .now) / 8) ≤ length (a .1 .1 .1 .1 .1 .1 .0 .now)) × ((a .1 .1 .1 .1 .1 .1 .1 .1 .0) < (a .1 .1 .1 .1 .1 .1 .1 .1 .1 .0)) × ((a .1 .1 .1 .1 .1 .1 .1 .1 .1 .0) ≤ length (a .1 .1 .1 .1 .1 .0 .now) / 8) × ((j : ℕ) → (a .1 .1 .1 .1 .1 .1 .1 .1 .0) + 1 ≤ j → j < (a .1 .1 .1 .1 .1 .1 .1 .1 .1 .0) → 5 ≤ kindAt (a .1 .1 .1 .1 .1 .0 .now) j) × (length (a .1 .1 .1 .1 .1 .1 .1 .0 .now) ≡ 2 * length (a .1 .1 .1 .0 .now)) × ((j : ℕ) → getD (a .1 .1 .1 .1 .1 .1 .1 .0 .now) j 0 ≤ (a .1 .1 .1 .1 .1 .1 .1 .1 .0)) × ((a .1 .1 .1 .1 .1 .1 .1 .1 .1 .1 .0) .work ≤ (a .1 .1 .1 .1 .1 .1 .1 .1 .0)) × ((a .1 .1 .1 .1 .1 .1 .1 .1 .1 .1 .0) .span ≤ (a .1 .1 .1 .1 .1 .1 .1 .1 .0))) _
       (walk 𝓤 H A W mem run (κs .0) (qs .0) (a .1 .0 .ptr .0) (a .1 .0 .ptr .1) (a .1 .0 .name) (a .1 .0 .now) (κs .1 .0) (qs .1 .0) (a .1 .1 .0 .ptr .0) (a .1 .1 .0 .ptr .1) (a .1 .1 .0 .name) (a .1 .1 .0 .now) (κs .1 .1 .0) (qs .1 .1 .0) (a .1 .1 .1 .0 .ptr .0) (a .1 .1 .1 .0 .ptr .1) (a .1 .1 .1 .0 .name) (a .1 .1 .1 .0 .now) (κs .1 .1 .1 .0) (qs .1 .1 .1 .0) (a .1 .1 .1 .1 .0 .ptr .0) (a .1 .1 .1 .1 .0 .ptr .1) (a .1 .1 .1 .1 .0 .name) (a .1 .1 .1 .1 .0 .now) (κs .1 .1 .1 .1 .0) (qs .1 .1 .1 .1 .0) (a .1 .1 .1 .1 .1 .0 .ptr .0) (a .1 .1 .1 .1 .1 .0 .ptr .1) (a .1 .1 .1 .1 .1 .0 .name) (a .1 .1 .1 .1 .1 .0 .now) (κs .1 .1 .1 .1 .1 .0) (qs .1 .1 .1 .1 .1 .0) (a .1 .1 .1 .1 .1 .1 .0 .ptr .0) (a .1 .1 .1 .1 .1 .1 .0 .ptr .1) (a .1 .1 .1 .1 .1 .1 .0 .name) (a .1 .1 .1 .1 .1 .1 .0 .now) (κs .1 .1 .1 .1 .1 .1 .0) (qs .1 .1 .1 .1 .1 .1 .0) (a .1 .1 .1 .1 .1 .1 .1 .0 .ptr .0) (a .1 .1 .1 .1 .1 .1 .1 .0 .ptr .1) (a .1 .1 .1 .1 .1 .1 .1 .0 .name) (a .1 .1 .1 .1 .1 .1 .1 .0 .now) (a .0) (are .0) (a .1 .1 .1 .1 .1 .1 .1 .1 .0) (are .1 .1 .1 .1 .1 .1 .1 .1 .0 .1) (a .1 .1 .1 .1 .1 .1 .1 .1 .1 .0) (are .1 .1 .1 .1 .1 .1 .1 .1 .1 .0 .1) (a .1 .1 .1 .1 .1 .1 .1 .1 .1 .1 .0) (are .1 .1 .1 .1 .1 .1 .1 .1 .1 .1 .0) (are .1 .0 .0 .1) (are .1 .1 .0 .0 .1) (are .1 .1 .1 .0 .0 .1) (are .1 .1 .1 .1 .0 .0 .1) (are .1 .1 .1 .1 .1 .0 .0 .1) (are .1 .1 .1 .1 .1 .1 .0 .0 .1) (are .1 .1 .1 .1 .1 .1 .1 .0 .0 .1) 𝓣 known-bottom-of known-rise-of known-run-records known-time-first known-time-data))
 
   meets : Triple 𝓤 (𝓣 .C #bottom-of) (S-bottom-of.Asked 𝓤 H A mem run) → Triple 𝓤 (𝓣 .C #rise-of) (S-rise-of.Asked 𝓤 H A mem run) → Triple 𝓤 (𝓣 .C #run-records) (S-run-records.Asked 𝓤 H A mem run) → Triple 𝓤 (𝓣 .C #time-first) (S-time-first.Asked 𝓤 H A mem run) → Triple 𝓤 (𝓣 .C #time-data) (S-time-data.Asked 𝓤 H A mem run) → Meets 𝓤 H A f′.signature (WpFn 𝓤 H (𝓣 .C) (𝓣 .Λ) code.function) (f′.spec 𝓤 H A mem run)

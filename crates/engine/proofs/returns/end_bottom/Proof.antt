@@ -56,9 +56,9 @@ use Rattle.frames.proofs.end_below.Symbol as D-end-below
 use Rattle.frames.proofs.end_below.Symbol.{name as #end-below}
 use Rattle.frames.proofs.end_below.Met as T-end-below
 use Rattle.engine.proofs.Called.release as S-release
-use Rattle.pool.proofs.release.Symbol as D-release
-use Rattle.pool.proofs.release.Symbol.{name as #release}
-use Rattle.pool.proofs.release.Met as T-release
+use Rattle.packed.proofs.release.Symbol as D-release
+use Rattle.packed.proofs.release.Symbol.{name as #release}
+use Rattle.packed.proofs.release.Met as T-release
 use Rattle.engine.proofs.Called.continued as S-continued
 use Rattle.engine.proofs.returns.continued.Symbol as D-continued
 use Rattle.engine.proofs.returns.continued.Symbol.{name as #continued}
@@ -87,9 +87,9 @@ use Rattle.reducers.specs.declared.View.{View}
 use Rattle.soundness.proofs.Numbers as M-Numbers
 use Rattle.soundness.proofs.Numbers.Laws as L-Numbers
 use Rattle.soundness.specs.declared.Numbers.{Numbers}
-use Rattle.pool.proofs.refs.Freed as M-Freed
-use Rattle.pool.proofs.refs.Freed.Laws as L-Freed
-use Rattle.pool.specs.declared.refs.Freed.{Freed}
+use Rattle.packed.proofs.refs.Freed as M-Freed
+use Rattle.packed.proofs.refs.Freed.Laws as L-Freed
+use Rattle.packed.specs.declared.refs.Freed.{Freed}
 
 abbrev R-Head : RattleType
 R-Head = M-Head.the-row
@@ -200,7 +200,7 @@ module _ {M : Type 1} (𝓤 : URA M) (H : Heap 𝓤) (A : Atoms 𝓤) (W : Given
         land ! (from ! (stop !)) (init ! 32 refl (tt, tt)) $
         assigns ! (addr ! (from ! (fld ! refl (hop ! (look-in ! 52 (sub ! 0 refl (whole !))) (stop !))))) (from ! (stop !)) (init ! 22 refl (tt, tt)) $
         assigns ! (agg ! (and-then ! (load ! (from ! (stop !)) (look ! 22 refl)) (and-then ! (load ! (from ! (fld ! refl (stop !))) (look-in ! 52 (sub ! 1 refl (whole !)))) (no-more !)))) (from ! (stop !)) (init ! 20 refl (tt, (tt, (record { fits = room-pool .0 }, tt)))) $
-        -- _10 = pool::refs::release(_21, _1.0.2, _1.2, _1.0.3, _9, _1.1)
+        -- _10 = packed::refs::release(_21, _1.0.2, _1.2, _1.0.3, _9, _1.1)
         move ! (3 ∷ []) $
         S-release.step mem run ! fm known-release b-pool o-pool n-pool pool ((h .numbers) .nodes) (h .«free_count») ((h .numbers) .«free_node») (r-2 .root) (h .height) ((LL.owed M-Numbers.the-type L-Numbers.the-laws (h .numbers) _ (LL.owed M-Head.the-type L-Head.the-laws h _ h-good .0) .1 .1 .0) .1) ((LL.owed M-Head.the-type L-Head.the-laws h _ h-good .1 .1 .0) .1) ((LL.owed M-Numbers.the-type L-Numbers.the-laws (h .numbers) _ (LL.owed M-Head.the-type L-Head.the-laws h _ h-good .0) .1 .1 .1 .0) .1) ((LL.owed M-Frame.the-type L-Frame.the-laws r-2 _ r-2-good .1 .1 .1 .1 .1 .0) .1) ((LL.owed M-Head.the-type L-Head.the-laws h _ h-good .1 .0) .1) (F.needs-5 h numbers deques frames pool w n p (room-numbers .0) (room-deques .0) (room-frames .0) (room-pool .0) w-fits n-fits p-fits ok′ (differ n 1 test-1) r-2 r-2-is r-3 r-3-is frames-4 done-4 same-frames-4) (refl) room-pool
         (λ ν-0 δ-0. and-then ! (load ! (from ! (stop !)) (look ! 21 refl)) (and-then ! (load ! (from ! (fld ! refl (fld ! refl (stop !)))) (look-in ! 61 (sub ! 2 refl (sub ! 0 refl (whole !))))) (and-then ! (load ! (from ! (fld ! refl (stop !))) (look-in ! 61 (sub ! 2 refl (whole !)))) (and-then ! (load ! (from ! (fld ! refl (fld ! refl (stop !)))) (look-in ! 61 (sub ! 3 refl (sub ! 0 refl (whole !))))) (and-then ! (load ! (from ! (stop !)) (look ! 45 refl)) (and-then ! (load ! (from ! (fld ! refl (stop !))) (look-in ! 61 (sub ! 1 refl (whole !)))) (no-more !))))))) (λ freed pool-5 freed-good freed-is same-pool-5.
@@ -251,6 +251,6 @@ end-bottom-spec 𝓤 H 𝓜 𝓖 𝓡 =
     (meets 𝓤 H (𝓖 .A) (givenOf 𝓤 H 𝓜 𝓖) (𝓜 .mem) (𝓡 .run) (tablesOf 𝓤 H 𝓜 (tables 𝓤 H 𝓜 𝓡 code.env))
     (cited 𝓤 H (S-frame-at.Asked 𝓤 H (𝓖 .A) (𝓜 .mem) (𝓡 .run)) 𝓜 𝓡 code.env #frame-at D-frame-at.routine code.calls-frames·frame-at (T-frame-at.met 𝓤 H 𝓜 𝓖 𝓡))
     (cited 𝓤 H (S-end-below.Asked 𝓤 H (𝓖 .A) (𝓜 .mem) (𝓡 .run)) 𝓜 𝓡 code.env #end-below D-end-below.routine code.calls-frames·end-below (T-end-below.met 𝓤 H 𝓜 𝓖 𝓡))
-    (cited 𝓤 H (S-release.Asked 𝓤 H (𝓖 .A) (𝓜 .mem) (𝓡 .run)) 𝓜 𝓡 code.env #release D-release.routine code.calls-pool·release (T-release.met 𝓤 H 𝓜 𝓖 𝓡))
+    (cited 𝓤 H (S-release.Asked 𝓤 H (𝓖 .A) (𝓜 .mem) (𝓡 .run)) 𝓜 𝓡 code.env #release D-release.routine code.calls-packed·release (T-release.met 𝓤 H 𝓜 𝓖 𝓡))
     (cited 𝓤 H (S-continued.Asked 𝓤 H (𝓖 .A) (𝓜 .mem) (𝓡 .run)) 𝓜 𝓡 code.env #continued D-continued.routine code.calls-engine·returns·continued (T-continued.met 𝓤 H 𝓜 𝓖 𝓡))
     (cited 𝓤 H (S-end-upward.Asked 𝓤 H (𝓖 .A) (𝓜 .mem) (𝓡 .run)) 𝓜 𝓡 code.env #end-upward D-end-upward.routine code.calls-engine·returns·end-upward (T-end-upward.met 𝓤 H 𝓜 𝓖 𝓡)))

@@ -53,11 +53,10 @@ use Rattle.frames.proofs.frame_at.Symbol.{name as #frame-at}
 use Rattle.frames.proofs.frame_at.Met as T-frame-at
 use Rattle.frames.specs.Frames.{frameAt}
 use Rattle.engine.proofs.Called.release as S-release
-use Rattle.pool.proofs.release.Symbol as D-release
-use Rattle.pool.proofs.release.Symbol.{name as #release}
-use Rattle.pool.proofs.release.Met as T-release
-use Rattle.pool.specs.Links.{Link, LinksIn}
-use Rattle.pool.specs.Pool.{release}
+use Rattle.packed.proofs.release.Symbol as D-release
+use Rattle.packed.proofs.release.Symbol.{name as #release}
+use Rattle.packed.proofs.release.Met as T-release
+use Rattle.packed.specs.Pool.{release}
 use Rattle.engine.proofs.Called.end_totals as S-end-totals
 use Rattle.engine.proofs.numbers.end_totals.Symbol as D-end-totals
 use Rattle.engine.proofs.numbers.end_totals.Symbol.{name as #end-totals}
@@ -111,9 +110,9 @@ use Rattle.engine.specs.declared.Out.{Out}
 use Rattle.reducers.proofs.View as M-View
 use Rattle.reducers.proofs.View.Laws as L-View
 use Rattle.reducers.specs.declared.View.{View}
-use Rattle.pool.proofs.refs.Freed as M-Freed
-use Rattle.pool.proofs.refs.Freed.Laws as L-Freed
-use Rattle.pool.specs.declared.refs.Freed.{Freed}
+use Rattle.packed.proofs.refs.Freed as M-Freed
+use Rattle.packed.proofs.refs.Freed.Laws as L-Freed
+use Rattle.packed.specs.declared.refs.Freed.{Freed}
 use Rattle.soundness.proofs.Numbers as M-Numbers
 use Rattle.soundness.proofs.Numbers.Laws as L-Numbers
 use Rattle.soundness.specs.declared.Numbers.{Numbers}
@@ -268,7 +267,7 @@ module _ {M : Type 1} (𝓤 : URA M) (H : Heap 𝓤) (A : Atoms 𝓤) (W : Given
             assigns ! (of-opd ! (load ! (from ! (fld ! refl (stop !))) (look-in ! 42 (sub ! 5 refl (whole !))))) (from ! (stop !)) (init ! 50 refl (tt, record { fits = ((LL.owed M-Frame.the-type L-Frame.the-laws r-5 _ r-5-good .1 .1 .1 .1 .1 .0) .1) })) $
             assigns ! (addr ! (from ! (fld ! refl (hop ! (look-in ! 70 (sub ! 0 refl (whole !))) (stop !))))) (from ! (stop !)) (init ! 36 refl (tt, tt)) $
             assigns ! (agg ! (and-then ! (load ! (from ! (stop !)) (look ! 36 refl)) (and-then ! (load ! (from ! (fld ! refl (stop !))) (look-in ! 70 (sub ! 1 refl (whole !)))) (no-more !)))) (from ! (stop !)) (init ! 34 refl (tt, (tt, (record { fits = room-pool .0 }, tt)))) $
-            -- _16 = pool::refs::release(_23, _1.0.2, _11, _12, _15, _1.1)
+            -- _16 = packed::refs::release(_23, _1.0.2, _11, _12, _15, _1.1)
             move ! (3 ∷ []) $
             S-release.step mem run ! fm known-release b-pool o-pool n-pool pool-l ((h .numbers) .nodes) free-count free-node (r-5 .root) (h .height) ((LL.owed M-Numbers.the-type L-Numbers.the-laws (h .numbers) _ (LL.owed M-Head.the-type L-Head.the-laws h _ h-good .0) .1 .1 .0) .1) free-count-fits free-node-fits ((LL.owed M-Frame.the-type L-Frame.the-laws r-5 _ r-5-good .1 .1 .1 .1 .1 .0) .1) ((LL.owed M-Head.the-type L-Head.the-laws h _ h-good .1 .0) .1) (F.needs-6 h numbers deques frames pool w node place count first′ (room-numbers .0) (room-deques .0) (room-frames .0) (room-pool .0) w-fits node-fits place-fits count-fits first′-fits ok′ free-count free-node free-place p numbers-l deques-l frames-l pool-l free-count-fits free-node-fits free-place-fits p-fits same-numbers-l same-deques-l same-frames-l same-pool-l inv′ r-5 r-5-is) (same-pool-l) room-pool
             (λ ν-0 δ-0. and-then ! (load ! (from ! (stop !)) (look ! 35 refl)) (and-then ! (load ! (from ! (fld ! refl (fld ! refl (stop !)))) (look-in ! 79 (sub ! 2 refl (sub ! 0 refl (whole !))))) (and-then ! (load ! (from ! (stop !)) (look ! 59 refl)) (and-then ! (load ! (from ! (stop !)) (look ! 57 refl)) (and-then ! (load ! (from ! (stop !)) (look ! 51 refl)) (and-then ! (load ! (from ! (fld ! refl (stop !))) (look-in ! 79 (sub ! 1 refl (whole !)))) (no-more !))))))) (λ freed pool-6 freed-good freed-is same-pool-6.
@@ -382,7 +381,7 @@ end-upward-spec 𝓤 H 𝓜 𝓖 𝓡 =
     (tables 𝓤 H 𝓜 𝓡 code.env .C) (tables 𝓤 H 𝓜 𝓡 code.env .Λ) #own code.function (code.unfolded 𝓤 H 𝓜 𝓡)
     (meets 𝓤 H (𝓖 .A) (givenOf 𝓤 H 𝓜 𝓖) (𝓜 .mem) (𝓡 .run) (tablesOf 𝓤 H 𝓜 (tables 𝓤 H 𝓜 𝓡 code.env))
     (cited 𝓤 H (S-frame-at.Asked 𝓤 H (𝓖 .A) (𝓜 .mem) (𝓡 .run)) 𝓜 𝓡 code.env #frame-at D-frame-at.routine code.calls-frames·frame-at (T-frame-at.met 𝓤 H 𝓜 𝓖 𝓡))
-    (cited 𝓤 H (S-release.Asked 𝓤 H (𝓖 .A) (𝓜 .mem) (𝓡 .run)) 𝓜 𝓡 code.env #release D-release.routine code.calls-pool·release (T-release.met 𝓤 H 𝓜 𝓖 𝓡))
+    (cited 𝓤 H (S-release.Asked 𝓤 H (𝓖 .A) (𝓜 .mem) (𝓡 .run)) 𝓜 𝓡 code.env #release D-release.routine code.calls-packed·release (T-release.met 𝓤 H 𝓜 𝓖 𝓡))
     (cited 𝓤 H (S-end-totals.Asked 𝓤 H (𝓖 .A) (𝓜 .mem) (𝓡 .run)) 𝓜 𝓡 code.env #end-totals D-end-totals.routine code.calls-engine·numbers·end-totals (T-end-totals.met 𝓤 H 𝓜 𝓖 𝓡))
     (cited 𝓤 H (S-end-frame.Asked 𝓤 H (𝓖 .A) (𝓜 .mem) (𝓡 .run)) 𝓜 𝓡 code.env #end-frame D-end-frame.routine code.calls-frames·end-frame (T-end-frame.met 𝓤 H 𝓜 𝓖 𝓡))
     (cited 𝓤 H (S-finished.Asked 𝓤 H (𝓖 .A) (𝓜 .mem) (𝓡 .run)) 𝓜 𝓡 code.env #finished D-finished.routine code.calls-engine·returns·finished (T-finished.met 𝓤 H 𝓜 𝓖 𝓡))

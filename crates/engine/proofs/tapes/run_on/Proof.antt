@@ -84,6 +84,7 @@ use Rattle.soundness.specs.declared.Numbers.{Numbers}
 use Rattle.semantics.proofs.Head as M-Head
 use Rattle.semantics.proofs.Head.Laws as L-Head
 use Rattle.semantics.specs.declared.Head.{Head}
+use Rattle.soundness.specs.Layout.{twoWords}
 
 abbrev R-Frame : RattleType
 R-Frame = M-Frame.the-row
@@ -138,7 +139,7 @@ module _ {M : Type 1} (𝓤 : URA M) (H : Heap 𝓤) (A : Atoms 𝓤) (W : Given
   abbrev Post : Val → SProp 𝓤
   Post = walkOf 𝓤 H A f′.ended stayed (f′.clauses 𝓤 H A mem run) .post bound′
 
-  exits′ : (zs-numbers : List ℕ) (zs-deques : List ℕ) (zs-frames : List Frame) (zs-pool : List ℕ) (zs-answers : List ℕ) → IsRun (runOn (recordsResult (coreOf (parts numbers deques frames) pool free-count) answers) 0 (recordsOf bytes)) zs-numbers zs-deques zs-frames zs-pool zs-answers → length zs-numbers ≡ length numbers → length zs-deques ≡ length deques → length zs-frames ≡ length frames → length zs-pool ≡ length pool → length zs-answers ≡ length answers → ent 𝓤 (⋆ 𝓤 H A (‵ (Mine u32 κ-numbers q-numbers γ-numbers b-numbers o-numbers n-numbers zs-numbers) ∷ ‵ (Mine u32 κ-deques q-deques γ-deques b-deques o-deques n-deques zs-deques) ∷ ‵ (Mine R-Frame κ-frames q-frames γ-frames b-frames o-frames n-frames zs-frames) ∷ ‵ (Mine u32 κ-pool q-pool γ-pool b-pool o-pool n-pool zs-pool) ∷ ‵ (Yours u8 κ-bytes q-bytes γ-bytes b-bytes o-bytes n-bytes bytes) ∷ ‵ (Mine u32 κ-answers q-answers γ-answers b-answers o-answers n-answers zs-answers) ∷ [])) (Post (vunit))
+  exits′ : (zs-numbers : List ℕ) (zs-deques : List ℕ) (zs-frames : List Frame) (zs-pool : List ℕ) (zs-answers : List ℕ) → IsRun (runOn twoWords (recordsResult (coreOf (parts numbers deques frames) pool free-count) answers) 0 (recordsOf bytes)) zs-numbers zs-deques zs-frames zs-pool zs-answers → length zs-numbers ≡ length numbers → length zs-deques ≡ length deques → length zs-frames ≡ length frames → length zs-pool ≡ length pool → length zs-answers ≡ length answers → ent 𝓤 (⋆ 𝓤 H A (‵ (Mine u32 κ-numbers q-numbers γ-numbers b-numbers o-numbers n-numbers zs-numbers) ∷ ‵ (Mine u32 κ-deques q-deques γ-deques b-deques o-deques n-deques zs-deques) ∷ ‵ (Mine R-Frame κ-frames q-frames γ-frames b-frames o-frames n-frames zs-frames) ∷ ‵ (Mine u32 κ-pool q-pool γ-pool b-pool o-pool n-pool zs-pool) ∷ ‵ (Yours u8 κ-bytes q-bytes γ-bytes b-bytes o-bytes n-bytes bytes) ∷ ‵ (Mine u32 κ-answers q-answers γ-answers b-answers o-answers n-answers zs-answers) ∷ [])) (Post (vunit))
   exits′ zs-numbers zs-deques zs-frames zs-pool zs-answers e′ same-numbers same-deques same-frames same-pool same-answers =
       qed W (‵ (Mine u32 κ-numbers q-numbers γ-numbers b-numbers o-numbers n-numbers zs-numbers) ∷ ‵ (Mine u32 κ-deques q-deques γ-deques b-deques o-deques n-deques zs-deques) ∷ ‵ (Mine R-Frame κ-frames q-frames γ-frames b-frames o-frames n-frames zs-frames) ∷ ‵ (Mine u32 κ-pool q-pool γ-pool b-pool o-pool n-pool zs-pool) ∷ ‵ (Yours u8 κ-bytes q-bytes γ-bytes b-bytes o-bytes n-bytes bytes) ∷ ‵ (Mine u32 κ-answers q-answers γ-answers b-answers o-answers n-answers zs-answers) ∷ []) ∵
       suffices ! _ (ends-at 𝓤 H A f′.ended stayed (f′.clauses 𝓤 H A mem run) W bound′ (vunit) tt (zs-numbers, (zs-deques, (zs-frames, (zs-pool, (tt, (zs-answers, (tt, tt))))))) (same-numbers, (same-deques, (same-frames, (same-pool, (tt, (same-answers, (tt, tt)))))))) $ says ! e′ $
@@ -150,7 +151,7 @@ module _ {M : Type 1} (𝓤 : URA M) (H : Heap 𝓤) (A : Atoms 𝓤) (W : Given
     abbrev fm : FmC 𝓤 H (W .laws) (𝓣 .C)
     fm = fmOf 𝓤 H (W .laws) 𝓣
 
-    walk : Fits (parts numbers deques frames) × Kept (coreOf (parts numbers deques frames) pool free-count) × (2 * (length bytes / 8) ≤ length answers) → ent 𝓤 (onEntry 𝓤 H A f′.signature (κ-numbers, (κ-deques, (κ-frames, (κ-pool, (κ-bytes, (κ-answers, tt)))))) (q-numbers, (q-deques, (q-frames, (q-pool, (q-bytes, (q-answers, tt)))))) args′ vals′) (WpFn 𝓤 H (𝓣 .C) (𝓣 .Λ) code.function (sliceVal (b-numbers, o-numbers) (length numbers) ∷ sliceVal (b-deques, o-deques) (length deques) ∷ sliceVal (b-frames, o-frames) (length frames) ∷ sliceVal (b-pool, o-pool) (length pool) ∷ sliceVal (b-bytes, o-bytes) (length bytes) ∷ sliceVal (b-answers, o-answers) (length answers) ∷ vint w32 free-count ∷ []) Post)
+    walk : Fits (parts numbers deques frames) × Kept twoWords (coreOf (parts numbers deques frames) pool free-count) × (2 * (length bytes / 8) ≤ length answers) → ent 𝓤 (onEntry 𝓤 H A f′.signature (κ-numbers, (κ-deques, (κ-frames, (κ-pool, (κ-bytes, (κ-answers, tt)))))) (q-numbers, (q-deques, (q-frames, (q-pool, (q-bytes, (q-answers, tt)))))) args′ vals′) (WpFn 𝓤 H (𝓣 .C) (𝓣 .Λ) code.function (sliceVal (b-numbers, o-numbers) (length numbers) ∷ sliceVal (b-deques, o-deques) (length deques) ∷ sliceVal (b-frames, o-frames) (length frames) ∷ sliceVal (b-pool, o-pool) (length pool) ∷ sliceVal (b-bytes, o-bytes) (length bytes) ∷ sliceVal (b-answers, o-answers) (length answers) ∷ vint w32 free-count ∷ []) Post)
     walk ok′ =
         qed W ((‵ (flft κ-numbers q-numbers) ⊛ ‵ (flft κ-deques q-deques) ⊛ ‵ (flft κ-frames q-frames) ⊛ ‵ (flft κ-pool q-pool) ⊛ ‵ (flft κ-bytes q-bytes) ⊛ ‵ (flft κ-answers q-answers) ⊛ ‵ ftrue) ∷ ‵ (owns (MutSlice (named 0) κ-numbers u32 ∷ MutSlice (named 1) κ-deques u32 ∷ MutSlice (named 2) κ-frames R-Frame ∷ MutSlice (named 3) κ-pool u32 ∷ ShrSlice (named 4) κ-bytes u8 ∷ MutSlice (named 5) κ-answers u32 ∷ u32 ∷ []) args′ vals′) ∷ []) ∵ enter ! (𝓣 .C) (𝓣 .Λ) code.function (sliceVal (b-numbers, o-numbers) (length numbers) ∷ sliceVal (b-deques, o-deques) (length deques) ∷ sliceVal (b-frames, o-frames) (length frames) ∷ sliceVal (b-pool, o-pool) (length pool) ∷ sliceVal (b-bytes, o-bytes) (length bytes) ∷ sliceVal (b-answers, o-answers) (length answers) ∷ vint w32 free-count ∷ []) _ $
         alloc1 ! (λ l₀. alloc1 ! (λ l₁. alloc1 ! (λ l₂. alloc1 ! (λ l₃. alloc1 ! (λ l₄. alloc1 ! (λ l₅. alloc1 ! (λ l₆. alloc1 ! (λ l₇. alloc1 ! (λ l₈. alloc1 ! (λ l₉. alloc1 ! (λ l₁₀. alloc1 ! (λ l₁₁. alloc1 ! (λ l₁₂. alloc1 ! (λ l₁₃. alloc1 ! (λ l₁₄. alloc1 ! (λ l₁₅. alloc1 ! (λ l₁₆. alloc1 ! (λ l₁₇. alloc1 ! (λ l₁₈. alloc1 ! (λ l₁₉. alloc1 ! (λ l₂₀. alloc1 ! (λ l₂₁. alloc1 ! (λ l₂₂. alloc1 ! (λ l₂₃. alloc1 ! (λ l₂₄. alloc1 ! (λ l₂₅. alloc1 ! (λ l₂₆. alloc0 ! $ params1 ! $
@@ -203,7 +204,7 @@ module _ {M : Type 1} (𝓤 : URA M) (H : Heap 𝓤) (A : Atoms 𝓤) (W : Given
   walks known-numbers-in known-head-of known-record-count known-run-records known-put-free = walked 𝓤 H A f′.ended stayed (f′.clauses 𝓤 H A mem run) (WpFn 𝓤 H (𝓣 .C) (𝓣 .Λ) code.function)
       (λ κs. (slice-vals, (slice-vals, (slice-vals, (slice-vals, (slice-vals, (slice-vals, (uint-vals w32, tt))))))))
       (λ κs. (mut-slice-tells (named 0) (κs .0) u32, (mut-slice-tells (named 1) (κs .1 .0) u32, (mut-slice-tells (named 2) (κs .1 .1 .0) R-Frame, (mut-slice-tells (named 3) (κs .1 .1 .1 .0) u32, (shr-slice-tells (named 4) (κs .1 .1 .1 .1 .0) u8, (mut-slice-tells (named 5) (κs .1 .1 .1 .1 .1 .0) u32, (uint-tells w32, tt))))))))
-      (λ κs qs bounds a g are. needs 𝓤 (Fits (parts (a .0 .now) (a .1 .0 .now) (a .1 .1 .0 .now)) × Kept (coreOf (parts (a .0 .now) (a .1 .0 .now) (a .1 .1 .0 .now)) (a .1 .1 .1 .0 .now) (a .1 .1 .1 .1 .1 .1 .0)) × (2 * (length (a .1 .1 .1 .1 .0 .now) / 8) ≤ length (a .1 .1 .1 .1 .1 .0 .now))) _
+      (λ κs qs bounds a g are. needs 𝓤 (Fits (parts (a .0 .now) (a .1 .0 .now) (a .1 .1 .0 .now)) × Kept twoWords (coreOf (parts (a .0 .now) (a .1 .0 .now) (a .1 .1 .0 .now)) (a .1 .1 .1 .0 .now) (a .1 .1 .1 .1 .1 .1 .0)) × (2 * (length (a .1 .1 .1 .1 .0 .now) / 8) ≤ length (a .1 .1 .1 .1 .1 .0 .now))) _
       (walk 𝓤 H A W mem run (κs .0) (qs .0) (a .0 .ptr .0) (a .0 .ptr .1) (a .0 .name) (a .0 .now) (κs .1 .0) (qs .1 .0) (a .1 .0 .ptr .0) (a .1 .0 .ptr .1) (a .1 .0 .name) (a .1 .0 .now) (κs .1 .1 .0) (qs .1 .1 .0) (a .1 .1 .0 .ptr .0) (a .1 .1 .0 .ptr .1) (a .1 .1 .0 .name) (a .1 .1 .0 .now) (κs .1 .1 .1 .0) (qs .1 .1 .1 .0) (a .1 .1 .1 .0 .ptr .0) (a .1 .1 .1 .0 .ptr .1) (a .1 .1 .1 .0 .name) (a .1 .1 .1 .0 .now) (κs .1 .1 .1 .1 .0) (qs .1 .1 .1 .1 .0) (a .1 .1 .1 .1 .0 .ptr .0) (a .1 .1 .1 .1 .0 .ptr .1) (a .1 .1 .1 .1 .0 .name) (a .1 .1 .1 .1 .0 .now) (κs .1 .1 .1 .1 .1 .0) (qs .1 .1 .1 .1 .1 .0) (a .1 .1 .1 .1 .1 .0 .ptr .0) (a .1 .1 .1 .1 .1 .0 .ptr .1) (a .1 .1 .1 .1 .1 .0 .name) (a .1 .1 .1 .1 .1 .0 .now) (a .1 .1 .1 .1 .1 .1 .0) (are .1 .1 .1 .1 .1 .1 .0 .1) (are .0 .0 .1) (are .1 .0 .0 .1) (are .1 .1 .0 .0 .1) (are .1 .1 .1 .0 .0 .1) (are .1 .1 .1 .1 .0 .0 .1) (are .1 .1 .1 .1 .1 .0 .0 .1) 𝓣 known-numbers-in known-head-of known-record-count known-run-records known-put-free))
 
   meets : Triple 𝓤 (𝓣 .C #numbers-in) (S-numbers-in.Asked 𝓤 H A mem run) → Triple 𝓤 (𝓣 .C #head-of) (S-head-of.Asked 𝓤 H A mem run) → Triple 𝓤 (𝓣 .C #record-count) (S-record-count.Asked 𝓤 H A mem run) → Triple 𝓤 (𝓣 .C #run-records) (S-run-records.Asked 𝓤 H A mem run) → Triple 𝓤 (𝓣 .C #put-free) (S-put-free.Asked 𝓤 H A mem run) → Meets 𝓤 H A f′.signature (WpFn 𝓤 H (𝓣 .C) (𝓣 .Λ) code.function) (f′.spec 𝓤 H A mem run)

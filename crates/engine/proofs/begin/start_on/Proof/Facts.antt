@@ -11,7 +11,7 @@ use Rattle.semantics.specs.Promises.{parts, Fits, IsStart}
 use Rattle.semantics.specs.Entries.{wholeNodes}
 use Rattle.engine.specs.Promises.{refusalBy, startTests}
 use lib.ListN.{replicate}
-use Rattle.pool.specs.Pool.{initPool}
+use Rattle.packed.specs.Pool.{initPool}
 use Rattle.frames.specs.Widths.{dequeWords}
 use Rattle.frames.specs.Deques.{initDeques}
 use Rattle.frames.specs.Widths.{maxPlaces}
@@ -21,11 +21,12 @@ use Rattle.soundness.specs.Numbers.{numberWords, numberCount, totalCount}
 use Rattle.frames.specs.declared.Frame.{Frame}
 use Rattle.soundness.specs.declared.Numbers.{Numbers}
 use Rattle.engine.proofs.Starts.{start-refused, few-values, few-nodes, table-fits, started}
+use Rattle.soundness.specs.Layout.{twoWords}
 
 module _
     (numbers : List ℕ) (deques : List ℕ) (frames : List Frame) (workers : ℕ) (values : List ℕ) (pool : List ℕ) (numbers-fits : length numbers < 2 ^ 64) (deques-fits : length deques < 2 ^ 64) (frames-fits : length frames < 2 ^ 64) (workers-fits : workers < 2 ^ 32) (values-fits : length values < 2 ^ 64) (pool-fits : length pool < 2 ^ 64) (ok : Fits (parts numbers deques frames))
     -- engine::begin::whole_nodes(pool)
-    (nodes : ℕ) (nodes-fits : nodes < 2 ^ 64) (nodes-is : nodes ≡ wholeNodes pool)
+    (nodes : ℕ) (nodes-fits : nodes < 2 ^ 64) (nodes-is : nodes ≡ wholeNodes twoWords pool)
     -- engine::begin::start_refusal(workers, (length values), (length frames), nodes)
     (refusal : ℕ) (refusal-fits : refusal < 2 ^ 32) (refusal-is : refusal ≡ refusalBy (startTests workers (length values) (length frames) nodes)) where
   module _
@@ -35,7 +36,7 @@ module _
       -- words::clear_all(deques)
       (deques-5 : List ℕ) (done-5 : deques-5 ≡ replicate (length deques) 0) (same-deques-5 : length deques-5 ≡ length deques) where
     -- a way out: what the function ensures
-    pub out-6 : IsStart (startWith workers values frames pool) numbers-4 deques-5 frames pool refusal
+    pub out-6 : IsStart (startWith twoWords workers values frames pool) numbers-4 deques-5 frames pool refusal
     out-6 = start-refused workers values frames pool nodes nodes-is refusal refusal-is test-3 numbers deques numbers-4 deques-5 ok done-4 done-5
 
   module _
@@ -88,5 +89,5 @@ module _
                 -- engine::numbers::put_numbers(numbers, r-15)
                 (numbers-16 : List ℕ) (done-16 : numbers-16 ≡ numberWords r-15 (replicate totalCount 0)) (same-numbers-16 : length numbers-16 ≡ length numbers) where
               -- a way out: what the function ensures
-              pub out-17 : IsStart (startWith workers values frames pool) numbers-16 deques-10 frames-11 pool-9 0
+              pub out-17 : IsStart (startWith twoWords workers values frames pool) numbers-16 deques-10 frames-11 pool-9 0
               out-17 = started workers values frames pool nodes nodes-is refusal refusal-is test-3 free r-15 numbers-16 deques-10 frames-11 pool-9 free-is done-10 done-11 r-15-is done-16

@@ -13,12 +13,12 @@ use Rattle.soundness.specs.Soundness.{cleared}
 use lib.Dec.{eqb}
 use Rattle.words.specs.Basics.{all}
 use Rattle.frames.specs.Widths.{maxPlaces}
-use Rattle.pool_check.specs.Answer.{poolChecked}
+use Rattle.packed_check.specs.Answer.{poolChecked}
 use Rattle.pool_check.specs.Algorithm.{DeadFrom}
 use Rattle.frames.specs.declared.Frame.{Frame}
 use Rattle.frame_check.specs.declared.FramesChecked.{FramesChecked}
 use Rattle.soundness.specs.declared.Numbers.{Numbers}
-use Rattle.pool_check.specs.declared.PoolChecked.{PoolChecked}
+use Rattle.packed_check.specs.declared.PoolChecked.{PoolChecked}
 use Rattle.engine.proofs.Checks.{tables-unsound, totals-unsound, pool-asks, pool-unsound, all-sound}
 use Rattle.soundness.specs.declared.Checked.{Checked}
 

@@ -20,12 +20,12 @@ use lib.Dec.{eqb}
 use Rattle.words.specs.Basics.{all}
 use Rattle.soundness.specs.Numbers.{totalCount, totalsIn}
 use Rattle.frames.specs.Widths.{maxPlaces}
-use Rattle.pool_check.specs.Answer.{poolChecked}
+use Rattle.packed_check.specs.Answer.{poolChecked}
 use Rattle.pool_check.specs.Algorithm.{DeadFrom}
 use Rattle.frames.specs.declared.Frame.{Frame}
 use Rattle.soundness.specs.declared.Numbers.{Numbers}
 use Rattle.frame_check.specs.declared.FramesChecked.{FramesChecked}
-use Rattle.pool_check.specs.declared.PoolChecked.{PoolChecked}
+use Rattle.packed_check.specs.declared.PoolChecked.{PoolChecked}
 use Rattle.soundness.specs.declared.Checked.{Checked}
 use Rattle.engine.proofs.Checks.{no-room, tables-unsound, pool-asks, totals-unsound, pool-unsound, all-sound}
 use Rattle.engine.specs.Promises.{tablesChecked}

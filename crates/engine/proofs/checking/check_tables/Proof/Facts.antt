@@ -17,11 +17,12 @@ use Rattle.soundness.specs.declared.Numbers.{Numbers}
 use Rattle.frame_check.specs.declared.FramesChecked.{FramesChecked}
 use Rattle.engine.proofs.Checks.{tables-no, tables-yes, few-places}
 use Rattle.engine.specs.Promises.{tablesChecked}
+use Rattle.soundness.specs.Layout.{twoWords}
 
 module _
     (numbers : Numbers) (deques : List ℕ) (frames : List Frame) (pool : List ℕ) (deques-fits : length deques < 2 ^ 64) (frames-fits : length frames < 2 ^ 64) (pool-fits : length pool < 2 ^ 64) (ok : length deques ≡ dequeWords)
     -- engine::checking::check_numbers(numbers, (length frames), pool)
-    (r-1 : Bool) (r-1-is : ((fs : List Frame) → length fs ≡ (length frames) → r-1 ≡ numbersSound numbers fs pool)) where
+    (r-1 : Bool) (r-1-is : ((fs : List Frame) → length fs ≡ (length frames) → r-1 ≡ numbersSound twoWords numbers fs pool)) where
   module _
       (test-2 : r-1 ≡ false) where
     -- a way out: what the function ensures

@@ -16,6 +16,7 @@ use Rattle.semantics.specs.Images.{saveWith}
 use Rattle.semantics.specs.Promises.{Fits}
 use Rattle.frames.specs.declared.Frame.{Frame}
 use Rattle.engine.proofs.Fitting.{fit, save-unfit, save-fit}
+use Rattle.soundness.specs.Layout.{twoWords}
 
 module _
     (numbers : List ℕ) (deques : List ℕ) (frames : List Frame) (pool : List ℕ) (work : List ℕ) (target : List ℕ) (numbers-fits : length numbers < 2 ^ 64) (deques-fits : length deques < 2 ^ 64) (frames-fits : length frames < 2 ^ 64) (pool-fits : length pool < 2 ^ 64) (work-fits : length work < 2 ^ 64) (target-fits : length target < 2 ^ 64)
@@ -26,7 +27,7 @@ module _
       -- engine::entries::unfit()
       (r-3 : ℕ) (r-3-fits : r-3 < 2 ^ 32) (r-3-is : r-3 ≡ 99) where
     -- a way out: what the function ensures
-    pub out-4 : IsSave (saveOn (parts numbers deques frames) pool work target) work target r-3
+    pub out-4 : IsSave (saveOn twoWords (parts numbers deques frames) pool work target) work target r-3
     out-4 = save-unfit numbers deques frames r-1 r-1-is test-2 pool work target r-3 r-3-is
 
   module _
@@ -37,7 +38,7 @@ module _
 
     module _
         -- engine::images::save_on(numbers, deques, frames, pool, work, target)
-        (r-5 : ℕ) (work-5 : List ℕ) (target-5 : List ℕ) (r-5-fits : r-5 < 2 ^ 32) (r-5-is : IsSave (saveWith (parts numbers deques frames) pool work target) work-5 target-5 r-5) (same-work-5 : length work-5 ≡ length work) (same-target-5 : length target-5 ≡ length target) where
+        (r-5 : ℕ) (work-5 : List ℕ) (target-5 : List ℕ) (r-5-fits : r-5 < 2 ^ 32) (r-5-is : IsSave (saveWith twoWords (parts numbers deques frames) pool work target) work-5 target-5 r-5) (same-work-5 : length work-5 ≡ length work) (same-target-5 : length target-5 ≡ length target) where
       -- a way out: what the function ensures
-      pub out-6 : IsSave (saveOn (parts numbers deques frames) pool work target) work-5 target-5 r-5
+      pub out-6 : IsSave (saveOn twoWords (parts numbers deques frames) pool work target) work-5 target-5 r-5
       out-6 = save-fit numbers deques frames r-1 r-1-is test-2 pool work target work-5 target-5 r-5 r-5-is

@@ -16,6 +16,7 @@ use Rattle.semantics.specs.Entries.{startWith}
 use Rattle.semantics.specs.Promises.{Fits}
 use Rattle.frames.specs.declared.Frame.{Frame}
 use Rattle.engine.proofs.Fitting.{fit, start-unfit, start-fit}
+use Rattle.soundness.specs.Layout.{twoWords}
 
 module _
     (numbers : List ℕ) (deques : List ℕ) (frames : List Frame) (workers : ℕ) (values : List ℕ) (pool : List ℕ) (numbers-fits : length numbers < 2 ^ 64) (deques-fits : length deques < 2 ^ 64) (frames-fits : length frames < 2 ^ 64) (workers-fits : workers < 2 ^ 32) (values-fits : length values < 2 ^ 64) (pool-fits : length pool < 2 ^ 64)
@@ -26,7 +27,7 @@ module _
       -- engine::entries::unfit()
       (r-3 : ℕ) (r-3-fits : r-3 < 2 ^ 32) (r-3-is : r-3 ≡ 99) where
     -- a way out: what the function ensures
-    pub out-4 : IsStart (startOn (parts numbers deques frames) workers values pool) numbers deques frames pool r-3
+    pub out-4 : IsStart (startOn twoWords (parts numbers deques frames) workers values pool) numbers deques frames pool r-3
     out-4 = start-unfit numbers deques frames r-1 r-1-is test-2 workers values pool r-3 r-3-is
 
   module _
@@ -37,7 +38,7 @@ module _
 
     module _
         -- engine::begin::start_on(numbers, deques, frames, workers, values, pool)
-        (r-5 : ℕ) (numbers-5 : List ℕ) (deques-5 : List ℕ) (frames-5 : List Frame) (pool-5 : List ℕ) (r-5-fits : r-5 < 2 ^ 32) (r-5-is : IsStart (startWith workers values frames pool) numbers-5 deques-5 frames-5 pool-5 r-5) (same-numbers-5 : length numbers-5 ≡ length numbers) (same-deques-5 : length deques-5 ≡ length deques) (same-frames-5 : length frames-5 ≡ length frames) (same-pool-5 : length pool-5 ≡ length pool) where
+        (r-5 : ℕ) (numbers-5 : List ℕ) (deques-5 : List ℕ) (frames-5 : List Frame) (pool-5 : List ℕ) (r-5-fits : r-5 < 2 ^ 32) (r-5-is : IsStart (startWith twoWords workers values frames pool) numbers-5 deques-5 frames-5 pool-5 r-5) (same-numbers-5 : length numbers-5 ≡ length numbers) (same-deques-5 : length deques-5 ≡ length deques) (same-frames-5 : length frames-5 ≡ length frames) (same-pool-5 : length pool-5 ≡ length pool) where
       -- a way out: what the function ensures
-      pub out-6 : IsStart (startOn (parts numbers deques frames) workers values pool) numbers-5 deques-5 frames-5 pool-5 r-5
+      pub out-6 : IsStart (startOn twoWords (parts numbers deques frames) workers values pool) numbers-5 deques-5 frames-5 pool-5 r-5
       out-6 = start-fit numbers deques frames r-1 r-1-is test-2 workers values pool numbers-5 deques-5 frames-5 pool-5 r-5 r-5-is

@@ -16,6 +16,7 @@ use Rattle.semantics.specs.Entries.{tapeWith}
 use Rattle.semantics.specs.Promises.{Fits}
 use Rattle.frames.specs.declared.Frame.{Frame}
 use Rattle.engine.proofs.Fitting.{fit, tape-unfit, tape-fit}
+use Rattle.soundness.specs.Layout.{twoWords}
 
 module _
     (numbers : List ℕ) (deques : List ℕ) (frames : List Frame) (pool : List ℕ) (work : List ℕ) (bytes : List ℕ) (answers : List ℕ) (numbers-fits : length numbers < 2 ^ 64) (deques-fits : length deques < 2 ^ 64) (frames-fits : length frames < 2 ^ 64) (pool-fits : length pool < 2 ^ 64) (work-fits : length work < 2 ^ 64) (bytes-fits : length bytes < 2 ^ 64) (answers-fits : length answers < 2 ^ 64)
@@ -26,7 +27,7 @@ module _
       -- engine::entries::unfit()
       (r-3 : ℕ) (r-3-fits : r-3 < 2 ^ 32) (r-3-is : r-3 ≡ 99) where
     -- a way out: what the function ensures
-    pub out-4 : IsTape (tapeOn (parts numbers deques frames) pool work bytes answers) numbers deques frames pool work answers r-3
+    pub out-4 : IsTape (tapeOn twoWords (parts numbers deques frames) pool work bytes answers) numbers deques frames pool work answers r-3
     out-4 = tape-unfit numbers deques frames r-1 r-1-is test-2 pool work bytes answers r-3 r-3-is
 
   module _
@@ -37,7 +38,7 @@ module _
 
     module _
         -- engine::tapes::tape_on(numbers, deques, frames, pool, work, bytes, answers)
-        (r-5 : ℕ) (numbers-5 : List ℕ) (deques-5 : List ℕ) (frames-5 : List Frame) (pool-5 : List ℕ) (work-5 : List ℕ) (answers-5 : List ℕ) (r-5-fits : r-5 < 2 ^ 32) (r-5-is : IsTape (tapeWith (parts numbers deques frames) pool work bytes answers) numbers-5 deques-5 frames-5 pool-5 work-5 answers-5 r-5) (same-numbers-5 : length numbers-5 ≡ length numbers) (same-deques-5 : length deques-5 ≡ length deques) (same-frames-5 : length frames-5 ≡ length frames) (same-pool-5 : length pool-5 ≡ length pool) (same-work-5 : length work-5 ≡ length work) (same-answers-5 : length answers-5 ≡ length answers) where
+        (r-5 : ℕ) (numbers-5 : List ℕ) (deques-5 : List ℕ) (frames-5 : List Frame) (pool-5 : List ℕ) (work-5 : List ℕ) (answers-5 : List ℕ) (r-5-fits : r-5 < 2 ^ 32) (r-5-is : IsTape (tapeWith twoWords (parts numbers deques frames) pool work bytes answers) numbers-5 deques-5 frames-5 pool-5 work-5 answers-5 r-5) (same-numbers-5 : length numbers-5 ≡ length numbers) (same-deques-5 : length deques-5 ≡ length deques) (same-frames-5 : length frames-5 ≡ length frames) (same-pool-5 : length pool-5 ≡ length pool) (same-work-5 : length work-5 ≡ length work) (same-answers-5 : length answers-5 ≡ length answers) where
       -- a way out: what the function ensures
-      pub out-6 : IsTape (tapeOn (parts numbers deques frames) pool work bytes answers) numbers-5 deques-5 frames-5 pool-5 work-5 answers-5 r-5
+      pub out-6 : IsTape (tapeOn twoWords (parts numbers deques frames) pool work bytes answers) numbers-5 deques-5 frames-5 pool-5 work-5 answers-5 r-5
       out-6 = tape-fit numbers deques frames r-1 r-1-is test-2 pool work bytes answers numbers-5 deques-5 frames-5 pool-5 work-5 answers-5 r-5 r-5-is

@@ -20,6 +20,7 @@ use Rattle.engine.specs.Promises.{tablesChecked}
 use Rattle.frames.specs.Widths.{dequeWords}
 use Rattle.soundness.specs.declared.Numbers.{Numbers}
 use Rattle.frame_check.specs.declared.FramesChecked.{FramesChecked}
+use Rattle.soundness.specs.Layout.{twoWords}
 
 module _
     (numbers : List ℕ) (deques : List ℕ) (frames : List Frame) (pool : List ℕ) (work : List ℕ) (numbers-fits : length numbers < 2 ^ 64) (deques-fits : length deques < 2 ^ 64) (frames-fits : length frames < 2 ^ 64) (pool-fits : length pool < 2 ^ 64) (work-fits : length work < 2 ^ 64) (ok : Fits (parts numbers deques frames) × (numbersIn numbers .nodes ≤ length work)) where
@@ -49,7 +50,7 @@ module _
         module _
             (test-5 : r-4 ≡ 0 → ⊥)
             -- engine::images::refuse_read(frames, pool)
-            (r-6 : ℕ) (frames-6 : List Frame) (pool-6 : List ℕ) (r-6-fits : r-6 < 2 ^ 32) (r-6-is : (r-6 ≡ 6) × (frames-6 ≡ recordsZero frames) × (pool-6 ≡ nodesZero pool)) (same-frames-6 : length frames-6 ≡ length frames) (same-pool-6 : length pool-6 ≡ length pool) where
+            (r-6 : ℕ) (frames-6 : List Frame) (pool-6 : List ℕ) (r-6-fits : r-6 < 2 ^ 32) (r-6-is : (r-6 ≡ 6) × (frames-6 ≡ recordsZero frames) × (pool-6 ≡ nodesZero twoWords pool)) (same-frames-6 : length frames-6 ≡ length frames) (same-pool-6 : length pool-6 ≡ length pool) where
           -- a way out: what the function ensures
           pub out-7 : IsRechecked (parts numbers deques frames) pool work frames-6 pool-6 work-3 r-6
           out-7 = reread-refused numbers deques frames pool work (ok .1) r-3 work-3 r-3-is r-4 r-4-is test-5 frames-6 pool-6 r-6 r-6-is

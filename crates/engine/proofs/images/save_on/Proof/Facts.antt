@@ -21,6 +21,7 @@ use Rattle.image.specs.Image.{nodeCount, placeCount, imageOf, Lengths, stored}
 use Rattle.frames.specs.declared.Frame.{Frame}
 use Rattle.soundness.specs.declared.Checked.{Checked}
 use Rattle.engine.proofs.SaveLoad.{save-refused, save-short, save-asks, save-done}
+use Rattle.soundness.specs.Layout.{twoWords}
 
 module _
     (numbers : List ℕ) (deques : List ℕ) (frames : List Frame) (pool : List ℕ) (work : List ℕ) (target : List ℕ) (numbers-fits : length numbers < 2 ^ 64) (deques-fits : length deques < 2 ^ 64) (frames-fits : length frames < 2 ^ 64) (pool-fits : length pool < 2 ^ 64) (work-fits : length work < 2 ^ 64) (target-fits : length target < 2 ^ 64) (ok : Fits (parts numbers deques frames)) where
@@ -36,7 +37,7 @@ module _
     module _
         (test-3 : refused ≡ 0 → ⊥) where
       -- a way out: what the function ensures
-      pub out-4 : IsSave (saveWith (parts numbers deques frames) pool work target) work-1 target refused
+      pub out-4 : IsSave (saveWith twoWords (parts numbers deques frames) pool work target) work-1 target refused
       out-4 = save-refused numbers deques frames pool work target r-1 work-1 r-1-is refused refused-is test-3
 
     module _
@@ -47,22 +48,22 @@ module _
 
       module _
           -- engine::images::target_number(numbers, target)
-          (short : ℕ) (short-fits : short < 2 ^ 32) (short-is : short ≡ cond (ltb (length target) (imageBytes (numbersIn numbers .places) (numbersIn numbers .nodes))) (refusalNumber Target) 0) where
+          (short : ℕ) (short-fits : short < 2 ^ 32) (short-is : short ≡ cond (ltb (length target) (imageBytes twoWords (numbersIn numbers .places) (numbersIn numbers .nodes))) (refusalNumber Target) 0) where
         module _
             (test-6 : short ≡ 0 → ⊥) where
           -- a way out: what the function ensures
-          pub out-7 : IsSave (saveWith (parts numbers deques frames) pool work target) work-1 target short
+          pub out-7 : IsSave (saveWith twoWords (parts numbers deques frames) pool work target) work-1 target short
           out-7 = save-short numbers deques frames pool work target r-1 work-1 r-1-is refused refused-is test-3 short short-is test-6
 
         module _
             (test-6 : short ≡ 0) where
           -- image::write::write_image asks
-          pub needs-8 : Lengths numbers deques frames × (nodeWords * nodeCount numbers ≤ length pool) × (imageBytes (placeCount numbers) (nodeCount numbers) ≤ length target)
+          pub needs-8 : Lengths numbers deques frames × (nodeWords * nodeCount numbers ≤ length pool) × (imageBytes twoWords (placeCount numbers) (nodeCount numbers) ≤ length target)
           needs-8 = save-asks numbers deques frames pool work target r-1 work-1 r-1-is refused refused-is test-3 short short-is test-6 ok
 
           module _
               -- image::write::write_image(numbers, deques, frames, pool, target)
-              (target-8 : List ℕ) (done-8 : target-8 ≡ stored (imageOf numbers deques frames pool) target) (same-target-8 : length target-8 ≡ length target) where
+              (target-8 : List ℕ) (done-8 : target-8 ≡ stored (imageOf twoWords numbers deques frames pool) target) (same-target-8 : length target-8 ≡ length target) where
             -- a way out: what the function ensures
-            pub out-9 : IsSave (saveWith (parts numbers deques frames) pool work target) work-1 target-8 0
+            pub out-9 : IsSave (saveWith twoWords (parts numbers deques frames) pool work target) work-1 target-8 0
             out-9 = save-done numbers deques frames pool work target r-1 work-1 r-1-is refused refused-is test-3 short short-is test-6 target-8 done-8

@@ -13,7 +13,7 @@ use Rattle.semantics.specs.Ranges.{Ready}
 use Rattle.engine.specs.Promises.{core, renewed, headAfter, LeavesOthers, Answers, kindOn, ActsAt}
 use Rattle.frames.specs.Frames.{frameAt}
 use Rattle.pool.specs.Links.{Link}
-use Rattle.pool.specs.Pool.{retain}
+use Rattle.packed.specs.Pool.{retain}
 use Rattle.frames.specs.declared.Frame.{Frame}
 use Rattle.frames.specs.Widths.{maxPlaces, dequePlaces}
 use Rattle.frames.specs.Steps.{spawn}
@@ -43,12 +43,12 @@ module _
     module _
         -- frames::table::frame_at(frames, p)
         (f : Frame) (f-is : f ≡ frameAt frames p) where
-      -- pool::refs::retain asks
-      pub needs-5 : (4 * ((h .numbers) .nodes) ≤ length pool) × Link ((h .numbers) .nodes) (f .root)
-      needs-5 = (ok .0 .links .room, root-link (core h [] deques frames pool) w n p (ok .0) (ok .1) f f-is)
+      -- packed::refs::retain asks
+      pub needs-5 : (2 * ((h .numbers) .nodes) ≤ length pool) × Link ((h .numbers) .nodes) (f .root)
+      needs-5 = (ok .0 .pool-room, root-link (core h [] deques frames pool) w n p (ok .0) (ok .1) f f-is)
 
       module _
-          -- pool::refs::retain(pool, ((h .numbers) .nodes), (f .root))
+          -- packed::refs::retain(pool, ((h .numbers) .nodes), (f .root))
           (pool-5 : List ℕ) (done-5 : pool-5 ≡ retain pool (f .root)) (same-pool-5 : length pool-5 ≡ length pool) where
         -- frames::steps::spawn_frame asks
         pub needs-6 : Acts deques frames w n p f × (n < dequePlaces) × (length frames ≤ maxPlaces) × (((h .numbers) .«free_place») < length frames)
@@ -56,9 +56,9 @@ module _
 
         module _
             -- frames::steps::spawn_frame(deques, frames, ((h .numbers) .«free_place»), w, n, p, f)
-            (place′ : ℕ) (deques-6 : List ℕ) (frames-6 : List Frame) (place′-fits : place′ < 2 ^ 32) (place′-is : table deques-6 frames-6 place′ ≡ spawn (table deques frames ((h .numbers) .«free_place»)) w) (same-deques-6 : length deques-6 ≡ length deques) (same-frames-6 : length frames-6 ≡ length frames)
-            -- engine::kinds::spawned(h, place′, (f .depth))
-            (r-7 : Out) (r-7-is : (headAfter h r-7 ≡ renewed h (h .numbers .«free_node») place′ (h .«free_count»)) × (r-7 .first ≡ 101) × (r-7 .second ≡ plus (f .depth) 1)) where
+            (place : ℕ) (deques-6 : List ℕ) (frames-6 : List Frame) (place-fits : place < 2 ^ 32) (place-is : table deques-6 frames-6 place ≡ spawn (table deques frames ((h .numbers) .«free_place»)) w) (same-deques-6 : length deques-6 ≡ length deques) (same-frames-6 : length frames-6 ≡ length frames)
+            -- engine::kinds::spawned(h, place, (f .depth))
+            (r-7 : Out) (r-7-is : (headAfter h r-7 ≡ renewed h (h .numbers .«free_node») place (h .«free_count»)) × (r-7 .first ≡ 101) × (r-7 .second ≡ plus (f .depth) 1)) where
           -- a way out: what the function ensures
           pub out-8 : LeavesOthers h r-7 deques frames pool deques-6 frames-6 pool-5 (λ c. kindOn c (Spawn w))
-          out-8 = λ ts. spawn-done h ts deques frames pool w p f (ok .1 .acting) f-is test-1 r-7 deques-6 frames-6 pool-5 place′ done-5 place′-is r-7-is
+          out-8 = λ ts. spawn-done h ts deques frames pool w p f (ok .1 .acting) f-is test-1 r-7 deques-6 frames-6 pool-5 place done-5 place-is r-7-is

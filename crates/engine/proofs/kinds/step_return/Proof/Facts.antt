@@ -19,6 +19,7 @@ use Rattle.engine.specs.declared.Out.{Out}
 use Rattle.engine.specs.declared.Acting.{Acting}
 use Rattle.engine.proofs.Steps.{acting-refused, acting-passed}
 use Rattle.engine.proofs.Passing.{sizes-in, acts-at}
+use Rattle.soundness.specs.Layout.{twoWords}
 
 module _
     (h : Head) (numbers : List ℕ) (deques : List ℕ) (frames : List Frame) (pool : List ℕ) (w : ℕ) (numbers-fits : length numbers < 2 ^ 64) (deques-fits : length deques < 2 ^ 64) (frames-fits : length frames < 2 ^ 64) (pool-fits : length pool < 2 ^ 64) (w-fits : w < 2 ^ 32) (ok : (length numbers ≡ numberCount) × Ready (core h (totalsIn numbers) deques frames pool)) where
@@ -34,7 +35,7 @@ module _
         -- engine::kinds::refused_by(h, (a .refusal))
         (r-3 : Out) (r-3-is : Answers h r-3 (a .refusal) 0) where
       -- a way out: what the function ensures
-      pub out-4 : (numbersIn numbers ≡ numbersIn numbers) × Leaves h r-3 (totalsIn numbers) deques frames pool (stepOn (core h (totalsIn numbers) deques frames pool) (Return w))
+      pub out-4 : (numbersIn numbers ≡ numbersIn numbers) × Leaves h r-3 (totalsIn numbers) deques frames pool (stepOn twoWords (core h (totalsIn numbers) deques frames pool) (Return w))
       out-4 = (refl, acting-refused h deques frames pool w (Return w) (λ c. refl) a a-is r-3 (totalsIn numbers) test-2 r-3-is)
 
     module _
@@ -47,5 +48,5 @@ module _
           -- engine::returns::return_at(h, numbers, deques, frames, pool, w, (a .n), (a .p))
           (r-5 : Out) (numbers-5 : List ℕ) (deques-5 : List ℕ) (frames-5 : List Frame) (pool-5 : List ℕ) (r-5-is : (numbersIn numbers-5 ≡ numbersIn numbers) × Leaves h r-5 (totalsIn numbers-5) deques-5 frames-5 pool-5 (kindOn (core h (totalsIn numbers) deques frames pool) (Return w))) (same-numbers-5 : length numbers-5 ≡ length numbers) (same-deques-5 : length deques-5 ≡ length deques) (same-frames-5 : length frames-5 ≡ length frames) (same-pool-5 : length pool-5 ≡ length pool) where
         -- a way out: what the function ensures
-        pub out-6 : (numbersIn numbers-5 ≡ numbersIn numbers) × Leaves h r-5 (totalsIn numbers-5) deques-5 frames-5 pool-5 (stepOn (core h (totalsIn numbers) deques frames pool) (Return w))
+        pub out-6 : (numbersIn numbers-5 ≡ numbersIn numbers) × Leaves h r-5 (totalsIn numbers-5) deques-5 frames-5 pool-5 (stepOn twoWords (core h (totalsIn numbers) deques frames pool) (Return w))
         out-6 = (r-5-is .0, acting-passed h deques frames pool w (Return w) (λ c. refl) a a-is r-5 (totalsIn numbers) test-2 (totalsIn numbers-5) deques-5 frames-5 pool-5 (r-5-is .1))

@@ -25,6 +25,7 @@ use Rattle.semantics.specs.declared.Head.{Head}
 use Rattle.engine.specs.declared.Out.{Out}
 use Rattle.engine.proofs.Steps.{steal-refused, steal-done}
 use Rattle.engine.proofs.Passing.{sizes-in, steal-asks, top-asks}
+use Rattle.soundness.specs.Layout.{twoWords}
 
 module _
     (h : Head) (deques : List ℕ) (frames : List Frame) (pool : List ℕ) (w : ℕ) (v : ℕ) (deques-fits : length deques < 2 ^ 64) (frames-fits : length frames < 2 ^ 64) (pool-fits : length pool < 2 ^ 64) (w-fits : w < 2 ^ 32) (v-fits : v < 2 ^ 32) (ok : Ready (core h [] deques frames pool)) where
@@ -40,7 +41,7 @@ module _
         -- engine::kinds::refused_by(h, refusal)
         (r-3 : Out) (r-3-is : Answers h r-3 refusal 0) where
       -- a way out: what the function ensures
-      pub out-4 : LeavesOthers h r-3 deques frames pool deques frames pool (λ c. stepOn c (Steal w v))
+      pub out-4 : LeavesOthers h r-3 deques frames pool deques frames pool (λ c. stepOn twoWords c (Steal w v))
       out-4 = λ ts. steal-refused h ts deques frames pool w v r-3 refusal refusal-is test-2 r-3-is
 
     module _
@@ -69,5 +70,5 @@ module _
               -- engine::kinds::unchanged(h, 103, (f .depth))
               (r-8 : Out) (r-8-is : Answers h r-8 103 (f .depth)) where
             -- a way out: what the function ensures
-            pub out-9 : LeavesOthers h r-8 deques frames pool deques-7 frames pool (λ c. stepOn c (Steal w v))
+            pub out-9 : LeavesOthers h r-8 deques frames pool deques-7 frames pool (λ c. stepOn twoWords c (Steal w v))
             out-9 = λ ts. steal-done h ts deques frames pool w v r-8 refusal deques-7 p f refusal-is test-2 p-is f-is done-7 r-8-is

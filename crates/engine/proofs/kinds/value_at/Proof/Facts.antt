@@ -11,8 +11,8 @@ use Rattle.model.specs.declared.Step.the-variants.{Read}
 use Rattle.semantics.specs.Ranges.{Ready}
 use Rattle.engine.specs.Promises.{core, LeavesOthers, Answers, kindOn, ActsAt}
 use Rattle.frames.specs.Frames.{frameAt}
-use Rattle.pool.specs.Links.{PathIn}
-use Rattle.pool.specs.Pool.{readAt}
+use Rattle.packed.specs.Links.{PathIn}
+use Rattle.packed.specs.Pool.{readAt}
 use Rattle.semantics.specs.declared.Head.{Head}
 use Rattle.frames.specs.declared.Frame.{Frame}
 use Rattle.engine.specs.declared.Out.{Out}
@@ -38,12 +38,12 @@ module _
     module _
         -- frames::table::frame_at(frames, p)
         (r-4 : Frame) (r-4-is : r-4 ≡ frameAt frames p) where
-      -- pool::tree::read_at asks
-      pub needs-5 : (4 * ((h .numbers) .nodes) ≤ length pool) × ((h .height) ≤ 32) × PathIn ((h .numbers) .nodes) pool (h .height) (r-4 .root) x
+      -- packed::tree::read_at asks
+      pub needs-5 : (2 * ((h .numbers) .nodes) ≤ length pool) × ((h .height) ≤ 32) × PathIn ((h .numbers) .nodes) pool (h .height) (r-4 .root) x
       needs-5 = read-asks (core h [] deques frames pool) w n p (ok .0) (ok .1) (r-4 .root) (ap (λ (k′ : Frame). k′ .root) r-4-is) x test-1
 
       module _
-          -- pool::tree::read_at(pool, ((h .numbers) .nodes), (h .height), (r-4 .root), x)
+          -- packed::tree::read_at(pool, ((h .numbers) .nodes), (h .height), (r-4 .root), x)
           (value : ℕ) (value-fits : value < 2 ^ 32) (value-is : value ≡ readAt (h .height) pool (r-4 .root) x)
           -- engine::kinds::unchanged(h, 105, value)
           (r-6 : Out) (r-6-is : Answers h r-6 105 value) where

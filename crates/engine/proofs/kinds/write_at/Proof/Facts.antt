@@ -11,16 +11,17 @@ use Rattle.model.specs.declared.Step.the-variants.{Write}
 use Rattle.semantics.specs.Ranges.{Ready}
 use Rattle.engine.specs.Promises.{core, renewed, headAfter, LeavesOthers, Answers, kindOn, ActsAt}
 use Rattle.frames.specs.Frames.{frameAt, setFrame}
-use Rattle.pool.specs.Links.{PathIn, IsShared, WriteIn, Wrote}
-use Rattle.pool.specs.Pool.{firstShared, write}
+use Rattle.packed.specs.Links.{PathIn, IsShared, WriteIn, Wrote}
+use Rattle.packed.specs.Pool.{firstShared, write}
 use Rattle.frames.specs.Frames.{withRoot}
 use Rattle.semantics.specs.declared.Head.{Head}
 use Rattle.frames.specs.declared.Frame.{Frame}
 use Rattle.engine.specs.declared.Out.{Out}
-use Rattle.pool.specs.declared.tree.FirstShared.{FirstShared}
-use Rattle.pool.specs.declared.tree.Written.{Written}
+use Rattle.packed.specs.declared.tree.FirstShared.{FirstShared}
+use Rattle.packed.specs.declared.tree.Written.{Written}
 use Rattle.engine.proofs.Steps.{write-none, write-leaf, write-full, write-done}
 use Rattle.engine.proofs.Passing.{read-asks, leaf-asks, write-asks}
+use Rattle.packed.specs.Pool.{setValue}
 
 module _
     (h : Head) (deques : List ℕ) (frames : List Frame) (pool : List ℕ) (w : ℕ) (n : ℕ) (p : ℕ) (x : ℕ) (v : ℕ) (deques-fits : length deques < 2 ^ 64) (frames-fits : length frames < 2 ^ 64) (pool-fits : length pool < 2 ^ 64) (w-fits : w < 2 ^ 32) (n-fits : n < 2 ^ 32) (p-fits : p < 2 ^ 32) (x-fits : x < 2 ^ 32) (v-fits : v < 2 ^ 32) (ok : Ready (core h [] deques frames pool) × ActsAt (core h [] deques frames pool) w n p) where
@@ -41,22 +42,22 @@ module _
     module _
         -- frames::table::frame_at(frames, p)
         (r-4 : Frame) (r-4-is : r-4 ≡ frameAt frames p) where
-      -- pool::tree::first_shared asks
-      pub needs-5 : (4 * ((h .numbers) .nodes) ≤ length pool) × ((h .height) ≤ 32) × PathIn ((h .numbers) .nodes) pool (h .height) (r-4 .root) x
+      -- packed::tree::first_shared asks
+      pub needs-5 : (2 * ((h .numbers) .nodes) ≤ length pool) × ((h .height) ≤ 32) × PathIn ((h .numbers) .nodes) pool (h .height) (r-4 .root) x
       needs-5 = read-asks (core h [] deques frames pool) w n p (ok .0) (ok .1) (r-4 .root) (ap (λ (k′ : Frame). k′ .root) r-4-is) x test-1
 
       module _
-          -- pool::tree::first_shared(pool, ((h .numbers) .nodes), (h .height), (r-4 .root), x)
-          (found : FirstShared) (found-is : IsShared (h .height) x (found .shared) (found .level) (found .at) (found .link) (firstShared (h .height) pool (r-4 .root) (r-4 .root) x)) where
+          -- packed::tree::first_shared(pool, ((h .numbers) .nodes), (h .height), (r-4 .root), x)
+          (found : FirstShared) (found-is : IsShared (h .height) (found .shared) (found .level) (found .node) (found .above) (firstShared (h .height) pool (r-4 .root) (r-4 .root) x)) where
         module _
             (test-6 : (found .shared) ≡ false) where
-          -- pool::tree::set_value asks
-          pub needs-7 : (found .at) + 3 < length pool
+          -- packed::tree::set_value asks
+          pub needs-7 : (2 * ((h .numbers) .nodes) ≤ length pool) × ((found .node) < ((h .numbers) .nodes))
           needs-7 = leaf-asks (core h [] deques frames pool) w n p (ok .0) (ok .1) (r-4 .root) (ap (λ (k′ : Frame). k′ .root) r-4-is) x test-1 found-is test-6
 
           module _
-              -- pool::tree::set_value(pool, (found .at), v)
-              (pool-7 : List ℕ) (done-7 : pool-7 ≡ set pool ((found .at) + 3) v) (same-pool-7 : length pool-7 ≡ length pool)
+              -- packed::tree::set_value(pool, ((h .numbers) .nodes), (found .node), v)
+              (pool-7 : List ℕ) (done-7 : pool-7 ≡ setValue pool (found .node) v) (same-pool-7 : length pool-7 ≡ length pool)
               -- engine::kinds::unchanged(h, 106, (h .«free_count»))
               (r-8 : Out) (r-8-is : Answers h r-8 106 (h .«free_count»)) where
             -- a way out: what the function ensures
@@ -75,12 +76,12 @@ module _
 
           module _
               (test-10 : (found .level) < (h .«free_count»)) where
-            -- pool::tree::write_shared asks
-            pub needs-13 : (4 * ((h .numbers) .nodes) ≤ length pool) × ((h .height) ≤ 32) × (found .shared ≡ true) × (found .level < (h .«free_count»)) × IsShared (h .height) x (found .shared) (found .level) (found .at) (found .link) (firstShared (h .height) pool (r-4 .root) (r-4 .root) x) × WriteIn ((h .numbers) .nodes) (h .height) pool ((h .numbers) .«free_node») x (firstShared (h .height) pool (r-4 .root) (r-4 .root) x)
+            -- packed::tree::write_shared asks
+            pub needs-13 : (2 * ((h .numbers) .nodes) ≤ length pool) × (((h .numbers) .nodes) ≤ 16384) × ((h .height) ≤ 32) × (found .shared ≡ true) × (found .level < (h .«free_count»)) × IsShared (h .height) (found .shared) (found .level) (found .node) (found .above) (firstShared (h .height) pool (r-4 .root) (r-4 .root) x) × WriteIn ((h .numbers) .nodes) (h .height) pool ((h .numbers) .«free_node») x (firstShared (h .height) pool (r-4 .root) (r-4 .root) x)
             needs-13 = write-asks (core h [] deques frames pool) w n p (ok .0) (ok .1) (r-4 .root) (ap (λ (k′ : Frame). k′ .root) r-4-is) x test-1 found-is test-6 test-10
 
             module _
-                -- pool::tree::write_shared(pool, ((h .numbers) .nodes), (h .height), ((h .numbers) .«free_node»), (h .«free_count»), (r-4 .root), x, v, found)
+                -- packed::tree::write_shared(pool, ((h .numbers) .nodes), (h .height), ((h .numbers) .«free_node»), (h .«free_count»), (r-4 .root), x, v, found)
                 (new : Written) (pool-13 : List ℕ) (new-is : Wrote (write (h .height) pool ((h .numbers) .«free_node») (h .«free_count») (r-4 .root) x v) pool-13 (new .first) (new .count) (new .root)) (same-pool-13 : length pool-13 ≡ length pool) where
               -- frames::table::frame_at asks
               pub needs-14 : p < length frames

@@ -17,16 +17,17 @@ use Rattle.frames.specs.declared.Frame.{Frame}
 use Rattle.engine.specs.declared.Out.{Out}
 use Rattle.engine.proofs.Turns.{begin, finish, turn-kept, ready-head}
 use Rattle.semantics.specs.Entries.{recordsFrom}
+use Rattle.soundness.specs.Layout.{twoWords}
 
 module _
-    (h : Head) (numbers : List ℕ) (deques : List ℕ) (frames : List Frame) (pool : List ℕ) (tape : List ℕ) (answers : List ℕ) (from′ : ℕ) (to : ℕ) (numbers-fits : length numbers < 2 ^ 64) (deques-fits : length deques < 2 ^ 64) (frames-fits : length frames < 2 ^ 64) (pool-fits : length pool < 2 ^ 64) (tape-fits : length tape < 2 ^ 64) (answers-fits : length answers < 2 ^ 64) (from′-fits : from′ < 2 ^ 64) (to-fits : to < 2 ^ 64) (ok : (length numbers ≡ numberCount) × Kept (core h (totalsIn numbers) deques frames pool) × (2 * (length tape / 8) ≤ length answers) × (from′ ≤ to) × (to ≤ length tape / 8)) where
+    (h : Head) (numbers : List ℕ) (deques : List ℕ) (frames : List Frame) (pool : List ℕ) (tape : List ℕ) (answers : List ℕ) (from′ : ℕ) (to : ℕ) (numbers-fits : length numbers < 2 ^ 64) (deques-fits : length deques < 2 ^ 64) (frames-fits : length frames < 2 ^ 64) (pool-fits : length pool < 2 ^ 64) (tape-fits : length tape < 2 ^ 64) (answers-fits : length answers < 2 ^ 64) (from′-fits : from′ < 2 ^ 64) (to-fits : to < 2 ^ 64) (ok : (length numbers ≡ numberCount) × Kept twoWords (core h (totalsIn numbers) deques frames pool) × (2 * (length tape / 8) ≤ length answers) × (from′ ≤ to) × (to ≤ length tape / 8)) where
   -- nothing wraps
   pub small-1 : from′ ≤ to
   small-1 = ok .3
 
   -- the loop's invariant, of what holds where a turn begins
   abbrev pub Inv : (free-node : ℕ) (free-place : ℕ) (free-count : ℕ) (i : ℕ) (more : ℕ) (numbers-l : List ℕ) (deques-l : List ℕ) (frames-l : List Frame) (pool-l : List ℕ) (answers-l : List ℕ) → Type 0
-  Inv free-node free-place free-count i more numbers-l deques-l frames-l pool-l answers-l = (i + more ≡ to) × (numbersIn numbers-l ≡ numbersIn numbers) × Kept (core (renewed h free-node free-place free-count) (totalsIn numbers-l) deques-l frames-l pool-l) × (runOn (recordsResult (core (renewed h free-node free-place free-count) (totalsIn numbers-l) deques-l frames-l pool-l) answers-l) (i * 2) (recordsFrom (to - i) tape (i * 8)) ≡ runOn (recordsResult (core h (totalsIn numbers) deques frames pool) answers) (2 * from′) (recordsFrom (to - from′) tape (8 * from′)))
+  Inv free-node free-place free-count i more numbers-l deques-l frames-l pool-l answers-l = (i + more ≡ to) × (numbersIn numbers-l ≡ numbersIn numbers) × Kept twoWords (core (renewed h free-node free-place free-count) (totalsIn numbers-l) deques-l frames-l pool-l) × (runOn twoWords (recordsResult (core (renewed h free-node free-place free-count) (totalsIn numbers-l) deques-l frames-l pool-l) answers-l) (i * 2) (recordsFrom (to - i) tape (i * 8)) ≡ runOn twoWords (recordsResult (core h (totalsIn numbers) deques frames pool) answers) (2 * from′) (recordsFrom (to - from′) tape (8 * from′)))
 
   -- what gets smaller with each turn
   abbrev pub left : (free-node : ℕ) (free-place : ℕ) (free-count : ℕ) (i : ℕ) (more : ℕ) (numbers-l : List ℕ) (deques-l : List ℕ) (frames-l : List Frame) (pool-l : List ℕ) (answers-l : List ℕ) → ℕ
@@ -44,7 +45,7 @@ module _
         -- engine::records::head_with(h, free-node, free-place, free-count)
         (r-8 : Head) (r-8-is : r-8 ≡ renewed h free-node free-place free-count) where
       -- a way out: what the function ensures
-      pub out-9 : (numbersIn numbers-l ≡ numbersIn numbers) × (recordsResult (core r-8 (totalsIn numbers-l) deques-l frames-l pool-l) answers-l ≡ runOn (recordsResult (core h (totalsIn numbers) deques frames pool) answers) (2 * from′) (recordsFrom (to - from′) tape (8 * from′))) × (r-8 ≡ renewed h (r-8 .numbers .«free_node») (r-8 .numbers .«free_place») (r-8 .«free_count»))
+      pub out-9 : (numbersIn numbers-l ≡ numbersIn numbers) × (recordsResult (core r-8 (totalsIn numbers-l) deques-l frames-l pool-l) answers-l ≡ runOn twoWords (recordsResult (core h (totalsIn numbers) deques frames pool) answers) (2 * from′) (recordsFrom (to - from′) tape (8 * from′))) × (r-8 ≡ renewed h (r-8 .numbers .«free_node») (r-8 .numbers .«free_place») (r-8 .«free_count»))
       out-9 = (inv .1, ap (λ (k′ : Head). recordsResult (core k′ (totalsIn numbers-l) deques-l frames-l pool-l) answers-l) r-8-is ∙ sym (finish tape to (recordsResult (core (renewed h free-node free-place free-count) (totalsIn numbers-l) deques-l frames-l pool-l) answers-l) i (i * 2) (i * 8) (omega (arith, test-7, inv .0))) ∙ inv .3, subst (λ (k′ : Head). k′ ≡ renewed h (k′ .numbers .«free_node») (k′ .numbers .«free_place») (k′ .«free_count»)) (sym r-8-is) refl)
 
     module _
@@ -64,7 +65,7 @@ module _
 
       module _
           -- engine::records::step_record(head, numbers, deques, frames, pool, tape, (i * 8))
-          (out : Out) (numbers-12 : List ℕ) (deques-12 : List ℕ) (frames-12 : List Frame) (pool-12 : List ℕ) (out-is : (numbersIn numbers-12 ≡ numbersIn numbers-l) × Leaves head out (totalsIn numbers-12) deques-12 frames-12 pool-12 (recordOn (core head (totalsIn numbers-l) deques-l frames-l pool-l) (decodeAt tape (i * 8)))) (same-numbers-12 : length numbers-12 ≡ length numbers-l) (same-deques-12 : length deques-12 ≡ length deques-l) (same-frames-12 : length frames-12 ≡ length frames-l) (same-pool-12 : length pool-12 ≡ length pool-l) where
+          (out : Out) (numbers-12 : List ℕ) (deques-12 : List ℕ) (frames-12 : List Frame) (pool-12 : List ℕ) (out-is : (numbersIn numbers-12 ≡ numbersIn numbers-l) × Leaves head out (totalsIn numbers-12) deques-12 frames-12 pool-12 (recordOn twoWords (core head (totalsIn numbers-l) deques-l frames-l pool-l) (decodeAt tape (i * 8)))) (same-numbers-12 : length numbers-12 ≡ length numbers-l) (same-deques-12 : length deques-12 ≡ length deques-l) (same-frames-12 : length frames-12 ≡ length frames-l) (same-pool-12 : length pool-12 ≡ length pool-l) where
         -- nothing wraps
         pub small-13 : i * 2 < 2 ^ 64
         small-13 = omega (arith, inside, ok .4, tape-fits)

@@ -19,6 +19,7 @@ use Rattle.engine.specs.declared.Out.{Out}
 use Rattle.model.specs.declared.Step.{Step}
 use Rattle.engine.proofs.AnyTotals.{ready-any}
 use Rattle.engine.proofs.Steps.{by-read, by-write}
+use Rattle.soundness.specs.Layout.{twoWords}
 
 module _
     (h : Head) (numbers : List ℕ) (deques : List ℕ) (frames : List Frame) (pool : List ℕ) (r : Fields) (numbers-fits : length numbers < 2 ^ 64) (deques-fits : length deques < 2 ^ 64) (frames-fits : length frames < 2 ^ 64) (pool-fits : length pool < 2 ^ 64) (ok : (length numbers ≡ numberCount) × Ready (core h (totalsIn numbers) deques frames pool)) where
@@ -30,10 +31,10 @@ module _
 
     module _
         -- engine::kinds::step_read(h, deques, frames, pool, (r .w), (r .x))
-        (r-2 : Out) (deques-2 : List ℕ) (frames-2 : List Frame) (pool-2 : List ℕ) (r-2-is : LeavesOthers h r-2 deques frames pool deques-2 frames-2 pool-2 (λ c. stepOn c (Read (r .w) (r .x)))) (same-deques-2 : length deques-2 ≡ length deques) (same-frames-2 : length frames-2 ≡ length frames) (same-pool-2 : length pool-2 ≡ length pool) where
+        (r-2 : Out) (deques-2 : List ℕ) (frames-2 : List Frame) (pool-2 : List ℕ) (r-2-is : LeavesOthers h r-2 deques frames pool deques-2 frames-2 pool-2 (λ c. stepOn twoWords c (Read (r .w) (r .x)))) (same-deques-2 : length deques-2 ≡ length deques) (same-frames-2 : length frames-2 ≡ length frames) (same-pool-2 : length pool-2 ≡ length pool) where
       -- a way out: what the function ensures
-      pub out-3 : (numbersIn numbers ≡ numbersIn numbers) × Leaves h r-2 (totalsIn numbers) deques-2 frames-2 pool-2 (stepOn (core h (totalsIn numbers) deques frames pool) (stepBy r))
-      out-3 = (refl, subst (λ (k′ : Step). Leaves h r-2 (totalsIn numbers) deques-2 frames-2 pool-2 (stepOn (core h (totalsIn numbers) deques frames pool) k′)) (by-read r test-1) (r-2-is (totalsIn numbers)))
+      pub out-3 : (numbersIn numbers ≡ numbersIn numbers) × Leaves h r-2 (totalsIn numbers) deques-2 frames-2 pool-2 (stepOn twoWords (core h (totalsIn numbers) deques frames pool) (stepBy r))
+      out-3 = (refl, subst (λ (k′ : Step). Leaves h r-2 (totalsIn numbers) deques-2 frames-2 pool-2 (stepOn twoWords (core h (totalsIn numbers) deques frames pool) k′)) (by-read r test-1) (r-2-is (totalsIn numbers)))
 
   module _
       (test-1 : (r .kind) ≡ 5 → ⊥) where
@@ -45,10 +46,10 @@ module _
 
       module _
           -- engine::kinds::step_write(h, deques, frames, pool, (r .w), (r .x), (r .v))
-          (r-5 : Out) (deques-5 : List ℕ) (frames-5 : List Frame) (pool-5 : List ℕ) (r-5-is : LeavesOthers h r-5 deques frames pool deques-5 frames-5 pool-5 (λ c. stepOn c (Write (r .w) (r .x) (r .v)))) (same-deques-5 : length deques-5 ≡ length deques) (same-frames-5 : length frames-5 ≡ length frames) (same-pool-5 : length pool-5 ≡ length pool) where
+          (r-5 : Out) (deques-5 : List ℕ) (frames-5 : List Frame) (pool-5 : List ℕ) (r-5-is : LeavesOthers h r-5 deques frames pool deques-5 frames-5 pool-5 (λ c. stepOn twoWords c (Write (r .w) (r .x) (r .v)))) (same-deques-5 : length deques-5 ≡ length deques) (same-frames-5 : length frames-5 ≡ length frames) (same-pool-5 : length pool-5 ≡ length pool) where
         -- a way out: what the function ensures
-        pub out-6 : (numbersIn numbers ≡ numbersIn numbers) × Leaves h r-5 (totalsIn numbers) deques-5 frames-5 pool-5 (stepOn (core h (totalsIn numbers) deques frames pool) (stepBy r))
-        out-6 = (refl, subst (λ (k′ : Step). Leaves h r-5 (totalsIn numbers) deques-5 frames-5 pool-5 (stepOn (core h (totalsIn numbers) deques frames pool) k′)) (by-write r test-4) (r-5-is (totalsIn numbers)))
+        pub out-6 : (numbersIn numbers ≡ numbersIn numbers) × Leaves h r-5 (totalsIn numbers) deques-5 frames-5 pool-5 (stepOn twoWords (core h (totalsIn numbers) deques frames pool) (stepBy r))
+        out-6 = (refl, subst (λ (k′ : Step). Leaves h r-5 (totalsIn numbers) deques-5 frames-5 pool-5 (stepOn twoWords (core h (totalsIn numbers) deques frames pool) k′)) (by-write r test-4) (r-5-is (totalsIn numbers)))
 
     module _
         (test-4 : (r .kind) ≡ 6 → ⊥) where
@@ -58,7 +59,7 @@ module _
 
       module _
           -- engine::records::control_step(h, numbers, deques, frames, pool, r)
-          (r-7 : Out) (numbers-7 : List ℕ) (deques-7 : List ℕ) (frames-7 : List Frame) (pool-7 : List ℕ) (r-7-is : (numbersIn numbers-7 ≡ numbersIn numbers) × Leaves h r-7 (totalsIn numbers-7) deques-7 frames-7 pool-7 (stepOn (core h (totalsIn numbers) deques frames pool) (stepBy r))) (same-numbers-7 : length numbers-7 ≡ length numbers) (same-deques-7 : length deques-7 ≡ length deques) (same-frames-7 : length frames-7 ≡ length frames) (same-pool-7 : length pool-7 ≡ length pool) where
+          (r-7 : Out) (numbers-7 : List ℕ) (deques-7 : List ℕ) (frames-7 : List Frame) (pool-7 : List ℕ) (r-7-is : (numbersIn numbers-7 ≡ numbersIn numbers) × Leaves h r-7 (totalsIn numbers-7) deques-7 frames-7 pool-7 (stepOn twoWords (core h (totalsIn numbers) deques frames pool) (stepBy r))) (same-numbers-7 : length numbers-7 ≡ length numbers) (same-deques-7 : length deques-7 ≡ length deques) (same-frames-7 : length frames-7 ≡ length frames) (same-pool-7 : length pool-7 ≡ length pool) where
         -- a way out: what the function ensures
-        pub out-8 : (numbersIn numbers-7 ≡ numbersIn numbers) × Leaves h r-7 (totalsIn numbers-7) deques-7 frames-7 pool-7 (stepOn (core h (totalsIn numbers) deques frames pool) (stepBy r))
+        pub out-8 : (numbersIn numbers-7 ≡ numbersIn numbers) × Leaves h r-7 (totalsIn numbers-7) deques-7 frames-7 pool-7 (stepOn twoWords (core h (totalsIn numbers) deques frames pool) (stepBy r))
         out-8 = (r-7-is .0, r-7-is .1)

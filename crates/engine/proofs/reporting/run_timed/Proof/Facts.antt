@@ -21,12 +21,13 @@ use Rattle.engine.specs.declared.Turn.{Turn}
 use Rattle.engine.proofs.Timing.{Going, going-begins, going-ends, turn-goes-on}
 use Rattle.engine.proofs.Taping.{run-asks, run-done}
 use Rattle.engine.proofs.Turns.{kept-head}
+use Rattle.soundness.specs.Layout.{twoWords}
 
 abbrev make-Tally : ℕ → ℕ → Tally
 make-Tally x0′ x1′ = record { work = x0′; span = x1′ }
 
 module _
-    (numbers : List ℕ) (deques : List ℕ) (frames : List Frame) (pool : List ℕ) (tape : List ℕ) (answers : List ℕ) (clocks : List ℕ) (free-count : ℕ) (numbers-fits : length numbers < 2 ^ 64) (deques-fits : length deques < 2 ^ 64) (frames-fits : length frames < 2 ^ 64) (pool-fits : length pool < 2 ^ 64) (tape-fits : length tape < 2 ^ 64) (answers-fits : length answers < 2 ^ 64) (clocks-fits : length clocks < 2 ^ 64) (free-count-fits : free-count < 2 ^ 32) (ok : Fits (parts numbers deques frames) × Kept (coreOf (parts numbers deques frames) pool free-count) × (2 * (length tape / 8) ≤ length answers) × (length clocks ≡ 2 * length frames) × ((j : ℕ) → getD clocks j 0 ≤ 0)) where
+    (numbers : List ℕ) (deques : List ℕ) (frames : List Frame) (pool : List ℕ) (tape : List ℕ) (answers : List ℕ) (clocks : List ℕ) (free-count : ℕ) (numbers-fits : length numbers < 2 ^ 64) (deques-fits : length deques < 2 ^ 64) (frames-fits : length frames < 2 ^ 64) (pool-fits : length pool < 2 ^ 64) (tape-fits : length tape < 2 ^ 64) (answers-fits : length answers < 2 ^ 64) (clocks-fits : length clocks < 2 ^ 64) (free-count-fits : free-count < 2 ^ 32) (ok : Fits (parts numbers deques frames) × Kept twoWords (coreOf (parts numbers deques frames) pool free-count) × (2 * (length tape / 8) ≤ length answers) × (length clocks ≡ 2 * length frames) × ((j : ℕ) → getD clocks j 0 ≤ 0)) where
   -- engine::numbers::numbers_in asks
   pub needs-1 : length numbers ≡ numberCount
   needs-1 = ok .0 .numbers
@@ -63,11 +64,11 @@ module _
             -- engine::numbers::put_free(numbers, node, place)
             (numbers-10 : List ℕ) (done-10 : numbers-10 ≡ set (set numbers-l 3 node) 4 place) (same-numbers-10 : length numbers-10 ≡ length numbers-l) where
           -- a way out: what the function ensures
-          pub out-11 : IsRun (runOn (recordsResult (coreOf (parts numbers deques frames) pool free-count) answers) 0 (recordsOf tape)) numbers-10 deques-l frames-l pool-l answers-l × (timing clocks-l (t .work) (t .span) ≡ timedOver (coreOf (parts numbers deques frames) pool free-count) (recordsOf tape) (timing clocks 0 0))
+          pub out-11 : IsRun (runOn twoWords (recordsResult (coreOf (parts numbers deques frames) pool free-count) answers) 0 (recordsOf tape)) numbers-10 deques-l frames-l pool-l answers-l × (timing clocks-l (t .work) (t .span) ≡ timedOver twoWords (coreOf (parts numbers deques frames) pool free-count) (recordsOf tape) (timing clocks 0 0))
           out-11 =
               let ends = going-ends tape records (recordsResult (core h (totalsIn numbers) deques frames pool) answers) (timing clocks 0 0) (core (renewed h node place count) (totalsIn numbers-l) deques-l frames-l pool-l) answers-l (timing clocks-l (t .work) (t .span)) i (inv .1) test-9 in (
                 run-done numbers deques frames pool r-1 h free-count r-1-is h-is answers tape numbers-l deques-l frames-l pool-l answers-l numbers-10 (renewed h node place count) (same-numbers-l ∙ ok .0 .numbers) (inv .0, ends .0, refl) done-10,
-                ends .1 ∙ ap (λ (g : Head). timedOver (core g (totalsIn numbers) deques frames pool) (recordsOf tape) (timing clocks 0 0)) (h-is ∙ ap (λ (m : Numbers). headOf m free-count) r-1-is),
+                ends .1 ∙ ap (λ (g : Head). timedOver twoWords (core g (totalsIn numbers) deques frames pool) (recordsOf tape) (timing clocks 0 0)) (h-is ∙ ap (λ (m : Numbers). headOf m free-count) r-1-is),
               )
 
       module _
@@ -86,7 +87,7 @@ module _
             -- engine::records::head_with(h, node, place, count)
             (head : Head) (head-is : head ≡ renewed h node place count) where
           -- engine::reporting::run_turn asks
-          pub needs-15 : (length numbers-l ≡ numberCount) × Kept (core head (totalsIn numbers-l) deques-l frames-l pool-l) × (2 * (length tape / 8) ≤ length answers-l) × (i < to) × (to ≤ length tape / 8) × ((j : ℕ) → i + 1 ≤ j → j < to → 5 ≤ kindAt tape j) × (length clocks-l ≡ 2 * length frames-l) × ((j : ℕ) → getD clocks-l j 0 ≤ i) × (t .work ≤ i) × (t .span ≤ i)
+          pub needs-15 : (length numbers-l ≡ numberCount) × Kept twoWords (core head (totalsIn numbers-l) deques-l frames-l pool-l) × (2 * (length tape / 8) ≤ length answers-l) × (i < to) × (to ≤ length tape / 8) × ((j : ℕ) → i + 1 ≤ j → j < to → 5 ≤ kindAt tape j) × (length clocks-l ≡ 2 * length frames-l) × ((j : ℕ) → getD clocks-l j 0 ≤ i) × (t .work ≤ i) × (t .span ≤ i)
           needs-15 = (
             same-numbers-l ∙ ok .0 .numbers,
             kept-head (renewed h node place count) head (totalsIn numbers-l) deques-l frames-l pool-l head-is (inv .1 .kept),
@@ -102,7 +103,7 @@ module _
 
           module _
               -- engine::reporting::run_turn(head, numbers, deques, frames, pool, tape, answers, clocks, i, to, t)
-              (turn : Turn) (numbers-15 : List ℕ) (deques-15 : List ℕ) (frames-15 : List Frame) (pool-15 : List ℕ) (answers-15 : List ℕ) (clocks-15 : List ℕ) (turn-is : (numbersIn numbers-15 ≡ numbersIn numbers-l) × (recordsResult (core (renewed head (turn .«free_node») (turn .«free_place») (turn .«free_count»)) (totalsIn numbers-15) deques-15 frames-15 pool-15) answers-15 ≡ runOn (recordsResult (core head (totalsIn numbers-l) deques-l frames-l pool-l) answers-l) (2 * i) (recordsFrom (to - i) tape (8 * i))) × (timing clocks-15 (turn .work) (turn .span) ≡ timedOver (core head (totalsIn numbers-l) deques-l frames-l pool-l) (recordsFrom (to - i) tape (8 * i)) (timing clocks-l (t .work) (t .span)))) (same-numbers-15 : length numbers-15 ≡ length numbers-l) (same-deques-15 : length deques-15 ≡ length deques-l) (same-frames-15 : length frames-15 ≡ length frames-l) (same-pool-15 : length pool-15 ≡ length pool-l) (same-answers-15 : length answers-15 ≡ length answers-l) (same-clocks-15 : length clocks-15 ≡ length clocks-l) where
+              (turn : Turn) (numbers-15 : List ℕ) (deques-15 : List ℕ) (frames-15 : List Frame) (pool-15 : List ℕ) (answers-15 : List ℕ) (clocks-15 : List ℕ) (turn-is : (numbersIn numbers-15 ≡ numbersIn numbers-l) × (recordsResult (core (renewed head (turn .«free_node») (turn .«free_place») (turn .«free_count»)) (totalsIn numbers-15) deques-15 frames-15 pool-15) answers-15 ≡ runOn twoWords (recordsResult (core head (totalsIn numbers-l) deques-l frames-l pool-l) answers-l) (2 * i) (recordsFrom (to - i) tape (8 * i))) × (timing clocks-15 (turn .work) (turn .span) ≡ timedOver twoWords (core head (totalsIn numbers-l) deques-l frames-l pool-l) (recordsFrom (to - i) tape (8 * i)) (timing clocks-l (t .work) (t .span)))) (same-numbers-15 : length numbers-15 ≡ length numbers-l) (same-deques-15 : length deques-15 ≡ length deques-l) (same-frames-15 : length frames-15 ≡ length frames-l) (same-pool-15 : length pool-15 ≡ length pool-l) (same-answers-15 : length answers-15 ≡ length answers-l) (same-clocks-15 : length clocks-15 ≡ length clocks-l) where
             -- a turn keeps the invariant
             pub goes-on : Inv (turn .«free_node») (turn .«free_place») (turn .«free_count») (make-Tally (turn .work) (turn .span)) to numbers-15 deques-15 frames-15 pool-15 answers-15 clocks-15
             goes-on = (turn-is .0 ∙ inv .0, turn-goes-on tape records (recordsResult (core h (totalsIn numbers) deques frames pool) answers) (timing clocks 0 0) h head node place count (turn .«free_node») (turn .«free_place») (turn .«free_count») (totalsIn numbers-l) deques-l frames-l pool-l answers-l (totalsIn numbers-15) deques-15 frames-15 pool-15 answers-15 (timing clocks-l (t .work) (t .span)) (timing clocks-15 (turn .work) (turn .span)) i to head-is (inv .1) (omega (arith, to-is .0)) (to-is .1) (turn-is .1) (turn-is .2))

@@ -16,11 +16,11 @@ use Rattle.frames.specs.declared.Frame.{Frame}
 use Rattle.frames.specs.Widths.{maxPlaces}
 use Rattle.frames.specs.Steps.{endFrame}
 use Rattle.frames.specs.Ranges.{EndsIn}
-use Rattle.pool.specs.Links.{Link, LinksIn}
-use Rattle.pool.specs.Pool.{release}
+use Rattle.pool.specs.Links.{Link}
+use Rattle.packed.specs.Pool.{release}
 use Rattle.semantics.specs.declared.Head.{Head}
 use Rattle.engine.specs.declared.Out.{Out}
-use Rattle.pool.specs.declared.refs.Freed.{Freed}
+use Rattle.packed.specs.declared.refs.Freed.{Freed}
 use Rattle.engine.proofs.Ending.{frame-asks, below-asks, release-asks, continues, same-totals, only-from}
 use Rattle.reducers.specs.Reducers.{viewWords}
 
@@ -49,13 +49,13 @@ module _
         module _
             -- frames::steps::end_below(frames, ((h .numbers) .«free_place»), p, (r-3 .parent))
             (frames-4 : List Frame) (done-4 : frames-4 ≡ endFrame frames ((h .numbers) .«free_place») p) (same-frames-4 : length frames-4 ≡ length frames) where
-          -- pool::refs::release asks
-          pub needs-5 : LinksIn ((h .numbers) .nodes) pool × (0 < ((h .numbers) .nodes)) × Link ((h .numbers) .nodes) ((h .numbers) .«free_node») × Link ((h .numbers) .nodes) (r-2 .root)
-          needs-5 = release-asks h (totalsIn numbers) deques frames pool w n (h .numbers .«free_node») (h .numbers .«free_place») (h .«free_count») p (ok .1) (r-2 .root) (ap (λ (k′ : Frame). k′ .root) r-2-is)
+          -- packed::refs::release asks
+          pub needs-5 : (2 * ((h .numbers) .nodes) ≤ length pool) × (((h .numbers) .nodes) ≤ 16384)
+          needs-5 = release-asks h (totalsIn numbers) deques frames pool w n (h .numbers .«free_node») (h .numbers .«free_place») (h .«free_count») p (ok .1)
 
           module _
-              -- pool::refs::release(pool, ((h .numbers) .nodes), (h .«free_count»), ((h .numbers) .«free_node»), (r-2 .root), (h .height))
-              (freed : Freed) (pool-5 : List ℕ) (freed-is : (pool-5 ≡ release (h .height) pool ((h .numbers) .«free_node») (h .«free_count») (r-2 .root) .0) × (freed .first ≡ release (h .height) pool ((h .numbers) .«free_node») (h .«free_count») (r-2 .root) .1) × (freed .count ≡ release (h .height) pool ((h .numbers) .«free_node») (h .«free_count») (r-2 .root) .2)) (same-pool-5 : length pool-5 ≡ length pool)
+              -- packed::refs::release(pool, ((h .numbers) .nodes), (h .«free_count»), ((h .numbers) .«free_node»), (r-2 .root), (h .height))
+              (freed : Freed) (pool-5 : List ℕ) (freed-is : (pool-5 ≡ release ((h .numbers) .nodes) (h .height) pool ((h .numbers) .«free_node») (h .«free_count») (r-2 .root) .0) × (freed .first ≡ release ((h .numbers) .nodes) (h .height) pool ((h .numbers) .«free_node») (h .«free_count») (r-2 .root) .1) × (freed .count ≡ release ((h .numbers) .nodes) (h .height) pool ((h .numbers) .«free_node») (h .«free_count») (r-2 .root) .2)) (same-pool-5 : length pool-5 ≡ length pool)
               -- engine::returns::continued((freed .first), p, (freed .count))
               (r-6 : Out) (r-6-is : LeavesEnded r-6 (freed .first) p (freed .count) Continued) where
             -- a way out: what the function ensures

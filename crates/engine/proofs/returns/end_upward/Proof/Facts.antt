@@ -10,8 +10,8 @@ use Rattle.soundness.specs.Numbers.{numbersIn, totalsIn, numberCount}
 use Rattle.frames.specs.declared.Returned.the-variants.{Finished}
 use Rattle.engine.specs.Promises.{core, renewed, Leaves, LeavesEnded, EndsFrom, endsFrom}
 use Rattle.frames.specs.Frames.{frameAt}
-use Rattle.pool.specs.Links.{Link, LinksIn}
-use Rattle.pool.specs.Pool.{release}
+use Rattle.pool.specs.Links.{Link}
+use Rattle.packed.specs.Pool.{release}
 use mathlib.Core.Bool.{cond}
 use lib.Dec.{eqb}
 use Rattle.words.specs.Basics.{none}
@@ -25,23 +25,23 @@ use Rattle.frames.specs.Ranges.{EndsIn}
 use Rattle.frames.specs.Steps.{endsToo}
 use Rattle.semantics.specs.declared.Head.{Head}
 use Rattle.engine.specs.declared.Out.{Out}
-use Rattle.pool.specs.declared.refs.Freed.{Freed}
+use Rattle.packed.specs.declared.refs.Freed.{Freed}
 use Rattle.frames.specs.declared.Returned.{Returned}
 use Rattle.engine.proofs.Ending.{frame-asks, release-asks, end-asks, read-totals, finishes, parent-asks, go-asks, stops, next-from, next-same, nearer}
 use Rattle.semantics.specs.Core.{StepResult}
 
 module _
-    (h : Head) (numbers : List ℕ) (deques : List ℕ) (frames : List Frame) (pool : List ℕ) (w : ℕ) (node : ℕ) (place′ : ℕ) (count : ℕ) (first′ : ℕ) (numbers-fits : length numbers < 2 ^ 64) (deques-fits : length deques < 2 ^ 64) (frames-fits : length frames < 2 ^ 64) (pool-fits : length pool < 2 ^ 64) (w-fits : w < 2 ^ 32) (node-fits : node < 2 ^ 32) (place′-fits : place′ < 2 ^ 32) (count-fits : count < 2 ^ 32) (first′-fits : first′ < 2 ^ 32) (ok : (length numbers ≡ numberCount) × EndsFrom (core (renewed h node place′ count) (totalsIn numbers) deques frames pool) w 1 first′) where
+    (h : Head) (numbers : List ℕ) (deques : List ℕ) (frames : List Frame) (pool : List ℕ) (w : ℕ) (node : ℕ) (place : ℕ) (count : ℕ) (first′ : ℕ) (numbers-fits : length numbers < 2 ^ 64) (deques-fits : length deques < 2 ^ 64) (frames-fits : length frames < 2 ^ 64) (pool-fits : length pool < 2 ^ 64) (w-fits : w < 2 ^ 32) (node-fits : node < 2 ^ 32) (place-fits : place < 2 ^ 32) (count-fits : count < 2 ^ 32) (first′-fits : first′ < 2 ^ 32) (ok : (length numbers ≡ numberCount) × EndsFrom (core (renewed h node place count) (totalsIn numbers) deques frames pool) w 1 first′) where
   -- the loop's invariant, of what holds where a turn begins
   abbrev pub Inv : (free-count : ℕ) (free-node : ℕ) (free-place : ℕ) (p : ℕ) (numbers-l : List ℕ) (deques-l : List ℕ) (frames-l : List Frame) (pool-l : List ℕ) → Type 0
-  Inv free-count free-node free-place p numbers-l deques-l frames-l pool-l = (numbersIn numbers-l ≡ numbersIn numbers) × EndsFrom (core (renewed h free-node free-place free-count) (totalsIn numbers-l) deques-l frames-l pool-l) w 1 p × (endsFrom (core (renewed h free-node free-place free-count) (totalsIn numbers-l) deques-l frames-l pool-l) w p ≡ endsFrom (core (renewed h node place′ count) (totalsIn numbers) deques frames pool) w first′)
+  Inv free-count free-node free-place p numbers-l deques-l frames-l pool-l = (numbersIn numbers-l ≡ numbersIn numbers) × EndsFrom (core (renewed h free-node free-place free-count) (totalsIn numbers-l) deques-l frames-l pool-l) w 1 p × (endsFrom (core (renewed h free-node free-place free-count) (totalsIn numbers-l) deques-l frames-l pool-l) w p ≡ endsFrom (core (renewed h node place count) (totalsIn numbers) deques frames pool) w first′)
 
   -- what gets smaller with each turn
   abbrev pub left : (free-count : ℕ) (free-node : ℕ) (free-place : ℕ) (p : ℕ) (numbers-l : List ℕ) (deques-l : List ℕ) (frames-l : List Frame) (pool-l : List ℕ) → ℕ
   left free-count free-node free-place p numbers-l deques-l frames-l pool-l = frameAt frames-l p .depth
 
   -- it holds before the first turn
-  pub begins : Inv count node place′ first′ numbers deques frames pool
+  pub begins : Inv count node place first′ numbers deques frames pool
   begins = (refl, ok .1, refl)
 
   module _
@@ -54,13 +54,13 @@ module _
     module _
         -- frames::table::frame_at(frames, p)
         (r-5 : Frame) (r-5-is : r-5 ≡ frameAt frames-l p) where
-      -- pool::refs::release asks
-      pub needs-6 : LinksIn ((h .numbers) .nodes) pool-l × (0 < ((h .numbers) .nodes)) × Link ((h .numbers) .nodes) free-node × Link ((h .numbers) .nodes) (r-5 .root)
-      needs-6 = release-asks h (totalsIn numbers-l) deques-l frames-l pool-l w 1 free-node free-place free-count p (inv .1) (r-5 .root) (ap (λ (k′ : Frame). k′ .root) r-5-is)
+      -- packed::refs::release asks
+      pub needs-6 : (2 * ((h .numbers) .nodes) ≤ length pool-l) × (((h .numbers) .nodes) ≤ 16384)
+      needs-6 = release-asks h (totalsIn numbers-l) deques-l frames-l pool-l w 1 free-node free-place free-count p (inv .1)
 
       module _
-          -- pool::refs::release(pool, ((h .numbers) .nodes), free-count, free-node, (r-5 .root), (h .height))
-          (freed : Freed) (pool-6 : List ℕ) (freed-is : (pool-6 ≡ release (h .height) pool-l free-node free-count (r-5 .root) .0) × (freed .first ≡ release (h .height) pool-l free-node free-count (r-5 .root) .1) × (freed .count ≡ release (h .height) pool-l free-node free-count (r-5 .root) .2)) (same-pool-6 : length pool-6 ≡ length pool-l) where
+          -- packed::refs::release(pool, ((h .numbers) .nodes), free-count, free-node, (r-5 .root), (h .height))
+          (freed : Freed) (pool-6 : List ℕ) (freed-is : (pool-6 ≡ release ((h .numbers) .nodes) (h .height) pool-l free-node free-count (r-5 .root) .0) × (freed .first ≡ release ((h .numbers) .nodes) (h .height) pool-l free-node free-count (r-5 .root) .1) × (freed .count ≡ release ((h .numbers) .nodes) (h .height) pool-l free-node free-count (r-5 .root) .2)) (same-pool-6 : length pool-6 ≡ length pool-l) where
         -- frames::table::frame_at asks
         pub needs-7 : p < length frames-l
         needs-7 = frame-asks h (totalsIn numbers-l) deques-l frames-l pool-l w 1 free-node free-place free-count p (inv .1)
@@ -87,7 +87,7 @@ module _
                   -- engine::returns::finished((freed .first), p, (freed .count))
                   (r-11 : Out) (r-11-is : LeavesEnded r-11 (freed .first) p (freed .count) Finished) where
                 -- a way out: what the function ensures
-                pub out-12 : (numbersIn numbers-8 ≡ numbersIn numbers) × Leaves h r-11 (totalsIn numbers-8) deques-l frames-9 pool-6 (endsFrom (core (renewed h node place′ count) (totalsIn numbers) deques frames pool) w first′)
+                pub out-12 : (numbersIn numbers-8 ≡ numbersIn numbers) × Leaves h r-11 (totalsIn numbers-8) deques-l frames-9 pool-6 (endsFrom (core (renewed h node place count) (totalsIn numbers) deques frames pool) w first′)
                 out-12 = (done-8 .1 ∙ inv .0, subst (λ (d′ : StepResult). Leaves h r-11 (totalsIn numbers-8) deques-l frames-9 pool-6 d′) (inv .2) (finishes h (totalsIn numbers-l) deques-l frames-l pool-l w 1 free-node free-place free-count p (inv .1) (r-5 .root) (f .parent) (ap (λ (k′ : Frame). k′ .root) r-5-is) (ap (λ (k′ : Frame). k′ .parent) f-is) (totalsIn numbers-8) frames-9 pool-6 (freed .first) (freed .count) freed-is done-9 (read-totals (totalsIn numbers-8) (totalsIn numbers-l) f (frameAt frames-l p) f-is (done-8 .0)) r-11 test-10 r-11-is))
 
               module _
@@ -113,7 +113,7 @@ module _
                         -- engine::returns::ended((freed .first), p, (freed .count), outcome)
                         (r-17 : Out) (r-17-is : LeavesEnded r-17 (freed .first) p (freed .count) outcome) where
                       -- a way out: what the function ensures
-                      pub out-18 : (numbersIn numbers-8 ≡ numbersIn numbers) × Leaves h r-17 (totalsIn numbers-8) deques-16 frames-16 pool-6 (endsFrom (core (renewed h node place′ count) (totalsIn numbers) deques frames pool) w first′)
+                      pub out-18 : (numbersIn numbers-8 ≡ numbersIn numbers) × Leaves h r-17 (totalsIn numbers-8) deques-16 frames-16 pool-6 (endsFrom (core (renewed h node place count) (totalsIn numbers) deques frames pool) w first′)
                       out-18 = (done-8 .1 ∙ inv .0, subst (λ (d′ : StepResult). Leaves h r-17 (totalsIn numbers-8) deques-16 frames-16 pool-6 d′) (inv .2) (stops h (totalsIn numbers-l) deques-l frames-l pool-l w 1 free-node free-place free-count p (inv .1) (r-5 .root) (f .parent) (ap (λ (k′ : Frame). k′ .root) r-5-is) (ap (λ (k′ : Frame). k′ .parent) f-is) (totalsIn numbers-8) frames-9 pool-6 (freed .first) (freed .count) freed-is done-9 (read-totals (totalsIn numbers-8) (totalsIn numbers-l) f (frameAt frames-l p) f-is (done-8 .0)) refl test-10 r-17 deques-16 frames-16 outcome (sym (r-14-is ∙ ap endsToo r-13-is) ∙ test-15) outcome-is r-17-is))
 
                   module _
