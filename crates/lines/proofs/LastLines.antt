@@ -8,17 +8,19 @@ use lib.ListN.{length, getD, drop}
 use lib.Seq.{getD-take, getD-drop}
 use borrow.Author.Tests.{not-true, not-false}
 use Rattle.soundness.specs.Numbers.{headCount, totalCount, numbersIn, totalsIn}
-use Rattle.soundness.specs.Soundness.{freeNodes, freeCount}
+use Rattle.soundness.specs.Soundness.{freeCount}
+use Rattle.soundness.specs.PackedTrees.{freeNodes}
 use Rattle.lines.specs.Lines.{decimal, line, freeLine, reducedWord, reducedLine}
 use Rattle.lines.specs.Output.{storeAll, Stores, StoresUpTo}
 use Rattle.lines.specs.Theory.{up-to-then}
 use Rattle.lines.proofs.Calls.{same}
 use Rattle.lines.proofs.Sizes.{free-short}
+use Rattle.soundness.specs.Layout.{twoWords}
 
 module _ (o : List ℕ) (at : ℕ) {o' : List ℕ} {r : ℕ} where
   -- the free nodes are counted by the numbers 2 and 3 of the state
   pub free-stored : (ns ws : List ℕ) (nodes first free : ℕ) → nodes < 4294967296 → nodes ≡ getD ns 2 0 → first ≡ getD ns 3 0 → free ≡ length (freeNodes nodes ws first)
-      → Stores o at (freeLine free) o' r → StoresUpTo 19 o at (freeLine (freeCount (numbersIn ns) ws)) o' r
+      → Stores o at (freeLine free) o' r → StoresUpTo 19 o at (freeLine (freeCount twoWords (numbersIn ns) ws)) o' r
   free-stored ns ws nodes first free small n f e s =
       rw (← n, ← f) (s ∙ ap (λ (k : ℕ). storeAll (o, at) (freeLine k)) e, free-short nodes ws first small)
 

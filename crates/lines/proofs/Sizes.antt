@@ -8,8 +8,8 @@ use lib.ListN.{length, getD, length-append}
 use lib.Dec.{eqb, ltb}
 use Rattle.words.specs.Basics.{none, follow}
 use Rattle.words.specs.Tests.{decided, lt-of, ge-of}
-use Rattle.pool.specs.Pool.{nextFree}
-use Rattle.soundness.specs.Soundness.{freeNodes}
+use Rattle.packed.specs.Pool.{nextFree}
+use Rattle.soundness.specs.PackedTrees.{freeNodes}
 use Rattle.lines.specs.Lines.{refusedLine, digit, decimal, line, answerLines, freeLine}
 use Rattle.lines.proofs.Numbers.{decimal-one, decimal-more}
 

@@ -48,7 +48,7 @@ take-replicate (suc k) zero h = absurd (omega arith)
 take-replicate (suc k) (suc m) h = ap (λ (l : List ℕ). 0 ∷ l) (take-replicate k m (omega arith))
 
 -- the slices that are lent have what the definition gives
-fit-lines : (workers n nodes : ℕ) (input vs ws work records answers : List ℕ) → length vs ≡ n → ws ≡ replicate (4 * nodes) 0 → work ≡ replicate nodes 0
+fit-lines : (workers n nodes : ℕ) (input vs ws work records answers : List ℕ) → length vs ≡ n → ws ≡ replicate (2 * nodes) 0 → work ≡ replicate nodes 0
     → records ≡ recordsIn n input → answers ≡ replicate (2 * ((length input - recordsStart n) / 8)) 0
     → runLines (zeros lentTable) workers (numbersAt (length vs) input 8) ws work records answers ≡ fitLines workers n nodes input
 unfolding fitLines
@@ -59,9 +59,9 @@ length-part k m h = sym (ap length (take-replicate k m h) ∙ length-replicate k
 
 -- lent as parts of arrays of zeros, and the records as a part of the input
 pub fit-stored : (workers n nodes at : ℕ) (input o : List ℕ) {o' : List ℕ} {r : ℕ} (mv mp mw ma : ℕ)
-    → n ≤ mv → 4 * nodes ≤ mp → nodes ≤ mw → 2 * ((length input - recordsStart n) / 8) ≤ ma
+    → n ≤ mv → 2 * nodes ≤ mp → nodes ≤ mw → 2 * ((length input - recordsStart n) / 8) ≤ ma
     → StoresUpTo (11 * length (take (2 * ((length input - recordsStart n) / 8)) (replicate {A = ℕ} ma 0)) + 71) o at
-    (runLines (zeros lentTable) workers (numbersAt (length (take n (replicate {A = ℕ} mv 0))) input 8) (take (4 * nodes) (replicate mp 0)) (take nodes (replicate mw 0))
+    (runLines (zeros lentTable) workers (numbersAt (length (take n (replicate {A = ℕ} mv 0))) input 8) (take (2 * nodes) (replicate mp 0)) (take nodes (replicate mw 0))
     (take (length input - recordsStart n) (drop (recordsStart n) input)) (take (2 * ((length input - recordsStart n) / 8)) (replicate ma 0))) o' r
     → StoresUpTo (11 * ma + 71) o at (fitLines workers n nodes input) o' r
 fit-stored workers n nodes at input o mv mp mw ma v p w a s =
@@ -69,7 +69,7 @@ fit-stored workers n nodes at input o mv mp mw ma v p w a s =
     let size : ℕ = length input - recordsStart n in
     let short : length records ≤ size = omega (arith, length-drop (recordsStart n) input) in
     let e =
-    fit-lines workers n nodes input (take n (replicate mv 0)) (take (4 * nodes) (replicate mp 0)) (take nodes (replicate mw 0)) (take size records)
+    fit-lines workers n nodes input (take n (replicate mv 0)) (take (2 * nodes) (replicate mp 0)) (take nodes (replicate mw 0)) (take size records)
     (take (2 * (size / 8)) (replicate ma 0))
-    (sym (length-part n mv v)) (take-replicate (4 * nodes) mp p) (take-replicate nodes mw w) (take-all size records short) (take-replicate (2 * (size / 8)) ma a) in
+    (sym (length-part n mv v)) (take-replicate (2 * nodes) mp p) (take-replicate nodes mw w) (take-all size records short) (take-replicate (2 * (size / 8)) ma a) in
     (s .0 ∙ ap (λ (bs : List ℕ). storeAll (o, at) bs) e, omega (arith, s .1, ap length e, length-part (2 * (size / 8)) ma a))

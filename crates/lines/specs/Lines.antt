@@ -8,6 +8,7 @@ use Rattle.frames.specs.declared.Frame.{Frame}
 use Rattle.frames.specs.Frames.{freePlace}
 use Rattle.model.specs.Record.{little}
 use Rattle.semantics.specs.Entries.{State, zeros, totalsOf, chainFree, StartResult, startOn, TapeResult, tapeOn}
+use Rattle.soundness.specs.Layout.{twoWords}
 
 -- ---- text
 
@@ -114,13 +115,13 @@ abbrev pub acceptedLines : List ℕ → ℕ → List ℕ → List ℕ
 acceptedLines answers free ts = answerLines answers ++ (freeLine free ++ cond (mainReturned answers) (reducedLine ts) [])
 
 abbrev pub tapeLines : TapeResult → List ℕ
-tapeLines p = callLines (p .result) (acceptedLines (p .answers) (chainFree (p .state) (p .pool)) (totalsOf (p .state)))
+tapeLines p = callLines (p .result) (acceptedLines (p .answers) (chainFree twoWords (p .state) (p .pool)) (totalsOf (p .state)))
 
 -- what follows the first line: of the start, over the parts s, then of the tape
 unfoldable pub runLines : State → ℕ → List ℕ → List ℕ → List ℕ → List ℕ → List ℕ → List ℕ
 runLines s workers values pool work records answers =
-    let b : StartResult = startOn s workers values pool in
-    callLines (b .result) (tapeLines (tapeOn (b .state) (b .pool) work records answers))
+    let b : StartResult = startOn twoWords s workers values pool in
+    callLines (b .result) (tapeLines (tapeOn twoWords (b .state) (b .pool) work records answers))
 
 -- R-6: "splitrun lends 64 places."
 abbrev pub lentTable : List Frame
@@ -129,7 +130,7 @@ lentTable = replicate 64 (freePlace 0)
 -- with a pool of as many whole nodes, a work slice that is long enough and two answer words per record; all that is lent is zero
 unfoldable pub fitLines : ℕ → ℕ → ℕ → List ℕ → List ℕ
 fitLines workers n nodes input =
-    runLines (zeros lentTable) workers (numbersAt n input 8) (replicate (4 * nodes) 0) (replicate nodes 0) (recordsIn n input) (replicate (2 * (length (recordsIn n input) / 8)) 0)
+    runLines (zeros lentTable) workers (numbersAt n input 8) (replicate (twoWords .words * nodes) 0) (replicate nodes 0) (recordsIn n input) (replicate (2 * (length (recordsIn n input) / 8)) 0)
 
 -- the whole output: an unfit input prints "only `unfit`"; "Else the first line is workers, n, nodes"
 unfoldable pub linesOf : List ℕ → List ℕ

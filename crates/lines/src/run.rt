@@ -5,11 +5,13 @@ ghost use mathlib.Core.List.{[]};
 ghost use Prim.Native.Nat.{_+_, _-_, _*_, _≤_};
 ghost use lib.ListN.{length};
 ghost use Rattle.soundness.specs.Numbers.{numbersIn, totalsIn};
-ghost use Rattle.soundness.specs.Soundness.{freeNodes, freeCount};
+ghost use Rattle.soundness.specs.Soundness.{freeCount};
+ghost use Rattle.soundness.specs.PackedTrees.{freeNodes};
 ghost use Rattle.semantics.specs.Entries.{zeros, tapeOn};
 ghost use Rattle.semantics.specs.Promises.{parts};
 ghost use Rattle.lines.specs.Lines.{numbersAt, recordsStart, answerLines, refusedLine, freeLine, mainReturned, reducedLine, acceptedLines, tapeLines, runLines, lentTable, fitLines};
 ghost use Rattle.lines.specs.Output.{Stores, StoresUpTo, IsOutput};
+ghost use Rattle.soundness.specs.Layout.{twoWords};
 use crate::input::is_unfit;
 use crate::input::nodes_in;
 use crate::input::read_values;
@@ -24,8 +26,9 @@ use frames::DEQUE_WORDS;
 use frames::Frame;
 use frames::free_place;
 use image::NUMBER_COUNT;
-use pool::NONE;
-use pool::left_of;
+use packed::NODE_WORDS;
+use packed::NONE;
+use packed::next_of;
 use splitter::splitter_start;
 use splitter::splitter_tape;
 use words::word;
@@ -60,7 +63,7 @@ fn count_free(nodes: u32, pool: &[u32], first: u32) -> usize
         if i == NONE {
             return count;
         }
-        i = left_of(pool, i);
+        i = next_of(pool, i);
         left -= 1;
         count += 1;
     }
@@ -108,7 +111,7 @@ fn put_reduced(out: &mut [u8], at: usize, answers: &[u32], numbers: &[u32]) -> u
 
 // `free` and the free nodes.
 fn put_free(out: &mut [u8], at: usize, numbers: &[u32], pool: &[u32]) -> usize
-    ensures { λ r. ⌜ StoresUpTo 19 (now (out .entry)) at (freeLine (freeCount (numbersIn (now (numbers .entry))) (now (pool .entry)))) (now (out .exit)) r ⌝ }
+    ensures { λ r. ⌜ StoresUpTo 19 (now (out .entry)) at (freeLine (freeCount twoWords (numbersIn (now (numbers .entry))) (now (pool .entry)))) (now (out .exit)) r ⌝ }
 {
     let free = count_free(word(numbers, 2), pool, word(numbers, 3));
     put_named(out, at, b"free ", free)
@@ -123,7 +126,7 @@ pub fn put_accepted(
     pool: &[u32],
 ) -> usize
     ensures { λ r. ⌜ StoresUpTo (11 * length (now (answers .entry)) + 71) (now (out .entry)) at
-        (acceptedLines (now (answers .entry)) (freeCount (numbersIn (now (numbers .entry))) (now (pool .entry))) (totalsIn (now (numbers .entry)))) (now (out .exit)) r ⌝ }
+        (acceptedLines (now (answers .entry)) (freeCount twoWords (numbersIn (now (numbers .entry))) (now (pool .entry))) (totalsIn (now (numbers .entry)))) (now (out .exit)) r ⌝ }
 {
     let to = put_answers(out, at, answers);
     let next = put_free(out, to, numbers, pool);
@@ -143,7 +146,7 @@ pub fn run_tape(
     at: usize,
 ) -> usize
     ensures { λ r. ⌜ StoresUpTo (11 * length (now (answers .entry)) + 71) (now (out .entry)) at
-        (tapeLines (tapeOn (parts (now (numbers .entry)) (now (deques .entry)) (now (frames .entry))) (now (pool .entry)) (now (work .entry)) (now (records .entry)) (now (answers .entry)))) (now (out .exit)) r ⌝ }
+        (tapeLines (tapeOn twoWords (parts (now (numbers .entry)) (now (deques .entry)) (now (frames .entry))) (now (pool .entry)) (now (work .entry)) (now (records .entry)) (now (answers .entry)))) (now (out .exit)) r ⌝ }
 {
     let refused = splitter_tape(numbers, deques, frames, pool, work, records, answers);
     if refused != 0 {
@@ -257,13 +260,13 @@ fn run_fit(input: &[u8], workers: u32, n: u32, nodes: u32, out: &mut [u8], at: u
     ensures { λ r. ⌜ StoresUpTo 45127 (now (out .entry)) at (fitLines workers n nodes (now (input .entry))) (now (out .exit)) r ⌝ }
 {
     let mut values = [0u32; 256];
-    let mut pool = [0u32; 4096];
+    let mut pool = [0u32; 2048];
     let mut work = [0u32; 1024];
     let mut answers = [0u32; 4096];
     let count = n as usize;
     let start = 8 + 4 * count;
     let room = nodes as usize;
-    let size = 4 * room;
+    let size = NODE_WORDS * room;
     let answered = 2 * ((input.len() - start) / 8);
     run_on(
         workers,

@@ -9,11 +9,12 @@ use lib.ListN.{length, getD}
 use borrow.Author.Tests.{eq-eqb, ne-eqb, le-leb, lt-leb}
 use Rattle.words.specs.Basics.{none, follow}
 use Rattle.words.specs.Loops.{follow-none, follow-step}
-use Rattle.pool.specs.Pool.{nextFree}
+use Rattle.packed.specs.Pool.{nextFree}
 use Rattle.soundness.specs.Numbers.{numbersIn}
 use Rattle.soundness.specs.Soundness.{freeCount}
 use Rattle.soundness.specs.Numbers.{numberCount}
 use Rattle.splitter.specs.Queries.{freeOn}
+use Rattle.soundness.specs.Layout.{twoWords}
 
 module _ (next : ℕ → ℕ) (m k a : ℕ) where
   pub chain-none : a ≡ none → k ≡ k + length (follow (m - k) next a)
@@ -37,12 +38,12 @@ module _ (ns ws : List ℕ) where
   unfolding freeOn
   free-other h = rw (ne-eqb (length ns) numberCount h)
 
-  pub free-short : length ns ≡ numberCount → length ws / 4 < getD ns 2 0 → 0 ≡ freeOn ns ws
+  pub free-short : length ns ≡ numberCount → length ws / 2 < getD ns 2 0 → 0 ≡ freeOn ns ws
   unfolding freeOn
-  free-short l h = rw (eq-eqb (length ns) numberCount l, lt-leb (getD ns 2 0) (length ws / 4) h)
+  free-short l h = rw (eq-eqb (length ns) numberCount l, lt-leb (getD ns 2 0) (length ws / 2) h)
 
-  pub free-counted : (r : ℕ) → length ns ≡ numberCount → getD ns 2 0 ≤ length ws / 4 → r ≡ length (follow (getD ns 2 0 + 1) (nextFree ws) (getD ns 3 0)) → r ≡ freeOn ns ws
+  pub free-counted : (r : ℕ) → length ns ≡ numberCount → getD ns 2 0 ≤ length ws / 2 → r ≡ length (follow (getD ns 2 0 + 1) (nextFree ws) (getD ns 3 0)) → r ≡ freeOn ns ws
   unfolding freeOn
   free-counted r l h e =
-      let f : r ≡ freeCount (numbersIn ns) ws = e ∙ ap (λ (m : ℕ). length (follow m (nextFree ws) (getD ns 3 0))) (add-one (getD ns 2 0)) in
-      rw (eq-eqb (length ns) numberCount l, le-leb (getD ns 2 0) (length ws / 4) h) f
+      let f : r ≡ freeCount twoWords (numbersIn ns) ws = e ∙ ap (λ (m : ℕ). length (follow m (nextFree ws) (getD ns 3 0))) (add-one (getD ns 2 0)) in
+      rw (eq-eqb (length ns) numberCount l, le-leb (getD ns 2 0) (length ws / 2) h) f

@@ -10,14 +10,15 @@ use Rattle.semantics.specs.Promises.{IsOutside, IsTape}
 use Rattle.splitter.specs.OneRecord.{resultWords}
 use Rattle.splitter.specs.Theory.OneRecord.{one-step}
 use Rattle.splitter.specs.Theory.Narrow.{same-cut}
+use Rattle.soundness.specs.Layout.{twoWords}
 
 pub step-by : (s : State) (ws ks bytes rs ns′ ds′ : List ℕ) (fs′ : List Frame) (ws′ ks′ rs′ : List ℕ) (kind worker field value k r : ℕ) → length bytes ≡ 8 → length rs ≡ 2
-    → decodeAt bytes 0 ≡ recordOf (min kind 255) (min worker 255) (min field 65535) value → IsTape (tapeOn s ws ks bytes rs) ns′ ds′ fs′ ws′ ks′ rs′ k
-    → r ≡ resultWords k (getD rs′ 0 0) (getD rs′ 1 0) → IsOutside (outsideOn s ws ks (recordOf kind worker field value)) ns′ ds′ fs′ ws′ ks′ r
+    → decodeAt bytes 0 ≡ recordOf (min kind 255) (min worker 255) (min field 65535) value → IsTape (tapeOn twoWords s ws ks bytes rs) ns′ ds′ fs′ ws′ ks′ rs′ k
+    → r ≡ resultWords k (getD rs′ 0 0) (getD rs′ 1 0) → IsOutside (outsideOn twoWords s ws ks (recordOf kind worker field value)) ns′ ds′ fs′ ws′ ks′ r
 step-by s ws ks bytes rs ns′ ds′ fs′ ws′ ks′ rs′ kind worker field value k r long two ed p e =
-    let t : TapeResult = tapeOn s ws ks bytes rs in
+    let t : TapeResult = tapeOn twoWords s ws ks bytes rs in
     let q = one-step s ws ks bytes rs long two in
-    let o : outsideOn s ws ks (decodeAt bytes 0) ≡ outsideOn s ws ks (recordOf kind worker field value) = rw ed (same-cut s ws ks kind worker field value) in
+    let o : outsideOn twoWords s ws ks (decodeAt bytes 0) ≡ outsideOn twoWords s ws ks (recordOf kind worker field value) = rw ed (same-cut s ws ks kind worker field value) in
     let w : resultWords k (getD rs′ 0 0) (getD rs′ 1 0) ≡ resultWords (t .result) (getD (t .answers) 0 0) (getD (t .answers) 1 0) = rw (p .result, p .answers) in
     record {
       result = e ∙ w ∙ q .words ∙ ap (λ z. z .result) o;

@@ -4,3 +4,5 @@ pub mod Narrow
 pub mod OneRecord
 -- what is asked of a sound state, and of a run
 pub mod Queries
+-- demands 1 to 3, for the layout that the library promises
+pub mod Demands

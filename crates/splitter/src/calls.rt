@@ -10,6 +10,7 @@ ghost use Rattle.semantics.specs.Images.{saveOn, loadOn};
 ghost use Rattle.semantics.specs.Promises.{parts, lent, IsStart, IsOutside, IsTape, IsSave, IsLoad, IsReport};
 ghost use Rattle.semantics.specs.Report.{reportOn};
 ghost use Rattle.splitter.specs.OneRecord.{bytesOf, resultWords};
+ghost use Rattle.soundness.specs.Layout.{twoWords};
 use engine::load;
 use engine::save;
 use engine::start;
@@ -25,7 +26,7 @@ pub extern "C" fn splitter_start(
     values: &[u32],
     pool: &mut [u32],
 ) -> u32
-    ensures { λ r. ⌜ IsStart (startOn (parts (now (numbers .entry)) (now (deques .entry)) (now (frames .entry))) workers (now (values .entry)) (now (pool .entry)))
+    ensures { λ r. ⌜ IsStart (startOn twoWords (parts (now (numbers .entry)) (now (deques .entry)) (now (frames .entry))) workers (now (values .entry)) (now (pool .entry)))
         (now (numbers .exit)) (now (deques .exit)) (now (frames .exit)) (now (pool .exit)) r ⌝ }
 {
     start(numbers, deques, frames, workers, values, pool)
@@ -96,7 +97,7 @@ pub extern "C" fn splitter_step(
     field: u32,
     value: u32,
 ) -> u64
-    ensures { λ r. ⌜ IsOutside (outsideOn (parts (now (numbers .entry)) (now (deques .entry)) (now (frames .entry))) (now (pool .entry)) (now (work .entry)) (recordOf kind worker field value))
+    ensures { λ r. ⌜ IsOutside (outsideOn twoWords (parts (now (numbers .entry)) (now (deques .entry)) (now (frames .entry))) (now (pool .entry)) (now (work .entry)) (recordOf kind worker field value))
         (now (numbers .exit)) (now (deques .exit)) (now (frames .exit)) (now (pool .exit)) (now (work .exit)) r ⌝ }
 {
     let bytes = record_of(kind, worker, field, value);
@@ -115,7 +116,7 @@ pub extern "C" fn splitter_tape(
     bytes: &[u8],
     answers: &mut [u32],
 ) -> u32
-    ensures { λ r. ⌜ IsTape (tapeOn (parts (now (numbers .entry)) (now (deques .entry)) (now (frames .entry))) (now (pool .entry)) (now (work .entry)) (now (bytes .entry)) (now (answers .entry)))
+    ensures { λ r. ⌜ IsTape (tapeOn twoWords (parts (now (numbers .entry)) (now (deques .entry)) (now (frames .entry))) (now (pool .entry)) (now (work .entry)) (now (bytes .entry)) (now (answers .entry)))
         (now (numbers .exit)) (now (deques .exit)) (now (frames .exit)) (now (pool .exit)) (now (work .exit)) (now (answers .exit)) r ⌝ }
 {
     tape(numbers, deques, frames, pool, work, bytes, answers)
@@ -136,7 +137,7 @@ pub extern "C" fn splitter_report(
     clocks: &mut [u64],
     report: &mut [u64],
 ) -> u32
-    ensures { λ r. ⌜ IsReport (reportOn (parts (now (numbers .entry)) (now (deques .entry)) (now (frames .entry))) workers (now (values .entry)) (now (pool .entry)) (now (bytes .entry))
+    ensures { λ r. ⌜ IsReport (reportOn twoWords (parts (now (numbers .entry)) (now (deques .entry)) (now (frames .entry))) workers (now (values .entry)) (now (pool .entry)) (now (bytes .entry))
         (lent (now (work .entry)) (now (answers .entry)) (now (clocks .entry)) (now (report .entry))))
         (now (numbers .exit)) (now (deques .exit)) (now (frames .exit)) (now (pool .exit)) (now (work .exit)) (now (answers .exit)) (now (clocks .exit)) (now (report .exit)) r ⌝ }
 {
@@ -165,7 +166,7 @@ pub extern "C" fn splitter_save(
     work: &mut [u32],
     target: &mut [u8],
 ) -> u32
-    ensures { λ r. ⌜ IsSave (saveOn (parts (now (numbers .entry)) (now (deques .entry)) (now (frames .entry))) (now (pool .entry)) (now (work .entry)) (now (target .entry)))
+    ensures { λ r. ⌜ IsSave (saveOn twoWords (parts (now (numbers .entry)) (now (deques .entry)) (now (frames .entry))) (now (pool .entry)) (now (work .entry)) (now (target .entry)))
         (now (work .exit)) (now (target .exit)) r ⌝ }
 {
     save(numbers, deques, frames, pool, work, target)
@@ -181,7 +182,7 @@ pub extern "C" fn splitter_load(
     work: &mut [u32],
     image: &[u8],
 ) -> u32
-    ensures { λ r. ⌜ IsLoad (loadOn (parts (now (numbers .entry)) (now (deques .entry)) (now (frames .entry))) (now (pool .entry)) (now (work .entry)) (now (image .entry)))
+    ensures { λ r. ⌜ IsLoad (loadOn twoWords (parts (now (numbers .entry)) (now (deques .entry)) (now (frames .entry))) (now (pool .entry)) (now (work .entry)) (now (image .entry)))
         (now (numbers .exit)) (now (deques .exit)) (now (frames .exit)) (now (pool .exit)) (now (work .exit)) r ⌝ }
 {
     load(numbers, deques, frames, pool, work, image)
@@ -190,7 +191,7 @@ pub extern "C" fn splitter_load(
 // The bytes of an image of so many places and nodes.
 #[no_mangle]
 pub extern "C" fn splitter_image_bytes(places: u32, nodes: u32) -> u64
-    ensures { λ r. ⌜ r ≡ imageBytes places nodes ⌝ }
+    ensures { λ r. ⌜ r ≡ imageBytes twoWords places nodes ⌝ }
 {
     image::image_bytes(places, nodes)
 }

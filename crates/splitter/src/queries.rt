@@ -3,12 +3,12 @@ ghost use mathlib.Core.Path.{_≡_};
 ghost use Prim.Native.Nat.{_^_, _<_};
 ghost use lib.ListN.{length};
 ghost use Rattle.words.specs.Basics.{follow};
-ghost use Rattle.pool.specs.Pool.{nextFree};
+ghost use Rattle.packed.specs.Pool.{nextFree};
 ghost use Rattle.splitter.specs.Queries.{freeOn};
-use image::NODE_WORDS;
 use image::NUMBER_COUNT;
-use pool::NONE;
-use pool::left_of;
+use packed::NODE_WORDS;
+use packed::NONE;
+use packed::next_of;
 
 // How many nodes the chain from `first` on has, of at most `most`.
 fn chain_length(pool: &[u32], first: u32, most: u64) -> u64
@@ -21,7 +21,7 @@ fn chain_length(pool: &[u32], first: u32, most: u64) -> u64
         if a == NONE {
             return k;
         }
-        a = left_of(pool, a);
+        a = next_of(pool, a);
         k += 1;
     }
     k

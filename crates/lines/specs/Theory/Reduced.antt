@@ -24,6 +24,8 @@ use Rattle.semantics.specs.Theory.StartedRuns.{demand3}
 use Rattle.semantics.specs.Theory.TapeWords.{length-records}
 use Rattle.lines.specs.Lines.{isEnd, mainReturned, lentTable}
 use Rattle.lines.specs.Theory.Returned.{returned-here, returned-turn, returned-end}
+use Rattle.soundness.specs.Layout.{twoWords}
+use Rattle.semantics.specs.Theory.TwoPools.{two-pools}
 
 -- ---- splitrun's run: a start over parts of zeros with its 64 places, then one tape
 
@@ -64,23 +66,23 @@ say-pairs (d ∷ ds) ws k l m = elim (decided (isEnd (getD ws k 0) (getD ws (k +
 -- ---- the run
 
 module _ (workers : ℕ) (values pool work records answers : List ℕ) (two : length answers ≡ 2 * (length records / 8))
-    (started : startResult (runStart workers values pool) .result ≡ 0)
-    (taken : tapeResult (afterStart (runStart workers values pool)) records work answers .result ≡ 0) where
-  words-said : length (tapeResult (afterStart (runStart workers values pool)) records work answers .answers) ≡ 0 + 2 * length (recordsOf records)
-  words-said = omega (arith, two, tape-past (afterStart (runStart workers values pool)) records work answers .same-length, length-records (length records / 8) records 0)
+    (started : startResult twoWords (runStart workers values pool) .result ≡ 0)
+    (taken : tapeResult twoWords (afterStart twoWords (runStart workers values pool)) records work answers .result ≡ 0) where
+  words-said : length (tapeResult twoWords (afterStart twoWords (runStart workers values pool)) records work answers .answers) ≡ 0 + 2 * length (recordsOf records)
+  words-said = omega (arith, two, tape-past twoWords (afterStart twoWords (runStart workers values pool)) records work answers .same-length, length-records (length records / 8) records 0)
 
   -- "Main has returned once a return of the run was answered with outcome 3."
-  pub returned-said : mainReturned (tapeResult (afterStart (runStart workers values pool)) records work answers .answers) ≡ true → MainReturned (runStart workers values pool) (runCalls work records answers)
+  pub returned-said : mainReturned (tapeResult twoWords (afterStart twoWords (runStart workers values pool)) records work answers .answers) ≡ true → MainReturned twoWords (runStart workers values pool) (runCalls work records answers)
   returned-said e = rw taken (pairs-say (recordsOf records) _ 0 words-said e)
 
-  pub said-returned : MainReturned (runStart workers values pool) (runCalls work records answers) → mainReturned (tapeResult (afterStart (runStart workers values pool)) records work answers .answers) ≡ true
+  pub said-returned : MainReturned twoWords (runStart workers values pool) (runCalls work records answers) → mainReturned (tapeResult twoWords (afterStart twoWords (runStart workers values pool)) records work answers .answers) ≡ true
   said-returned m = say-pairs (recordsOf records) _ 0 words-said (rw taken at m)
 
   -- the totals that are printed then
-  pub totals-printed : Words values → Words pool → Bytes records → mainReturned (tapeResult (afterStart (runStart workers values pool)) records work answers .answers) ≡ true
-      → totalsOf (tapeResult (afterStart (runStart workers values pool)) records work answers .state) ≡ totalWords (mainFolds (traceOf (runStart workers values pool) (runCalls work records answers)))
+  pub totals-printed : Words values → Words pool → Bytes records → mainReturned (tapeResult twoWords (afterStart twoWords (runStart workers values pool)) records work answers .answers) ≡ true
+      → totalsOf (tapeResult twoWords (afterStart twoWords (runStart workers values pool)) records work answers .state) ≡ totalWords (mainFolds (traceOf twoWords (runStart workers values pool) (runCalls work records answers)))
   totals-printed vs ps bs e =
-      let works : ℕ → List ℕ = λ j. replicate (wholeNodes pool) 0 in
-      let D : Demand3 (runStart workers values pool) (runCalls work records answers) (zeros lentTable) pool works =
-      demand3 (runStart workers values pool) (runCalls work records answers) (zeros lentTable) pool works started (vs, ps) (bs, tt) (returned-said e) refl refl refl (λ j. omega (arith, length-replicate {A = ℕ} (wholeNodes pool) 0)) in
+      let works : ℕ → List ℕ = λ j. replicate (wholeNodes twoWords pool) 0 in
+      let D : Demand3 twoWords (runStart workers values pool) (runCalls work records answers) (zeros lentTable) pool works =
+      demand3 twoWords two-pools (runStart workers values pool) (runCalls work records answers) (zeros lentTable) pool works started (vs, ps) (bs, tt) (returned-said e) refl refl refl (λ j. omega (arith, length-replicate {A = ℕ} (wholeNodes twoWords pool) 0)) in
       D .totals refl

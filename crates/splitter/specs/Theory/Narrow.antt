@@ -27,6 +27,7 @@ use Rattle.semantics.specs.Core.{Core, StepResult, noWorker, allIdle, idle, jud
 use Rattle.semantics.specs.Entries.{State, numbersOf, totalsOf, coreOf, checkedState, fits, recordOn, OutsideResult, outsideDone, outsideRefused, outsideChecked, outsideWith, outsideOn}
 use Rattle.semantics.specs.Theory.Refusals.{refusedBy}
 use Rattle.soundness.specs.Theory.Sentences.{sound-facts}
+use Rattle.soundness.specs.Layout.{twoWords}
 
 -- ---- numbers
 
@@ -61,7 +62,7 @@ kinds kind w x v =
     ∷ []
 
 module _ (c : Core) where
-  no-worker : (st : Step) → ltb (workerOf st) (c .head .numbers .workers) ≡ false → stepOn c st ≡ refusedBy c NoWorker
+  no-worker : (st : Step) → ltb (workerOf st) (c .head .numbers .workers) ≡ false → stepOn twoWords c st ≡ refusedBy c NoWorker
   unfolding stepOn
   no-worker (Spawn w) e = rw e
   no-worker (Return w) e = rw e
@@ -72,26 +73,26 @@ module _ (c : Core) where
   no-worker (Fold w r v) e = rw e
 
   no-victim : (w v : ℕ) → ltb v (c .head .numbers .workers) ≡ false
-      → stepOn c (Steal w v) ≡ judged ((noWorker c w, NoWorker) ∷ (allIdle c, MainReturned) ∷ (not (idle c w), ThiefBusy) ∷ []) c (refusedBy c NoVictim)
+      → stepOn twoWords c (Steal w v) ≡ judged ((noWorker c w, NoWorker) ∷ (allIdle c, MainReturned) ∷ (not (idle c w), ThiefBusy) ∷ []) c (refusedBy c NoVictim)
   unfolding stepOn
   no-victim w v e = rw e
 
-  no-read : (w x : ℕ) → ltb x (c .head .numbers .splitters) ≡ false → stepOn c (Read w x) ≡ judged (actingTests c w) c (refusedBy c NoSplitter)
+  no-read : (w x : ℕ) → ltb x (c .head .numbers .splitters) ≡ false → stepOn twoWords c (Read w x) ≡ judged (actingTests c w) c (refusedBy c NoSplitter)
   unfolding stepOn
   no-read w x e = rw e
 
-  no-write : (w x v : ℕ) → ltb x (c .head .numbers .splitters) ≡ false → stepOn c (Write w x v) ≡ judged (actingTests c w) c (refusedBy c NoSplitter)
+  no-write : (w x v : ℕ) → ltb x (c .head .numbers .splitters) ≡ false → stepOn twoWords c (Write w x v) ≡ judged (actingTests c w) c (refusedBy c NoSplitter)
   unfolding stepOn
   no-write w x v e = rw e
 
-  no-fold : (w r v : ℕ) → ltb r reducers ≡ false → stepOn c (Fold w r v) ≡ judged (actingTests c w) c (refusedBy c NoReducer)
+  no-fold : (w r v : ℕ) → ltb r reducers ≡ false → stepOn twoWords c (Fold w r v) ≡ judged (actingTests c w) c (refusedBy c NoReducer)
   unfolding stepOn
   no-fold w r v e = rw e
 
   -- a number cut to m: past its bound n the step is refused, whatever the number
-  cut : (f : ℕ → Step) (d : StepResult) (x m n : ℕ) → n ≤ m → ((y : ℕ) → ltb y n ≡ false → stepOn c (f y) ≡ d) → stepOn c (f (min x m)) ≡ stepOn c (f x)
+  cut : (f : ℕ → Step) (d : StepResult) (x m n : ℕ) → n ≤ m → ((y : ℕ) → ltb y n ≡ false → stepOn twoWords c (f y) ≡ d) → stepOn twoWords c (f (min x m)) ≡ stepOn twoWords c (f x)
   cut f d x m n few past = elim (decLt x n) [
-    | yes h ↦ ap (λ (y : ℕ). stepOn c (f y)) (omega arith)
+    | yes h ↦ ap (λ (y : ℕ). stepOn twoWords c (f y)) (omega arith)
     | no h ↦ past (min x m) (le-ltb (min x m) n (omega arith)) ∙ sym (past x (le-ltb x n (omega arith)))
   ]
 
@@ -100,40 +101,40 @@ module _ (c : Core) where
   -- in order, the tests are equal, and what the records do
   data Alike : List (Bool × Decoded) → List (Bool × Decoded) → Type 0 where
     end : Alike [] []
-    also : {t u : Bool × Decoded} {ts us : List (Bool × Decoded)} → t .0 ≡ u .0 → recordOn c (t .1) ≡ recordOn c (u .1) → Alike ts us → Alike (t ∷ ts) (u ∷ us)
+    also : {t u : Bool × Decoded} {ts us : List (Bool × Decoded)} → t .0 ≡ u .0 → recordOn twoWords c (t .1) ≡ recordOn twoWords c (u .1) → Alike ts us → Alike (t ∷ ts) (u ∷ us)
 
-  firsts : {ts us : List (Bool × Decoded)} → Alike ts us → recordOn c (firstTrue Invalid ts) ≡ recordOn c (firstTrue Invalid us)
+  firsts : {ts us : List (Bool × Decoded)} → Alike ts us → recordOn twoWords c (firstTrue Invalid ts) ≡ recordOn twoWords c (firstTrue Invalid us)
   firsts end = refl
   firsts (also {u = u} e d a) = elim (decided (u .0)) [ inl z ↦ rw (e ∙ z, z) d | inr z ↦ rw (e ∙ z, z) (firsts a) ]
 
-  valid-cut : (b b′ : Bool) (st st′ : Step) → b ≡ b′ → stepOn c st ≡ stepOn c st′ → recordOn c (validIf b st) ≡ recordOn c (validIf b′ st′)
+  valid-cut : (b b′ : Bool) (st st′ : Step) → b ≡ b′ → stepOn twoWords c st ≡ stepOn twoWords c st′ → recordOn twoWords c (validIf b st) ≡ recordOn twoWords c (validIf b′ st′)
   valid-cut b b′ st st′ e h = elim (decided b′) [ inl z ↦ rw (e ∙ z, z) h | inr z ↦ rw (e ∙ z, z) ]
 
   module _ (workers-le : c .head .numbers .workers ≤ 8) (splitters-le : c .head .numbers .splitters ≤ 256) (w x v : ℕ) where
-    worker-cut : (f : ℕ → Step) → ((y : ℕ) → ltb y (c .head .numbers .workers) ≡ false → stepOn c (f y) ≡ refusedBy c NoWorker) → stepOn c (f (min w 255)) ≡ stepOn c (f w)
+    worker-cut : (f : ℕ → Step) → ((y : ℕ) → ltb y (c .head .numbers .workers) ≡ false → stepOn twoWords c (f y) ≡ refusedBy c NoWorker) → stepOn twoWords c (f (min w 255)) ≡ stepOn twoWords c (f w)
     worker-cut f past = cut f (refusedBy c NoWorker) w 255 (c .head .numbers .workers) (omega arith) past
 
-    steal-cut : stepOn c (Steal (min w 255) (min x 65535)) ≡ stepOn c (Steal w x)
+    steal-cut : stepOn twoWords c (Steal (min w 255) (min x 65535)) ≡ stepOn twoWords c (Steal w x)
     steal-cut =
         worker-cut (λ u. Steal u (min x 65535)) (λ y e. no-worker (Steal y (min x 65535)) e)
         ∙ cut (λ u. Steal w u) _ x 65535 (c .head .numbers .workers) (omega arith) (no-victim w)
 
-    read-cut : stepOn c (Read (min w 255) (min x 65535)) ≡ stepOn c (Read w x)
+    read-cut : stepOn twoWords c (Read (min w 255) (min x 65535)) ≡ stepOn twoWords c (Read w x)
     read-cut =
         worker-cut (λ u. Read u (min x 65535)) (λ y e. no-worker (Read y (min x 65535)) e)
         ∙ cut (λ u. Read w u) _ x 65535 (c .head .numbers .splitters) (omega arith) (no-read w)
 
-    write-cut : stepOn c (Write (min w 255) (min x 65535) v) ≡ stepOn c (Write w x v)
+    write-cut : stepOn twoWords c (Write (min w 255) (min x 65535) v) ≡ stepOn twoWords c (Write w x v)
     write-cut =
         worker-cut (λ u. Write u (min x 65535) v) (λ y e. no-worker (Write y (min x 65535) v) e)
         ∙ cut (λ u. Write w u v) _ x 65535 (c .head .numbers .splitters) (omega arith) (λ y e. no-write w y v e)
 
-    fold-cut : stepOn c (Fold (min w 255) (min x 65535) v) ≡ stepOn c (Fold w x v)
+    fold-cut : stepOn twoWords c (Fold (min w 255) (min x 65535) v) ≡ stepOn twoWords c (Fold w x v)
     fold-cut =
         worker-cut (λ u. Fold u (min x 65535) v) (λ y e. no-worker (Fold y (min x 65535) v) e)
         ∙ cut (λ u. Fold w u v) _ x 65535 reducers (omega arith) (λ y e. no-fold w y v e)
 
-    record-cut : (kind : ℕ) → recordOn c (recordOf (min kind 255) (min w 255) (min x 65535) v) ≡ recordOn c (recordOf kind w x v)
+    record-cut : (kind : ℕ) → recordOn twoWords c (recordOf (min kind 255) (min w 255) (min x 65535) v) ≡ recordOn twoWords c (recordOf kind w x v)
     unfolding recordOf
     record-cut kind =
         let zero-field : eqb (min x 65535) 0 && eqb v 0 ≡ eqb x 0 && eqb v 0 = ap (λ (b : Bool). b && eqb v 0) (same-test x 65535 0 (omega arith)) in
@@ -148,9 +149,9 @@ module _ (c : Core) where
 
 -- ---- a step by the fields of a record
 
-checked-sound : (N : Numbers) (ts ds : List ℕ) (fs : List Frame) (ws ks : List ℕ) (k : ℕ) → checked N ts ds fs ws ks ≡ Sound k → sound N ts ds fs ws ≡ true
+checked-sound : (N : Numbers) (ts ds : List ℕ) (fs : List Frame) (ws ks : List ℕ) (k : ℕ) → checked twoWords N ts ds fs ws ks ≡ Sound k → sound twoWords N ts ds fs ws ≡ true
 unfolding checked
-checked-sound N ts ds fs ws ks k e = elim (decided (sound N ts ds fs ws)) [
+checked-sound N ts ds fs ws ks k e = elim (decided (sound twoWords N ts ds fs ws)) [
   | inl t ↦ t
   | inr t ↦ elim (decided (leb (N .nodes) (length ks))) [
     | inl r ↦ absurd (let z : _≡_ {A = ℕ} 0 1 = (let q : Checked.Unsound ≡ Sound k = rw (r, t) at e in cc) in omega arith)
@@ -159,19 +160,19 @@ checked-sound N ts ds fs ws ks k e = elim (decided (sound N ts ds fs ws)) [
 ]
 
 module _ (s : State) (ws ks : List ℕ) (kind w x v : ℕ) where
-  check-cut : (k : Checked) → checkedState s ws ks ≡ k
-      → outsideChecked k s ws ks (recordOf (min kind 255) (min w 255) (min x 65535) v) ≡ outsideChecked k s ws ks (recordOf kind w x v)
+  check-cut : (k : Checked) → checkedState twoWords s ws ks ≡ k
+      → outsideChecked twoWords k s ws ks (recordOf (min kind 255) (min w 255) (min x 65535) v) ≡ outsideChecked twoWords k s ws ks (recordOf kind w x v)
   check-cut NoRoom e = refl
   check-cut Checked.Unsound e = refl
   check-cut (Sound k) e =
-      let F = sound-facts (numbersOf s) (totalsOf s) (s .deques) (s .frames) ws (checked-sound (numbersOf s) (totalsOf s) (s .deques) (s .frames) ws ks k e) .numbers in
+      let F = sound-facts twoWords (numbersOf s) (totalsOf s) (s .deques) (s .frames) ws (checked-sound (numbersOf s) (totalsOf s) (s .deques) (s .frames) ws ks k e) .numbers in
       ap (λ d. outsideDone d (cleared (numbersOf s .nodes) ks)) (record-cut (coreOf s ws k) (F .workers-le) (F .splitters-le) w x v kind)
 
   -- the fields cut to 8, 8 and 16 bits
-  with-cut : outsideWith s ws ks (recordOf (min kind 255) (min w 255) (min x 65535) v) ≡ outsideWith s ws ks (recordOf kind w x v)
+  with-cut : outsideWith twoWords s ws ks (recordOf (min kind 255) (min w 255) (min x 65535) v) ≡ outsideWith twoWords s ws ks (recordOf kind w x v)
   unfolding outsideWith
-  with-cut = check-cut (checkedState s ws ks) refl
+  with-cut = check-cut (checkedState twoWords s ws ks) refl
 
-  pub same-cut : outsideOn s ws ks (recordOf (min kind 255) (min w 255) (min x 65535) v) ≡ outsideOn s ws ks (recordOf kind w x v)
+  pub same-cut : outsideOn twoWords s ws ks (recordOf (min kind 255) (min w 255) (min x 65535) v) ≡ outsideOn twoWords s ws ks (recordOf kind w x v)
   unfolding outsideOn
   same-cut = ap (λ (o : OutsideResult). cond (fits s) o (outsideRefused s ws ks Lengths)) with-cut

@@ -13,6 +13,7 @@ use Rattle.model.specs.Record.{little, recordOf, decodeAt}
 use Rattle.semantics.specs.Answers.{answerWords, bothWords}
 use Rattle.semantics.specs.Entries.{State, OutsideResult, TapeResult, coreOf, checkedState, recordOn, recordsFrom, recordsOf, runOn, outsideChecked, outsideWith, outsideOn, tapeChecked, tapeWith, tapeOn, fits}
 use Rattle.splitter.specs.OneRecord.{bytesOf, resultWords}
+use Rattle.soundness.specs.Layout.{twoWords}
 
 -- ---- the bytes
 
@@ -58,20 +59,20 @@ module _ (s : State) (ws ks bytes rs : List ℕ) (long : length bytes ≡ 8) (tw
   unfolding recordsFrom
   one = rw long
 
-  one-checked : (k : Checked) → Same (tapeChecked k s ws ks bytes rs) (outsideChecked k s ws ks (decodeAt bytes 0))
+  one-checked : (k : Checked) → Same (tapeChecked twoWords k s ws ks bytes rs) (outsideChecked twoWords k s ws ks (decodeAt bytes 0))
   unfolding runOn
   one-checked NoRoom = record { state = refl; pool = refl; work = refl; words = refl }
   one-checked Checked.Unsound = record { state = refl; pool = refl; work = refl; words = refl }
   one-checked (Sound k) =
-      let o = recordOn (coreOf s ws k) (decodeAt bytes 0) in
+      let o = recordOn twoWords (coreOf s ws k) (decodeAt bytes 0) in
       rw one (record { state = refl; pool = refl; work = refl; words = put-two rs two (answerWords (o .answer) .0) (answerWords (o .answer) .1) })
 
-  one-record : Same (tapeWith s ws ks bytes rs) (outsideWith s ws ks (decodeAt bytes 0))
+  one-record : Same (tapeWith twoWords s ws ks bytes rs) (outsideWith twoWords s ws ks (decodeAt bytes 0))
   unfolding tapeWith outsideWith
-  one-record = rw (long, two) (one-checked (checkedState s ws ks))
+  one-record = rw (long, two) (one-checked (checkedState twoWords s ws ks))
 
   -- on all inputs: a part that has another length is refused alike
-  pub one-step : Same (tapeOn s ws ks bytes rs) (outsideOn s ws ks (decodeAt bytes 0))
+  pub one-step : Same (tapeOn twoWords s ws ks bytes rs) (outsideOn twoWords s ws ks (decodeAt bytes 0))
   unfolding tapeOn outsideOn
   one-step = elim (decided (fits s)) [
     | inl e ↦ rw e one-record

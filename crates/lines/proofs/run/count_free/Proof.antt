@@ -6,8 +6,8 @@ use native.Mathlib.Omega.{arith}
 use lib.ListN.{length}
 use borrow.Author.Needs.{needs}
 use Rattle.words.specs.Basics.{follow}
-use Rattle.pool.specs.Pool.{nextFree}
-use Rattle.soundness.specs.Soundness.{freeNodes}
+use Rattle.packed.specs.Pool.{nextFree}
+use Rattle.soundness.specs.PackedTrees.{freeNodes}
 use Rattle.lines.proofs.Loops.{follow-none, follow-turn, follow-end}
 use Rattle.lines.proofs.run.count_free.Statement.{statement}
 use Rattle.lines.proofs.run.count_free.Tie as tie
@@ -33,8 +33,8 @@ returns c =
     let p2 = p1 .before .before in
     omega (arith, p1 .loop .inv .0, ap length (follow-none (p1 .loop .left) (nextFree (p2 .args .pool .now)) (p1 .loop .i) (c .if1 .taken)))
 
-left-of-requires : tie.Need-left-of-requires Inv-loop μ-loop
-left-of-requires c κs = search needs
+next-of-requires : tie.Need-next-of-requires Inv-loop μ-loop
+next-of-requires c κs = search needs
 
 sub-left : tie.Need-sub-left Inv-loop μ-loop
 sub-left c = omega arith
@@ -57,7 +57,7 @@ loop-again c =
         arith,
         l .inv .0,
         ap length (follow-turn (l .left) next (l .i) (p2 .loop-test .taken) (p1 .if1 .left)),
-        ap (λ (x : ℕ). length (follow (l .left - 1) next x)) (c .left-of .ensures),
+        ap (λ (x : ℕ). length (follow (l .left - 1) next x)) (c .next-of .ensures),
       ),
       omega (arith, l .inv .1, p2 .loop-test .taken),
     )
@@ -74,7 +74,7 @@ count-free-spec =
     add-left
     loop-holds
     returns
-    left-of-requires
+    next-of-requires
     sub-left
     add-count
     loop-less

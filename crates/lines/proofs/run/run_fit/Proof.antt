@@ -33,7 +33,7 @@ array-borrow-prefix-pool c = search needs
 slice-aggregate-run-on-2 : tie.Need-slice-aggregate-run-on-2
 slice-aggregate-run-on-2 c =
     let p1 = c .before .before .before .before in
-    length-part (4 * p1 .args .nodes) 4096 (omega (arith, p1 .pre .1))
+    length-part (2 * p1 .args .nodes) 2048 (omega (arith, p1 .pre .1))
 
 array-borrow-prefix-work : tie.Need-array-borrow-prefix-work
 array-borrow-prefix-work c = search needs
@@ -71,7 +71,7 @@ returns c =
     let p1 = c .before .before .before .before .before .before in
     let p2 = p1 .before .before .before .before .before .before .before .before .before in
     let a = p2 .args in
-    fit-stored (a .workers) (a .n) (a .nodes) (a .at) (a .input .now) (a .out .now) 256 4096 1024 4096 (p2 .pre .0) (omega (arith, p2 .pre .1)) (p2 .pre .1) (omega (arith, p2 .pre .3))
+    fit-stored (a .workers) (a .n) (a .nodes) (a .at) (a .input .now) (a .out .now) 256 2048 1024 4096 (p2 .pre .0) (omega (arith, p2 .pre .1)) (p2 .pre .1) (omega (arith, p2 .pre .3))
     (p1 .run-on .ensures)
 
 pub run-fit-spec : {M : Type 1} → statement M

@@ -59,6 +59,7 @@ use Rattle.splitter.proofs.calls.splitter_report.Proof.Facts as F
 use Rattle.frames.proofs.Frame as M-Frame
 use Rattle.frames.proofs.Frame.Laws as L-Frame
 use Rattle.frames.specs.declared.Frame.{Frame}
+use Rattle.soundness.specs.Layout.{twoWords}
 
 abbrev R-Frame : RattleType
 R-Frame = M-Frame.the-row
@@ -113,7 +114,7 @@ module _ {M : Type 1} (𝓤 : URA M) (H : Heap 𝓤) (A : Atoms 𝓤) (W : Given
   abbrev Post : Val → SProp 𝓤
   Post = walkOf 𝓤 H A f′.ended stayed (f′.clauses 𝓤 H A mem run) .post bound′
 
-  exits′ : (res′ : ℕ) (zs-numbers : List ℕ) (zs-deques : List ℕ) (zs-frames : List Frame) (zs-pool : List ℕ) (zs-work : List ℕ) (zs-answers : List ℕ) (zs-clocks : List ℕ) (zs-report : List ℕ) → res′ < 2 ^ 32 → IsReport (reportOn (parts numbers deques frames) workers values pool bytes (lent work answers clocks report)) zs-numbers zs-deques zs-frames zs-pool zs-work zs-answers zs-clocks zs-report res′ → length zs-numbers ≡ length numbers → length zs-deques ≡ length deques → length zs-frames ≡ length frames → length zs-pool ≡ length pool → length zs-work ≡ length work → length zs-answers ≡ length answers → length zs-clocks ≡ length clocks → length zs-report ≡ length report → ent 𝓤 (⋆ 𝓤 H A (‵ (Mine u32 κ-numbers q-numbers γ-numbers b-numbers o-numbers n-numbers zs-numbers) ∷ ‵ (Mine u32 κ-deques q-deques γ-deques b-deques o-deques n-deques zs-deques) ∷ ‵ (Mine R-Frame κ-frames q-frames γ-frames b-frames o-frames n-frames zs-frames) ∷ ‵ (Yours u32 κ-values q-values γ-values b-values o-values n-values values) ∷ ‵ (Mine u32 κ-pool q-pool γ-pool b-pool o-pool n-pool zs-pool) ∷ ‵ (Mine u32 κ-work q-work γ-work b-work o-work n-work zs-work) ∷ ‵ (Yours u8 κ-bytes q-bytes γ-bytes b-bytes o-bytes n-bytes bytes) ∷ ‵ (Mine u32 κ-answers q-answers γ-answers b-answers o-answers n-answers zs-answers) ∷ ‵ (Mine u64 κ-clocks q-clocks γ-clocks b-clocks o-clocks n-clocks zs-clocks) ∷ ‵ (Mine u64 κ-report q-report γ-report b-report o-report n-report zs-report) ∷ [])) (Post (vint w32 res′))
+  exits′ : (res′ : ℕ) (zs-numbers : List ℕ) (zs-deques : List ℕ) (zs-frames : List Frame) (zs-pool : List ℕ) (zs-work : List ℕ) (zs-answers : List ℕ) (zs-clocks : List ℕ) (zs-report : List ℕ) → res′ < 2 ^ 32 → IsReport (reportOn twoWords (parts numbers deques frames) workers values pool bytes (lent work answers clocks report)) zs-numbers zs-deques zs-frames zs-pool zs-work zs-answers zs-clocks zs-report res′ → length zs-numbers ≡ length numbers → length zs-deques ≡ length deques → length zs-frames ≡ length frames → length zs-pool ≡ length pool → length zs-work ≡ length work → length zs-answers ≡ length answers → length zs-clocks ≡ length clocks → length zs-report ≡ length report → ent 𝓤 (⋆ 𝓤 H A (‵ (Mine u32 κ-numbers q-numbers γ-numbers b-numbers o-numbers n-numbers zs-numbers) ∷ ‵ (Mine u32 κ-deques q-deques γ-deques b-deques o-deques n-deques zs-deques) ∷ ‵ (Mine R-Frame κ-frames q-frames γ-frames b-frames o-frames n-frames zs-frames) ∷ ‵ (Yours u32 κ-values q-values γ-values b-values o-values n-values values) ∷ ‵ (Mine u32 κ-pool q-pool γ-pool b-pool o-pool n-pool zs-pool) ∷ ‵ (Mine u32 κ-work q-work γ-work b-work o-work n-work zs-work) ∷ ‵ (Yours u8 κ-bytes q-bytes γ-bytes b-bytes o-bytes n-bytes bytes) ∷ ‵ (Mine u32 κ-answers q-answers γ-answers b-answers o-answers n-answers zs-answers) ∷ ‵ (Mine u64 κ-clocks q-clocks γ-clocks b-clocks o-clocks n-clocks zs-clocks) ∷ ‵ (Mine u64 κ-report q-report γ-report b-report o-report n-report zs-report) ∷ [])) (Post (vint w32 res′))
   exits′ res′ zs-numbers zs-deques zs-frames zs-pool zs-work zs-answers zs-clocks zs-report good′ e′ same-numbers same-deques same-frames same-pool same-work same-answers same-clocks same-report =
       qed W (‵ (Mine u32 κ-numbers q-numbers γ-numbers b-numbers o-numbers n-numbers zs-numbers) ∷ ‵ (Mine u32 κ-deques q-deques γ-deques b-deques o-deques n-deques zs-deques) ∷ ‵ (Mine R-Frame κ-frames q-frames γ-frames b-frames o-frames n-frames zs-frames) ∷ ‵ (Yours u32 κ-values q-values γ-values b-values o-values n-values values) ∷ ‵ (Mine u32 κ-pool q-pool γ-pool b-pool o-pool n-pool zs-pool) ∷ ‵ (Mine u32 κ-work q-work γ-work b-work o-work n-work zs-work) ∷ ‵ (Yours u8 κ-bytes q-bytes γ-bytes b-bytes o-bytes n-bytes bytes) ∷ ‵ (Mine u32 κ-answers q-answers γ-answers b-answers o-answers n-answers zs-answers) ∷ ‵ (Mine u64 κ-clocks q-clocks γ-clocks b-clocks o-clocks n-clocks zs-clocks) ∷ ‵ (Mine u64 κ-report q-report γ-report b-report o-report n-report zs-report) ∷ []) ∵
       suffices ! _ (ends-at 𝓤 H A f′.ended stayed (f′.clauses 𝓤 H A mem run) W bound′ (vint w32 res′) res′ (zs-numbers, (zs-deques, (zs-frames, (tt, (tt, (zs-pool, (zs-work, (tt, (zs-answers, (zs-clocks, (zs-report, tt))))))))))) (same-numbers, (same-deques, (same-frames, (tt, (tt, (same-pool, (same-work, (tt, (same-answers, (same-clocks, (same-report, tt)))))))))))) $ says ! e′ $

@@ -59,6 +59,7 @@ use Rattle.splitter.proofs.calls.splitter_save.Proof.Facts as F
 use Rattle.frames.proofs.Frame as M-Frame
 use Rattle.frames.proofs.Frame.Laws as L-Frame
 use Rattle.frames.specs.declared.Frame.{Frame}
+use Rattle.soundness.specs.Layout.{twoWords}
 
 abbrev R-Frame : RattleType
 R-Frame = M-Frame.the-row
@@ -101,7 +102,7 @@ module _ {M : Type 1} (𝓤 : URA M) (H : Heap 𝓤) (A : Atoms 𝓤) (W : Given
   abbrev Post : Val → SProp 𝓤
   Post = walkOf 𝓤 H A f′.ended stayed (f′.clauses 𝓤 H A mem run) .post bound′
 
-  exits′ : (res′ : ℕ) (zs-work : List ℕ) (zs-target : List ℕ) → res′ < 2 ^ 32 → IsSave (saveOn (parts numbers deques frames) pool work target) zs-work zs-target res′ → length zs-work ≡ length work → length zs-target ≡ length target → ent 𝓤 (⋆ 𝓤 H A (‵ (Yours u32 κ-numbers q-numbers γ-numbers b-numbers o-numbers n-numbers numbers) ∷ ‵ (Yours u32 κ-deques q-deques γ-deques b-deques o-deques n-deques deques) ∷ ‵ (Yours R-Frame κ-frames q-frames γ-frames b-frames o-frames n-frames frames) ∷ ‵ (Yours u32 κ-pool q-pool γ-pool b-pool o-pool n-pool pool) ∷ ‵ (Mine u32 κ-work q-work γ-work b-work o-work n-work zs-work) ∷ ‵ (Mine u8 κ-target q-target γ-target b-target o-target n-target zs-target) ∷ [])) (Post (vint w32 res′))
+  exits′ : (res′ : ℕ) (zs-work : List ℕ) (zs-target : List ℕ) → res′ < 2 ^ 32 → IsSave (saveOn twoWords (parts numbers deques frames) pool work target) zs-work zs-target res′ → length zs-work ≡ length work → length zs-target ≡ length target → ent 𝓤 (⋆ 𝓤 H A (‵ (Yours u32 κ-numbers q-numbers γ-numbers b-numbers o-numbers n-numbers numbers) ∷ ‵ (Yours u32 κ-deques q-deques γ-deques b-deques o-deques n-deques deques) ∷ ‵ (Yours R-Frame κ-frames q-frames γ-frames b-frames o-frames n-frames frames) ∷ ‵ (Yours u32 κ-pool q-pool γ-pool b-pool o-pool n-pool pool) ∷ ‵ (Mine u32 κ-work q-work γ-work b-work o-work n-work zs-work) ∷ ‵ (Mine u8 κ-target q-target γ-target b-target o-target n-target zs-target) ∷ [])) (Post (vint w32 res′))
   exits′ res′ zs-work zs-target good′ e′ same-work same-target =
       qed W (‵ (Yours u32 κ-numbers q-numbers γ-numbers b-numbers o-numbers n-numbers numbers) ∷ ‵ (Yours u32 κ-deques q-deques γ-deques b-deques o-deques n-deques deques) ∷ ‵ (Yours R-Frame κ-frames q-frames γ-frames b-frames o-frames n-frames frames) ∷ ‵ (Yours u32 κ-pool q-pool γ-pool b-pool o-pool n-pool pool) ∷ ‵ (Mine u32 κ-work q-work γ-work b-work o-work n-work zs-work) ∷ ‵ (Mine u8 κ-target q-target γ-target b-target o-target n-target zs-target) ∷ []) ∵
       suffices ! _ (ends-at 𝓤 H A f′.ended stayed (f′.clauses 𝓤 H A mem run) W bound′ (vint w32 res′) res′ (tt, (tt, (tt, (tt, (zs-work, (zs-target, tt)))))) (tt, (tt, (tt, (tt, (same-work, (same-target, tt))))))) $ says ! e′ $

@@ -5,7 +5,7 @@ use native.Mathlib.Omega.{arith}
 use lib.ListN.{length}
 use borrow.Author.Needs.{needs}
 use Rattle.words.specs.Basics.{follow}
-use Rattle.pool.specs.Pool.{nextFree}
+use Rattle.packed.specs.Pool.{nextFree}
 use Rattle.splitter.proofs.Chains.{chain-none, chain-turn, chain-end, chain-start}
 use Rattle.splitter.proofs.queries.chain_length.Statement.{statement}
 use Rattle.splitter.proofs.queries.chain_length.Tie as tie
@@ -34,7 +34,7 @@ loop-again c =
     let s = start-of l .args in
     let next = nextFree (s .pool .now) in
     let k = l .loop .k in (
-      ap (λ (x : ℕ). k + 1 + length (follow (s .most - (k + 1)) next x)) (c .left-of .ensures) ∙ chain-turn next (s .most) k (l .loop .a) (omega arith) (c .before .if1 .left) ∙ l .loop .inv .0,
+      ap (λ (x : ℕ). k + 1 + length (follow (s .most - (k + 1)) next x)) (c .next-of .ensures) ∙ chain-turn next (s .most) k (l .loop .a) (omega arith) (c .before .if1 .left) ∙ l .loop .inv .0,
       omega arith,
     )
 

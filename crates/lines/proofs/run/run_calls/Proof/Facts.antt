@@ -15,11 +15,12 @@ use Rattle.semantics.specs.Promises.{IsStart}
 use Rattle.frames.specs.declared.Frame.{Frame}
 use Rattle.lines.specs.Theory.{more-room}
 use Rattle.lines.proofs.Calls.{run-refused, run-accepted}
+use Rattle.soundness.specs.Layout.{twoWords}
 
 module _
     (numbers : List ℕ) (deques : List ℕ) (frames : List Frame) (workers : ℕ) (values : List ℕ) (pool : List ℕ) (work : List ℕ) (records : List ℕ) (answers : List ℕ) (out : List ℕ) (at : ℕ) (numbers-fits : length numbers < 2 ^ 64) (deques-fits : length deques < 2 ^ 64) (frames-fits : length frames < 2 ^ 64) (workers-fits : workers < 2 ^ 32) (values-fits : length values < 2 ^ 64) (pool-fits : length pool < 2 ^ 64) (work-fits : length work < 2 ^ 64) (records-fits : length records < 2 ^ 64) (answers-fits : length answers < 2 ^ 64) (out-fits : length out < 2 ^ 64) (at-fits : at < 2 ^ 64)
     -- splitter::calls::splitter_start(numbers, deques, frames, workers, values, pool)
-    (refused : ℕ) (numbers-1 : List ℕ) (deques-1 : List ℕ) (frames-1 : List Frame) (pool-1 : List ℕ) (refused-fits : refused < 2 ^ 32) (refused-is : IsStart (startOn (parts numbers deques frames) workers values pool) numbers-1 deques-1 frames-1 pool-1 refused) (same-numbers-1 : length numbers-1 ≡ length numbers) (same-deques-1 : length deques-1 ≡ length deques) (same-frames-1 : length frames-1 ≡ length frames) (same-pool-1 : length pool-1 ≡ length pool) where
+    (refused : ℕ) (numbers-1 : List ℕ) (deques-1 : List ℕ) (frames-1 : List Frame) (pool-1 : List ℕ) (refused-fits : refused < 2 ^ 32) (refused-is : IsStart (startOn twoWords (parts numbers deques frames) workers values pool) numbers-1 deques-1 frames-1 pool-1 refused) (same-numbers-1 : length numbers-1 ≡ length numbers) (same-deques-1 : length deques-1 ≡ length deques) (same-frames-1 : length frames-1 ≡ length frames) (same-pool-1 : length pool-1 ≡ length pool) where
   module _
       (test-2 : refused ≡ 0 → ⊥)
       -- lines::run::put_refused(out, at, refused)
@@ -31,7 +32,7 @@ module _
   module _
       (test-2 : refused ≡ 0)
       -- lines::run::run_tape(numbers, deques, frames, pool, work, records, answers, out, at)
-      (r-5 : ℕ) (numbers-5 : List ℕ) (deques-5 : List ℕ) (frames-5 : List Frame) (pool-5 : List ℕ) (work-5 : List ℕ) (answers-5 : List ℕ) (out-5 : List ℕ) (r-5-fits : r-5 < 2 ^ 64) (r-5-is : StoresUpTo (11 * length answers + 71) out at (tapeLines (tapeOn (parts numbers-1 deques-1 frames-1) pool-1 work records answers)) out-5 r-5) (same-numbers-5 : length numbers-5 ≡ length numbers-1) (same-deques-5 : length deques-5 ≡ length deques-1) (same-frames-5 : length frames-5 ≡ length frames-1) (same-pool-5 : length pool-5 ≡ length pool-1) (same-work-5 : length work-5 ≡ length work) (same-answers-5 : length answers-5 ≡ length answers) (same-out-5 : length out-5 ≡ length out) where
+      (r-5 : ℕ) (numbers-5 : List ℕ) (deques-5 : List ℕ) (frames-5 : List Frame) (pool-5 : List ℕ) (work-5 : List ℕ) (answers-5 : List ℕ) (out-5 : List ℕ) (r-5-fits : r-5 < 2 ^ 64) (r-5-is : StoresUpTo (11 * length answers + 71) out at (tapeLines (tapeOn twoWords (parts numbers-1 deques-1 frames-1) pool-1 work records answers)) out-5 r-5) (same-numbers-5 : length numbers-5 ≡ length numbers-1) (same-deques-5 : length deques-5 ≡ length deques-1) (same-frames-5 : length frames-5 ≡ length frames-1) (same-pool-5 : length pool-5 ≡ length pool-1) (same-work-5 : length work-5 ≡ length work) (same-answers-5 : length answers-5 ≡ length answers) (same-out-5 : length out-5 ≡ length out) where
     -- a way out: what the function ensures
     pub out-6 : StoresUpTo (11 * length answers + 71) out at (runLines (parts numbers deques frames) workers values pool work records answers) out-5 r-5
     out-6 =

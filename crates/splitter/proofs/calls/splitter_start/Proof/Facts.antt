@@ -9,11 +9,12 @@ use native.Mathlib.Omega.{arith}
 use Rattle.semantics.specs.Entries.{startOn}
 use Rattle.semantics.specs.Promises.{parts, IsStart}
 use Rattle.frames.specs.declared.Frame.{Frame}
+use Rattle.soundness.specs.Layout.{twoWords}
 
 module _
     (numbers : List ℕ) (deques : List ℕ) (frames : List Frame) (workers : ℕ) (values : List ℕ) (pool : List ℕ) (numbers-fits : length numbers < 2 ^ 64) (deques-fits : length deques < 2 ^ 64) (frames-fits : length frames < 2 ^ 64) (workers-fits : workers < 2 ^ 32) (values-fits : length values < 2 ^ 64) (pool-fits : length pool < 2 ^ 64)
     -- engine::entries::start(numbers, deques, frames, workers, values, pool)
-    (r-1 : ℕ) (numbers-1 : List ℕ) (deques-1 : List ℕ) (frames-1 : List Frame) (pool-1 : List ℕ) (r-1-fits : r-1 < 2 ^ 32) (r-1-is : IsStart (startOn (parts numbers deques frames) workers values pool) numbers-1 deques-1 frames-1 pool-1 r-1) (same-numbers-1 : length numbers-1 ≡ length numbers) (same-deques-1 : length deques-1 ≡ length deques) (same-frames-1 : length frames-1 ≡ length frames) (same-pool-1 : length pool-1 ≡ length pool) where
+    (r-1 : ℕ) (numbers-1 : List ℕ) (deques-1 : List ℕ) (frames-1 : List Frame) (pool-1 : List ℕ) (r-1-fits : r-1 < 2 ^ 32) (r-1-is : IsStart (startOn twoWords (parts numbers deques frames) workers values pool) numbers-1 deques-1 frames-1 pool-1 r-1) (same-numbers-1 : length numbers-1 ≡ length numbers) (same-deques-1 : length deques-1 ≡ length deques) (same-frames-1 : length frames-1 ≡ length frames) (same-pool-1 : length pool-1 ≡ length pool) where
   -- a way out: what the function ensures
-  pub out-2 : IsStart (startOn (parts numbers deques frames) workers values pool) numbers-1 deques-1 frames-1 pool-1 r-1
+  pub out-2 : IsStart (startOn twoWords (parts numbers deques frames) workers values pool) numbers-1 deques-1 frames-1 pool-1 r-1
   out-2 = r-1-is
