@@ -1,12 +1,15 @@
 -- The words of the state, its frame table and the words of the pool after short runs: how nodes and frame places are numbered, taken and freed, what
 -- views and links of siblings the frame records hold (R-5), and how short tables fill (R-6).
 use mathlib.Core.Path.{_≡_, refl, _∙_}
+use mathlib.Core.Bool.{cond}
 use mathlib.Core.List.{List, [], _∷_, _++_, map}
 use Prim.Native.Nat.{ℕ, _+_, _*_}
 use lib.ListN.{length, replicate}
+use lib.Dec.{eqb}
 use Rattle.words.specs.Basics.{none, joined}
 use Rattle.sizes.specs.Sizes.{height, width, treeNodes, bit}
-use Rattle.pool.specs.Pool.{refcount, left, right, value, setNode, setRefcount, side, child, sibling, leafOf, readAt, retain, release, pathNode, copyPath, setValue, setLink, renew, firstShared, rest, writeFrom, write, initLevel, initInner, initLeaves, initFree, initPool}
+use Rattle.pool.specs.Pool.{side}
+use Rattle.packed.specs.Pool.{refcount, links, content, left, right, setNode, setRefcount, child, sibling, leafOf, readAt, retain, release, pathNode, copyPath, setValue, setLink, renew, firstShared, rest, writeFrom, write, initLevel, initInner, initLeaves, initFree, initPool, setContent}
 use Rattle.reducers.specs.Reducers.{foldView}
 use Rattle.frames.specs.declared.Frame.{Frame}
 use Rattle.frames.specs.Frames.{frameAt, setFrame, freePlace as free, initPlaces, initFrames}
@@ -20,6 +23,7 @@ use Rattle.semantics.specs.Entries.{State, wholeNodes, startOn, startWith, runO
 use Rattle.semantics.specs.Calls.{Start, afterStart, tapeResult}
 use Rattle.starred.specs.Tapes.{spawns, returns, steals, syncs, writes, folds, foldsMap, partsWith, dequesOf, deques, identities, frame, live, waiting, framesIn, frames}
 use Rattle.starred.specs.Quick.{quickTape, tape-quick}
+use Rattle.soundness.specs.Layout.{twoWords}
 
 -- a start, and the records of a tape
 pub record Run : Type 0 where
@@ -36,38 +40,38 @@ abbrev afterOf : TapeResult → After
 afterOf t = record { answers = t .answers; state = t .state; pool = t .pool }
 
 abbrev works : Run → List ℕ
-works r = replicate (wholeNodes (r .start .pool)) 5
+works r = replicate (wholeNodes twoWords (r .start .pool)) 5
 
 abbrev replies : Run → List ℕ
 replies r = replicate (2 * length (r .records)) 9
 
--- the parts and the pool hold other words before the start; the pool has three words more than its nodes
+-- the parts and the pool hold other words before the start; the pool has a word more than its nodes
 abbrev after : Run → After
-after r = afterOf (tapeResult (afterStart (r .start)) (joined (r .records)) (works r) (replies r))
+after r = afterOf (tapeResult twoWords (afterStart twoWords (r .start)) (joined (r .records)) (works r) (replies r))
 
 abbrev runsIn : ℕ → ℕ → List ℕ → ℕ → List (List ℕ) → Run
 runsIn places workers values nodes records =
-    record { start = record { parts = partsWith places; workers = workers; values = values; pool = replicate (4 * nodes + 3) 7 }; records = records }
+    record { start = record { parts = partsWith places; workers = workers; values = values; pool = replicate (2 * nodes + 1) 7 }; records = records }
 
 -- a table of 64 places
 abbrev runs : ℕ → List ℕ → ℕ → List (List ℕ) → Run
 runs workers values nodes records = runsIn 64 workers values nodes records
 
--- ---- nodes
+-- ---- nodes. R-8: "A node becomes two words: holders, then left plus 65,536 times right for inner nodes with 65,535 for none, the value for a leaf, the next
+-- free node or none for a free one."
 
 abbrev leaf : ℕ → ℕ → List ℕ
-leaf holders v = holders ∷ none ∷ none ∷ v ∷ []
+leaf holders v = holders ∷ v ∷ []
 
 abbrev inner : ℕ → ℕ → ℕ → List ℕ
-inner holders l r = holders ∷ l ∷ r ∷ 0 ∷ []
+inner holders l r = holders ∷ (l + 65536 * cond (eqb r none) 65535 r) ∷ []
 
--- "A free node holds 0, the next free node or none, 0, 0."
 abbrev freeNode : ℕ → List ℕ
-freeNode next = 0 ∷ next ∷ 0 ∷ 0 ∷ []
+freeNode next = 0 ∷ next ∷ []
 
 -- "words beyond the last whole node .. are never changed"
 abbrev nodes : List (List ℕ) → List ℕ
-nodes ns = joined ns ++ (7 ∷ 7 ∷ 7 ∷ [])
+nodes ns = joined ns ++ (7 ∷ [])
 
 abbrev leaves : List ℕ → (numbers deques : List ℕ) → List Frame → (pool : List ℕ) → After
 leaves as′ ks ds fs ws = record { answers = as′; state = record { numbers = ks; deques = ds; frames = fs }; pool = ws }
@@ -351,7 +355,7 @@ layoutTable =
 
 -- without the check
 quickly : map (λ (row : Run × After). afterOf (quickTape (row .0 .start) (joined (row .0 .records)) (works (row .0)) (replies (row .0)))) layoutTable ≡ map (λ (row : Run × After). row .1) layoutTable
-unfolding layoutTable startOn startWith runOn recordOf decodeAt spawnOn endAt upward endBottom returnOn stealOn syncOn readOn writeOn foldOn stepOn addChild spawn removeFrame endFrame goOn wentOn steal sync synced fold relinkFrom eldestTo firstFrom nextAfter foldView shiftUp dropTop pop top bottom side child sibling bit leafOf readAt retain release setRefcount pathNode copyPath setValue setLink renew firstShared rest writeFrom write initPool initFree initLeaves initInner initLevel setNode height width treeNodes initDeques initFrames initPlaces push setSize setPlace size place setFrame frameAt cleared refcount left right value
+unfolding layoutTable startOn startWith runOn recordOf decodeAt spawnOn endAt upward endBottom returnOn stealOn syncOn readOn writeOn foldOn stepOn addChild spawn removeFrame endFrame goOn wentOn steal sync synced fold relinkFrom eldestTo firstFrom nextAfter foldView shiftUp dropTop pop top bottom side child sibling bit leafOf readAt retain release setRefcount pathNode copyPath setValue setLink renew firstShared rest writeFrom write initPool initFree initLeaves initInner initLevel setNode height width treeNodes initDeques initFrames initPlaces push setSize setPlace size place setFrame frameAt cleared refcount left right content links setContent
 quickly = refl
 
 pub layout : map (λ (row : Run × After). after (row .0)) layoutTable ≡ map (λ (row : Run × After). row .1) layoutTable

@@ -9,7 +9,9 @@ pub mod RefusedCalls
 pub mod RefusedRecords
 pub mod Layout
 pub mod Demand3Example
--- R-1, R-3, R-5 and R-6: images, saves and readings
+-- R-1, R-3, R-5, R-6 and R-8: images, saves and readings
 pub mod SavedImages
 -- R-7: reports
 pub mod Reports
+-- R-8: nodes of two words
+pub mod TwoWords

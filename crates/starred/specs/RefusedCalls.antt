@@ -9,12 +9,13 @@ use lib.ListN.{set, replicate}
 use lib.Dec.{eqb}
 use Rattle.words.specs.Basics.{none, same, δ, count}
 use Rattle.sizes.specs.Sizes.{height, width, treeNodes}
-use Rattle.pool.specs.Pool.{refcount, left, right, value, setNode, leafOf, readAt, initLevel, initInner, initLeaves, initFree, initPool}
+use Rattle.packed.specs.Pool.{refcount, links, content, left, right, setNode, leafOf, readAt, initLevel, initInner, initLeaves, initFree, initPool}
 use Rattle.frames.specs.declared.Frame.{Frame}
 use Rattle.frames.specs.Frames.{frameAt, setFrame, wordsOf as wordsOfRecord, recordIn, freePlace, initPlaces, initFrames}
 use Rattle.frames.specs.Siblings.{chained}
 use Rattle.frames.specs.Deques.{size, setSize, place, setPlace, bottom, push, initDeques}
-use Rattle.soundness.specs.Soundness.{oneMain, parentsLive, countsRight, placedOnce, returningRight, linksRight, totalsRight, holdLive, absentEmpty, linked, onlyBelow, treeAt, nodesAt, rootsBelow, cleared}
+use Rattle.soundness.specs.Soundness.{oneMain, parentsLive, countsRight, placedOnce, returningRight, linksRight, totalsRight, holdLive, absentEmpty, linked, onlyBelow, rootsBelow, cleared}
+use Rattle.soundness.specs.PackedTrees.{treeAt, nodesOn, isOn}
 use Rattle.model.specs.Record.{recordOf, decodeAt}
 use Rattle.semantics.specs.Core.{readOn, stepOn}
 use Rattle.semantics.specs.Answers.{wordsIn}
@@ -23,6 +24,7 @@ use Rattle.semantics.specs.Calls.{Start, startResult, HostCall, outside, tape, 
 use Rattle.semantics.specs.Demands.{answersAfter, callResult, workAfter}
 use Rattle.starred.specs.Tapes.{reads, anyTable, partsWith, anyParts, recordsOf, wordsOf, deques, identities, frame, live, rising, framesIn}
 use Rattle.starred.specs.Quick.{tapeBy, outsideBy, tape-by, outside-by, soundQuick, sound-quick, after-sound}
+use Rattle.soundness.specs.Layout.{twoWords}
 
 -- ---- starts
 
@@ -37,7 +39,7 @@ lends parts workers n words k = record { start = record { parts = parts; workers
 
 -- the same, of whole nodes, over parts that fit
 abbrev starts : ℕ → ℕ → ℕ → ℕ → StartRow
-starts workers n nodes k = lends anyParts workers n (4 * nodes) k
+starts workers n nodes k = lends anyParts workers n (2 * nodes) k
 
 -- "a refused start hands out a state of zeros" and changes nothing else, neither table nor pool; refused by 99 it leaves the parts too
 abbrev leftBy : Start → StartResult → Bool
@@ -50,7 +52,7 @@ leftBy b o =
 -- the result; and whether it left what it must, if it was refused
 abbrev startSeen : Start → ℕ × Bool
 startSeen b =
-    let o : StartResult = startResult b in
+    let o : StartResult = startResult twoWords b in
     let left-right : Bool = leftBy b o in
     (o .result, cond (eqb (o .result) 0) true left-right)
 
@@ -75,46 +77,46 @@ startTable =
     ∷ starts 1 5 11 0
     ∷ starts 1 256 510 3
     -- words beyond the last whole node are no node
-    ∷ lends anyParts 1 5 43 3
-    ∷ lends anyParts 1 5 47 0
+    ∷ lends anyParts 1 5 21 3
+    ∷ lends anyParts 1 5 23 0
     -- ".. or more than 16,384 nodes."
     ∷ starts 1 1 16384 0
     ∷ starts 1 1 16385 3
     -- R-6: "21, at a start, the table has 0 or more than 256 places .."
-    ∷ lends (partsWith 0) 1 1 4 21
-    ∷ lends (partsWith 1) 1 1 4 0
-    ∷ lends (partsWith 256) 1 1 4 0
-    ∷ lends (partsWith 257) 1 1 4 21
+    ∷ lends (partsWith 0) 1 1 2 21
+    ∷ lends (partsWith 1) 1 1 2 0
+    ∷ lends (partsWith 256) 1 1 2 0
+    ∷ lends (partsWith 257) 1 1 2 21
     -- 1 before 2, 21 and 3
     ∷ starts 0 0 20 1
     ∷ starts 9 257 521 1
     ∷ starts 1 257 520 1
-    ∷ lends (partsWith 0) 1 0 80 1
-    ∷ lends (partsWith 257) 1 257 2084 1
+    ∷ lends (partsWith 0) 1 0 40 1
+    ∷ lends (partsWith 257) 1 257 1042 1
     -- 2 before 21 and 3; ".. after 2."
     ∷ starts 0 5 10 2
     ∷ starts 9 5 10 2
-    ∷ lends (partsWith 0) 0 1 4 2
-    ∷ lends (partsWith 257) 9 1 4 2
+    ∷ lends (partsWith 0) 0 1 2 2
+    ∷ lends (partsWith 257) 9 1 2 2
     -- 21 before 3
-    ∷ lends (partsWith 0) 1 5 40 21
-    ∷ lends (partsWith 257) 1 5 40 21
+    ∷ lends (partsWith 0) 1 5 20 21
+    ∷ lends (partsWith 257) 1 5 20 21
     -- wrong in all four ways, in the last three, in the last two, in the last
     ∷ lends (partsWith 0) 9 257 0 1
     ∷ lends (partsWith 0) 9 256 0 2
     ∷ lends (partsWith 0) 8 256 0 21
     ∷ lends (partsWith 1) 8 256 0 3
     -- 99: a part of words has another length
-    ∷ lends (sizes 10 2056 64) 1 1 4 0
-    ∷ lends (sizes 9 2056 64) 1 1 4 99
-    ∷ lends (sizes 11 2056 64) 1 1 4 99
-    ∷ lends (sizes 10 2055 64) 1 1 4 99
-    ∷ lends (sizes 10 2057 64) 1 1 4 99
+    ∷ lends (sizes 10 2056 64) 1 1 2 0
+    ∷ lends (sizes 9 2056 64) 1 1 2 99
+    ∷ lends (sizes 11 2056 64) 1 1 2 99
+    ∷ lends (sizes 10 2055 64) 1 1 2 99
+    ∷ lends (sizes 10 2057 64) 1 1 2 99
     -- 99 before 1, 2, 21 and 3
-    ∷ lends (sizes 9 2056 64) 1 0 80 99
-    ∷ lends (sizes 10 2055 64) 0 1 4 99
-    ∷ lends (sizes 9 2056 0) 1 1 4 99
-    ∷ lends (sizes 10 2057 257) 1 1 4 99
+    ∷ lends (sizes 9 2056 64) 1 0 40 99
+    ∷ lends (sizes 10 2055 64) 0 1 2 99
+    ∷ lends (sizes 9 2056 0) 1 1 2 99
+    ∷ lends (sizes 10 2057 257) 1 1 2 99
     ∷ lends (sizes 11 2056 64) 1 1 0 99
     ∷ []
 
@@ -126,7 +128,7 @@ start-refusals = refl
 
 -- what a call finds
 pub data Before : Type 0 where
-  -- after a start: 2 workers, one splitter of value 1, 2 nodes, in a pool of 9 words, and a table of 8 places
+  -- after a start: 2 workers, one splitter of value 1, 2 nodes, in a pool of 5 words, and a table of 8 places
   started : Before
   -- the same but for the numbers
   withNumbers : List ℕ → Before
@@ -149,7 +151,7 @@ pub data Before : Type 0 where
   nothing : Before
 
 abbrev begun : Start
-begun = record { parts = partsWith 8; workers = 2; values = 1 ∷ []; pool = replicate 9 7 }
+begun = record { parts = partsWith 8; workers = 2; values = 1 ∷ []; pool = replicate 5 7 }
 
 abbrev numbered : StateAndPool → List ℕ → StateAndPool
 numbered h ks = record { state = record { numbers = ks; deques = h .state .deques; frames = h .state .frames }; pool = h .pool }
@@ -164,7 +166,7 @@ zeroTotals = 0 ∷ 0 ∷ 0 ∷ 0 ∷ []
 
 -- node 0 with so many holders, node 1 free
 abbrev leafHeldBy : ℕ → List ℕ
-leafHeldBy k = k ∷ none ∷ none ∷ 1 ∷ 0 ∷ none ∷ 0 ∷ 0 ∷ 7 ∷ []
+leafHeldBy k = k ∷ 1 ∷ 0 ∷ none ∷ 7 ∷ []
 
 -- Main, suspended, with k children
 abbrev suspendedMain : ℕ → ℕ → Frame
@@ -193,7 +195,7 @@ abbrev noneLives : List ℕ → StateAndPool
 noneLives totals =
     record {
       state = record { numbers = 2 ∷ 1 ∷ 2 ∷ 0 ∷ 0 ∷ (totals ++ (8 ∷ [])); deques = deques [] []; frames = framesIn 8 (freePlace 1 ∷ []) };
-      pool = 0 ∷ 1 ∷ 0 ∷ 0 ∷ 0 ∷ none ∷ 0 ∷ 0 ∷ 7 ∷ [];
+      pool = 0 ∷ 1 ∷ 0 ∷ none ∷ 7 ∷ [];
     }
 
 -- Main in the first of so many places
@@ -220,11 +222,11 @@ foundIn h (suspended x y) = oneChild x y
 foundIn h (siblings y z) = twoChildren y z
 foundIn h (ended totals) = noneLives totals
 foundIn h (tabled l k p) = withTable l k p
-foundIn h (lengths ns ds) = record { state = sizes ns ds 8; pool = replicate 9 7 }
+foundIn h (lengths ns ds) = record { state = sizes ns ds 8; pool = replicate 5 7 }
 foundIn h nothing = record { state = zeros (h .state .frames); pool = [] }
 
 abbrev found : Before → StateAndPool
-found b = foundIn (afterStart begun) b
+found b = foundIn (afterStart twoWords begun) b
 
 -- a call, its result (of a step the first answer word), and the answer words and the work slice after it
 pub record CallRow : Type 0 where
@@ -244,10 +246,10 @@ pub record CallSeen : Type 0 where
 abbrev callSeen : StateAndPool → HostCall → CallSeen
 callSeen h c =
     record {
-      result = callResult h c;
-      answers = answersAfter h c;
-      work = workAfter h c;
-      same-words = same (wordsOf (afterCall h c .state)) (wordsOf (h .state)) && same (afterCall h c .pool) (h .pool);
+      result = callResult twoWords h c;
+      answers = answersAfter twoWords h c;
+      work = workAfter twoWords h c;
+      same-words = same (wordsOf (afterCall twoWords h c .state)) (wordsOf (h .state)) && same (afterCall twoWords h c .pool) (h .pool);
     }
 
 abbrev callSaid : CallRow → CallSeen
@@ -400,42 +402,42 @@ abbrev seenBy : Bool → StateAndPool → HostCall → CallSeen
 seenBy v h (outside kind worker field value work) = let o : OutsideResult = outsideBy v h kind worker field value work in stepTold h o
 seenBy v h (tape bytes work answers) = let o : TapeResult = tapeBy v h bytes work answers in tapeTold h o
 
-seen-by : {v : Bool} (h : StateAndPool) (c : HostCall) → isSound (h .state) (h .pool) ≡ v → callSeen h c ≡ seenBy v h c
+seen-by : {v : Bool} (h : StateAndPool) (c : HostCall) → isSound twoWords (h .state) (h .pool) ≡ v → callSeen h c ≡ seenBy v h c
 seen-by h (outside kind worker field value work) e = ap (stepTold h) (outside-by h kind worker field value work e)
 seen-by h (tape bytes work answers) e = ap (tapeTold h) (tape-by h bytes work answers e)
 
-begins : startResult begun .result ≡ 0
+begins : startResult twoWords begun .result ≡ 0
 unfolding startOn startWith treeNodes height width
 begins = refl
 
 -- whether state and pool are sound; of those whose lengths are refused it does not matter
 abbrev soundAs : Before → Bool
 soundAs started = true
-soundAs (withNumbers ks) = soundQuick (found (withNumbers ks) .state) (afterStart begun .pool)
+soundAs (withNumbers ks) = soundQuick (found (withNumbers ks) .state) (afterStart twoWords begun .pool)
 soundAs unsound = false
-soundAs (withWord p i x) = soundQuick (found (withWord p i x) .state) (afterStart begun .pool)
+soundAs (withWord p i x) = soundQuick (found (withWord p i x) .state) (afterStart twoWords begun .pool)
 soundAs (suspended x y) = soundQuick (oneChild x y .state) (oneChild x y .pool)
 soundAs (siblings y z) = soundQuick (twoChildren y z .state) (twoChildren y z .pool)
 soundAs (ended totals) = soundQuick (noneLives totals .state) (noneLives totals .pool)
 soundAs (tabled l k p) = soundQuick (withTable l k p .state) (withTable l k p .pool)
-soundAs (lengths ns ds) = soundQuick (sizes ns ds 8) (replicate 9 7)
-soundAs nothing = soundQuick (zeros (afterStart begun .state .frames)) []
+soundAs (lengths ns ds) = soundQuick (sizes ns ds 8) (replicate 5 7)
+soundAs nothing = soundQuick (zeros (afterStart twoWords begun .state .frames)) []
 
-not-sound : soundQuick (found unsound .state) (afterStart begun .pool) ≡ false
-unfolding oneMain parentsLive countsRight placedOnce returningRight linksRight totalsRight chained holdLive absentEmpty linked onlyBelow startOn startWith initDeques push setSize setPlace initFrames initPlaces setFrame initPool initFree initLeaves initInner initLevel setNode height width treeNodes size place frameAt δ count
+not-sound : soundQuick (found unsound .state) (afterStart twoWords begun .pool) ≡ false
+unfolding oneMain parentsLive countsRight placedOnce returningRight linksRight totalsRight chained holdLive absentEmpty linked onlyBelow startOn startWith initDeques push setSize setPlace initFrames initPlaces setFrame initPool initFree initLeaves initInner initLevel setNode height width treeNodes size place frameAt δ count content links
 not-sound = refl
 
-sound-as : (b : Before) → isSound (found b .state) (found b .pool) ≡ soundAs b
+sound-as : (b : Before) → isSound twoWords (found b .state) (found b .pool) ≡ soundAs b
 sound-as started = after-sound begun [] begins
-sound-as (withNumbers ks) = sound-quick (found (withNumbers ks) .state) (afterStart begun .pool)
-sound-as unsound = sound-quick (found unsound .state) (afterStart begun .pool) ∙ not-sound
-sound-as (withWord p i x) = sound-quick (found (withWord p i x) .state) (afterStart begun .pool)
+sound-as (withNumbers ks) = sound-quick (found (withNumbers ks) .state) (afterStart twoWords begun .pool)
+sound-as unsound = sound-quick (found unsound .state) (afterStart twoWords begun .pool) ∙ not-sound
+sound-as (withWord p i x) = sound-quick (found (withWord p i x) .state) (afterStart twoWords begun .pool)
 sound-as (suspended x y) = sound-quick (oneChild x y .state) (oneChild x y .pool)
 sound-as (siblings y z) = sound-quick (twoChildren y z .state) (twoChildren y z .pool)
 sound-as (ended totals) = sound-quick (noneLives totals .state) (noneLives totals .pool)
 sound-as (tabled l k p) = sound-quick (withTable l k p .state) (withTable l k p .pool)
-sound-as (lengths ns ds) = sound-quick (sizes ns ds 8) (replicate 9 7)
-sound-as nothing = sound-quick (zeros (afterStart begun .state .frames)) []
+sound-as (lengths ns ds) = sound-quick (sizes ns ds 8) (replicate 5 7)
+sound-as nothing = sound-quick (zeros (afterStart twoWords begun .state .frames)) []
 
 abbrev rowQuick : CallRow → CallSeen
 rowQuick r = seenBy (soundAs (r .before)) (found (r .before)) (r .call)
@@ -444,7 +446,7 @@ row-quick : (r : CallRow) → callSeen (found (r .before)) (r .call) ≡ rowQuic
 row-quick r = seen-by (found (r .before)) (r .call) (sound-as (r .before))
 
 calls-quickly : map rowQuick callTable ≡ map callSaid callTable
-unfolding callTable runOn recordOf decodeAt readOn stepOn bottom readAt leafOf startOn startWith initDeques push setSize setPlace initFrames initPlaces setFrame initPool initFree initLeaves initInner initLevel setNode height width treeNodes size place frameAt cleared rootsBelow oneMain parentsLive countsRight placedOnce returningRight linksRight totalsRight chained holdLive absentEmpty linked onlyBelow treeAt nodesAt refcount left right value δ count
+unfolding callTable runOn recordOf decodeAt readOn stepOn bottom readAt leafOf startOn startWith initDeques push setSize setPlace initFrames initPlaces setFrame initPool initFree initLeaves initInner initLevel setNode height width treeNodes size place frameAt cleared rootsBelow oneMain parentsLive countsRight placedOnce returningRight linksRight totalsRight chained holdLive absentEmpty linked onlyBelow treeAt nodesOn isOn refcount left right δ count content links
 calls-quickly = refl
 
 pub call-refusals : map (λ (row : CallRow). callSeen (found (row .before)) (row .call)) callTable ≡ map callSaid callTable

@@ -18,7 +18,8 @@ use borrow.Author.Tests.{eqb-true}
 use Rattle.words.specs.Basics.{joined, same}
 use Rattle.words.specs.Tests.{decided}
 use Rattle.sizes.specs.Sizes.{height, width, treeNodes, bit}
-use Rattle.pool.specs.Pool.{refcount, left, right, value, setNode, setRefcount, side, child, sibling, leafOf, readAt, retain, release, pathNode, copyPath, setValue, setLink, renew, firstShared, rest, writeFrom, write, initLevel, initInner, initLeaves, initFree, initPool}
+use Rattle.pool.specs.Pool.{side}
+use Rattle.packed.specs.Pool.{refcount, links, content, left, right, setNode, setRefcount, child, sibling, leafOf, readAt, retain, release, pathNode, copyPath, setValue, setLink, renew, firstShared, rest, writeFrom, write, initLevel, initInner, initLeaves, initFree, initPool, setContent}
 use Rattle.reducers.specs.Reducers.{foldView}
 use Rattle.frames.specs.Frames.{frameAt, setFrame, initPlaces, initFrames}
 use Rattle.frames.specs.Deques.{size, setSize, place, setPlace, bottom, top, push, pop, shiftUp, dropTop, initDeques}
@@ -32,6 +33,7 @@ use Rattle.semantics.specs.Entries.{wholeNodes, startOn, startWith, OutsideResu
 use Rattle.semantics.specs.Calls.{Start, startResult, HostCall, tape, StateAndPool, afterStart, outsideResult, tapeResult}
 use Rattle.starred.specs.Tapes.{bytes, spawns, returns, steals, syncs, reads, writes, folds, partsWith, anyPool, wordsOf}
 use Rattle.starred.specs.Quick.{afterCalls, outsideBy, outside-by, after-sound, quickTape, tape-quick, quickCalls, after-quick}
+use Rattle.soundness.specs.Layout.{twoWords}
 
 -- ---- tapes
 
@@ -60,13 +62,13 @@ abbrev saidOf : List Row → List ℕ
 saidOf rows = joined (map (λ (r : Row). r .1 .0 ∷ r .1 .1 ∷ []) rows)
 
 abbrev works : Start → List ℕ
-works b = replicate (wholeNodes (b .pool)) 5
+works b = replicate (wholeNodes twoWords (b .pool)) 5
 
 abbrev replies : List Row → List ℕ
 replies rows = replicate (2 * length rows) 9
 
 abbrev played : Start → List Row → TapeResult
-played b rows = tapeResult (afterStart b) (bytesOf rows) (works b) (replies rows)
+played b rows = tapeResult twoWords (afterStart twoWords b) (bytesOf rows) (works b) (replies rows)
 
 -- the answer words of all the records, q; and whether they leave the state and the pool that they leave without the refused ones, p
 abbrev compared : TapeResult → TapeResult → List ℕ × Bool
@@ -405,7 +407,7 @@ pub workersTable : List Case
 workersTable = atStart ∷ eightWorkers ∷ mainReturned ∷ twoFrames ∷ []
 
 workers-quickly : map seenQuick workersTable ≡ map said workersTable
-unfolding workersTable startOn startWith runOn recordOf decodeAt spawnOn endAt upward endBottom returnOn stealOn syncOn readOn writeOn foldOn stepOn addChild spawn removeFrame endFrame goOn wentOn steal sync synced fold relinkFrom eldestTo firstFrom nextAfter foldView shiftUp dropTop pop top bottom side child sibling bit leafOf readAt retain release setRefcount pathNode copyPath setValue setLink renew firstShared rest writeFrom write initPool initFree initLeaves initInner initLevel setNode height width treeNodes initDeques initFrames initPlaces push setSize setPlace size place setFrame frameAt cleared refcount left right value
+unfolding workersTable startOn startWith runOn recordOf decodeAt spawnOn endAt upward endBottom returnOn stealOn syncOn readOn writeOn foldOn stepOn addChild spawn removeFrame endFrame goOn wentOn steal sync synced fold relinkFrom eldestTo firstFrom nextAfter foldView shiftUp dropTop pop top bottom side child sibling bit leafOf readAt retain release setRefcount pathNode copyPath setValue setLink renew firstShared rest writeFrom write initPool initFree initLeaves initInner initLevel setNode height width treeNodes initDeques initFrames initPlaces push setSize setPlace size place setFrame frameAt cleared refcount left right content links setContent
 workers-quickly = refl
 
 pub workers-refusals : map seen workersTable ≡ map said workersTable
@@ -427,7 +429,7 @@ nodesTable =
     ∷ []
 
 nodes-quickly : map seenQuick nodesTable ≡ map said nodesTable
-unfolding nodesTable startOn startWith runOn recordOf decodeAt spawnOn endAt upward endBottom returnOn stealOn syncOn readOn writeOn foldOn stepOn addChild spawn removeFrame endFrame goOn wentOn steal sync synced fold relinkFrom eldestTo firstFrom nextAfter foldView shiftUp dropTop pop top bottom side child sibling bit leafOf readAt retain release setRefcount pathNode copyPath setValue setLink renew firstShared rest writeFrom write initPool initFree initLeaves initInner initLevel setNode height width treeNodes initDeques initFrames initPlaces push setSize setPlace size place setFrame frameAt cleared refcount left right value
+unfolding nodesTable startOn startWith runOn recordOf decodeAt spawnOn endAt upward endBottom returnOn stealOn syncOn readOn writeOn foldOn stepOn addChild spawn removeFrame endFrame goOn wentOn steal sync synced fold relinkFrom eldestTo firstFrom nextAfter foldView shiftUp dropTop pop top bottom side child sibling bit leafOf readAt retain release setRefcount pathNode copyPath setValue setLink renew firstShared rest writeFrom write initPool initFree initLeaves initInner initLevel setNode height width treeNodes initDeques initFrames initPlaces push setSize setPlace size place setFrame frameAt cleared refcount left right content links setContent
 nodes-quickly = refl
 
 pub nodes-refusals : map seen nodesTable ≡ map said nodesTable
@@ -455,7 +457,7 @@ framesTable k =
     ∷ [])
 
 frames-quickly : map (λ k. playedQuick (startsIn (suc k) 2 1 1) (framesTable k) .answers) (63 ∷ 255 ∷ []) ≡ map (λ k. saidOf (framesTable k)) (63 ∷ 255 ∷ [])
-unfolding framesTable startOn startWith runOn recordOf decodeAt spawnOn endAt upward endBottom returnOn stealOn syncOn readOn writeOn foldOn stepOn addChild spawn removeFrame endFrame goOn wentOn steal sync synced fold relinkFrom eldestTo firstFrom nextAfter foldView shiftUp dropTop pop top bottom side child sibling bit leafOf readAt retain release setRefcount pathNode copyPath setValue setLink renew firstShared rest writeFrom write initPool initFree initLeaves initInner initLevel setNode height width treeNodes initDeques initFrames initPlaces push setSize setPlace size place setFrame frameAt cleared refcount left right value
+unfolding framesTable startOn startWith runOn recordOf decodeAt spawnOn endAt upward endBottom returnOn stealOn syncOn readOn writeOn foldOn stepOn addChild spawn removeFrame endFrame goOn wentOn steal sync synced fold relinkFrom eldestTo firstFrom nextAfter foldView shiftUp dropTop pop top bottom side child sibling bit leafOf readAt retain release setRefcount pathNode copyPath setValue setLink renew firstShared rest writeFrom write initPool initFree initLeaves initInner initLevel setNode height width treeNodes initDeques initFrames initPlaces push setSize setPlace size place setFrame frameAt cleared refcount left right content links setContent
 frames-quickly = refl
 
 pub frames-refusals : map (λ k. played (startsIn (suc k) 2 1 1) (framesTable k) .answers) (63 ∷ 255 ∷ []) ≡ map (λ k. saidOf (framesTable k)) (63 ∷ 255 ∷ [])
@@ -519,7 +521,7 @@ pub placesTable : List Case
 placesTable = onePlace ∷ onePlaceReturned ∷ twoPlaces ∷ twoPlacesElsewhere ∷ twoPlacesWaiting ∷ threePlaces ∷ []
 
 places-quickly : map seenQuick placesTable ≡ map said placesTable
-unfolding placesTable startOn startWith runOn recordOf decodeAt spawnOn endAt upward endBottom returnOn stealOn syncOn readOn writeOn foldOn stepOn addChild spawn removeFrame endFrame goOn wentOn steal sync synced fold relinkFrom eldestTo firstFrom nextAfter foldView shiftUp dropTop pop top bottom side child sibling bit leafOf readAt retain release setRefcount pathNode copyPath setValue setLink renew firstShared rest writeFrom write initPool initFree initLeaves initInner initLevel setNode height width treeNodes initDeques initFrames initPlaces push setSize setPlace size place setFrame frameAt cleared refcount left right value
+unfolding placesTable startOn startWith runOn recordOf decodeAt spawnOn endAt upward endBottom returnOn stealOn syncOn readOn writeOn foldOn stepOn addChild spawn removeFrame endFrame goOn wentOn steal sync synced fold relinkFrom eldestTo firstFrom nextAfter foldView shiftUp dropTop pop top bottom side child sibling bit leafOf readAt retain release setRefcount pathNode copyPath setValue setLink renew firstShared rest writeFrom write initPool initFree initLeaves initInner initLevel setNode height width treeNodes initDeques initFrames initPlaces push setSize setPlace size place setFrame frameAt cleared refcount left right content links setContent
 places-quickly = refl
 
 pub places-refusals : map seen placesTable ≡ map said placesTable
@@ -551,14 +553,14 @@ answeredBy h o =
     (wordsIn (o .result), cond (ltb (wordsIn (o .result) .0) 100) unchanged true)
 
 abbrev beforeStep : StepRow → StateAndPool
-beforeStep r = afterCalls (afterStart (r .start)) (tapeOf (r .before))
+beforeStep r = afterCalls (afterStart twoWords (r .start)) (tapeOf (r .before))
 
 -- by a step that leaves this, of the state, the pool and the work slice
 abbrev seenBy : StepRow → (StateAndPool → List ℕ → OutsideResult) → StateAndPool → (ℕ × ℕ) × Bool
-seenBy r does h = let o : OutsideResult = does h (replicate (wholeNodes (h .pool)) 5) in answeredBy h o
+seenBy r does h = let o : OutsideResult = does h (replicate (wholeNodes twoWords (h .pool)) 5) in answeredBy h o
 
 abbrev stepSeen : StepRow → (ℕ × ℕ) × Bool
-stepSeen r = seenBy r (λ h work. outsideResult h (r .kind) (r .worker) (r .field) (r .value) work) (beforeStep r)
+stepSeen r = seenBy r (λ h work. outsideResult twoWords h (r .kind) (r .worker) (r .field) (r .value) work) (beforeStep r)
 
 pub stepTable : List StepRow
 stepTable =
@@ -611,21 +613,21 @@ abbrev stepDirect : StepRow → StateAndPool → (ℕ × ℕ) × Bool
 stepDirect r h = seenBy r (λ g work. outsideBy true g (r .kind) (r .worker) (r .field) (r .value) work) h
 
 abbrev stepQuick : StepRow → (ℕ × ℕ) × Bool
-stepQuick r = cond (eqb (startResult (r .start) .result) 0) (stepDirect r (quickCalls (afterStart (r .start)) (tapeOf (r .before)))) (stepSeen r)
+stepQuick r = cond (eqb (startResult twoWords (r .start) .result) 0) (stepDirect r (quickCalls (afterStart twoWords (r .start)) (tapeOf (r .before)))) (stepSeen r)
 
 step-quick : (r : StepRow) → stepSeen r ≡ stepQuick r
-step-quick r = elim (decided (eqb (startResult (r .start) .result) 0)) [
+step-quick r = elim (decided (eqb (startResult twoWords (r .start) .result) 0)) [
   | inl e ↦
-      let a = eqb-true (startResult (r .start) .result) 0 e in
+      let a = eqb-true (startResult twoWords (r .start) .result) 0 e in
       let h = beforeStep r in
       rw e
-      (ap (answeredBy h) (outside-by h (r .kind) (r .worker) (r .field) (r .value) (replicate (wholeNodes (h .pool)) 5) (after-sound (r .start) (tapeOf (r .before)) a))
+      (ap (answeredBy h) (outside-by h (r .kind) (r .worker) (r .field) (r .value) (replicate (wholeNodes twoWords (h .pool)) 5) (after-sound (r .start) (tapeOf (r .before)) a))
       ∙ ap (stepDirect r) (after-quick (r .start) (tapeOf (r .before)) a))
   | inr e ↦ rw e refl
 ]
 
 step-quickly : map stepQuick stepTable ≡ map (λ (row : StepRow). (row .words, true)) stepTable
-unfolding stepTable startOn startWith runOn recordOf decodeAt spawnOn endAt upward endBottom returnOn stealOn syncOn readOn writeOn foldOn stepOn addChild spawn removeFrame endFrame goOn wentOn steal sync synced fold relinkFrom eldestTo firstFrom nextAfter foldView shiftUp dropTop pop top bottom side child sibling bit leafOf readAt retain release setRefcount pathNode copyPath setValue setLink renew firstShared rest writeFrom write initPool initFree initLeaves initInner initLevel setNode height width treeNodes initDeques initFrames initPlaces push setSize setPlace size place setFrame frameAt cleared refcount left right value
+unfolding stepTable startOn startWith runOn recordOf decodeAt spawnOn endAt upward endBottom returnOn stealOn syncOn readOn writeOn foldOn stepOn addChild spawn removeFrame endFrame goOn wentOn steal sync synced fold relinkFrom eldestTo firstFrom nextAfter foldView shiftUp dropTop pop top bottom side child sibling bit leafOf readAt retain release setRefcount pathNode copyPath setValue setLink renew firstShared rest writeFrom write initPool initFree initLeaves initInner initLevel setNode height width treeNodes initDeques initFrames initPlaces push setSize setPlace size place setFrame frameAt cleared refcount left right content links setContent
 step-quickly = refl
 
 pub step-refusals : map stepSeen stepTable ≡ map (λ (row : StepRow). (row .words, true)) stepTable

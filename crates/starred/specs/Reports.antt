@@ -1,13 +1,14 @@
 -- R-7: reports, computed: work, span, quotient and remainder; 22; the refusals before anything changes, their order and what they leave.
 use mathlib.Core.Path.{_≡_, refl}
 use mathlib.Core.Bool.{Bool, true, cond, _&&_}
-use mathlib.Core.List.{List, [], _∷_, _++_, map}
-use Prim.Native.Nat.{ℕ, _*_, _/_}
+use mathlib.Core.List.{List, [], _∷_, map}
+use Prim.Native.Nat.{ℕ, _*_}
 use lib.ListN.{length, replicate}
 use lib.Dec.{eqb}
 use Rattle.words.specs.Basics.{same, joined}
 use Rattle.sizes.specs.Sizes.{height, width, treeNodes, bit}
-use Rattle.pool.specs.Pool.{refcount, left, right, value, setNode, setRefcount, side, child, sibling, leafOf, readAt, retain, release, pathNode, copyPath, setValue, setLink, renew, firstShared, rest, writeFrom, write, initLevel, initInner, initLeaves, initFree, initPool}
+use Rattle.pool.specs.Pool.{side}
+use Rattle.packed.specs.Pool.{refcount, links, content, left, right, setNode, setRefcount, child, sibling, leafOf, readAt, retain, release, pathNode, copyPath, setValue, setLink, renew, firstShared, rest, writeFrom, write, initLevel, initInner, initLeaves, initFree, initPool, setContent}
 use Rattle.reducers.specs.Reducers.{foldView}
 use Rattle.frames.specs.Frames.{frameAt, setFrame, initPlaces, initFrames}
 use Rattle.frames.specs.Deques.{size, setSize, place, setPlace, bottom, top, push, pop, shiftUp, dropTop, initDeques}
@@ -18,7 +19,8 @@ use Rattle.semantics.specs.Core.{spawnOn, endAt, upward, endBottom, returnOn, s
 use Rattle.semantics.specs.Entries.{State, startOn, startWith, recordsFrom}
 use Rattle.semantics.specs.Timing.{rise, timedWith, timedOver}
 use Rattle.semantics.specs.Report.{Lent, ReportResult, reportWith, reportOn}
-use Rattle.starred.specs.Tapes.{spawns, returns, steals, syncs, reads, writes, folds, recordsOf, partsWith, anyPool, five}
+use Rattle.starred.specs.Tapes.{spawns, returns, steals, syncs, reads, writes, folds, recordsOf, partsWith, anyPool}
+use Rattle.soundness.specs.Layout.{twoWords}
 
 -- ---- accepted starts: three workers, one splitter, four nodes, a table of eight places; slices that are long enough and hold anything
 
@@ -26,7 +28,7 @@ abbrev lends : List (List ℕ) → Lent
 lends records = record { work = replicate 4 5; answers = replicate (2 * length records) 9; clocks = replicate 16 6; report = replicate 4 8 }
 
 abbrev reported : List (List ℕ) → ReportResult
-reported records = reportOn (partsWith 8) 3 (7 ∷ []) (anyPool 4) (joined records) (lends records)
+reported records = reportOn twoWords (partsWith 8) 3 (7 ∷ []) (anyPool 4) (joined records) (lends records)
 
 -- the result, and the report's words
 abbrev seen : List (List ℕ) → ℕ × List ℕ
@@ -61,7 +63,7 @@ table =
     ∷ []
 
 tables-hold : map (λ (r : Row). seen (r .0)) table ≡ map (λ (r : Row). r .1) table
-unfolding table reportOn reportWith timedOver timedWith rise startOn startWith recordsFrom recordOf decodeAt spawnOn endAt upward endBottom returnOn stealOn syncOn readOn writeOn foldOn stepOn addChild spawn removeFrame endFrame goOn wentOn steal sync synced fold relinkFrom eldestTo firstFrom nextAfter foldView shiftUp dropTop pop top bottom side child sibling bit leafOf readAt retain release setRefcount pathNode copyPath setValue setLink renew firstShared rest writeFrom write initPool initFree initLeaves initInner initLevel setNode height width treeNodes initDeques initFrames initPlaces push setSize setPlace size place setFrame frameAt refcount left right value
+unfolding table reportOn reportWith timedOver timedWith rise startOn startWith recordsFrom recordOf decodeAt spawnOn endAt upward endBottom returnOn stealOn syncOn readOn writeOn foldOn stepOn addChild spawn removeFrame endFrame goOn wentOn steal sync synced fold relinkFrom eldestTo firstFrom nextAfter foldView shiftUp dropTop pop top bottom side child sibling bit leafOf readAt retain release setRefcount pathNode copyPath setValue setLink renew firstShared rest writeFrom write initPool initFree initLeaves initInner initLevel setNode height width treeNodes initDeques initFrames initPlaces push setSize setPlace size place setFrame frameAt refcount left right content links setContent
 tables-hold = refl
 
 -- ---- refused before anything changes
@@ -95,7 +97,7 @@ leftBy r o =
     && same (o .lent .report) (lentOf r .report)
 
 abbrev refusedSeen : Refused → ℕ × Bool
-refusedSeen r = let o : ReportResult = reportOn (partsOf r) (r .workers) (replicate (r .values) 1) (replicate (r .words) 7) (replicate (r .bytes) 0) (lentOf r) in (o .result, leftBy r o)
+refusedSeen r = let o : ReportResult = reportOn twoWords (partsOf r) (r .workers) (replicate (r .values) 1) (replicate (r .words) 7) (replicate (r .bytes) 0) (lentOf r) in (o .result, leftBy r o)
 
 abbrev row : ℕ × ℕ × ℕ → ℕ → ℕ → ℕ → ℕ → ℕ × ℕ × ℕ × ℕ → ℕ → Refused
 row parts workers values words bytes lent result = record { parts = parts; workers = workers; values = values; words = words; bytes = bytes; lent = lent; result = result }
@@ -103,18 +105,18 @@ row parts workers values words bytes lent result = record { parts = parts; worke
 -- each beside those that come after it
 refusals : List Refused
 refusals =
-    row (9, 2056, 2) 0 0 4 7 (0, 0, 4, 4) 99
-    ∷ row (10, 2055, 2) 0 0 4 7 (0, 0, 4, 4) 99
-    ∷ row (10, 2056, 2) 0 0 4 7 (0, 0, 3, 4) 99
-    ∷ row (10, 2056, 2) 0 0 4 7 (0, 0, 5, 4) 99
-    ∷ row (10, 2056, 2) 0 0 4 7 (0, 0, 4, 3) 99
-    ∷ row (10, 2056, 2) 0 0 4 7 (0, 0, 4, 4) 1
+    row (9, 2056, 2) 0 0 2 7 (0, 0, 4, 4) 99
+    ∷ row (10, 2055, 2) 0 0 2 7 (0, 0, 4, 4) 99
+    ∷ row (10, 2056, 2) 0 0 2 7 (0, 0, 3, 4) 99
+    ∷ row (10, 2056, 2) 0 0 2 7 (0, 0, 5, 4) 99
+    ∷ row (10, 2056, 2) 0 0 2 7 (0, 0, 4, 3) 99
+    ∷ row (10, 2056, 2) 0 0 2 7 (0, 0, 4, 4) 1
     ∷ row (10, 2056, 0) 0 1 0 7 (0, 0, 0, 4) 2
     ∷ row (10, 2056, 0) 1 1 0 7 (0, 0, 0, 4) 21
-    ∷ row (10, 2056, 2) 1 1 3 7 (0, 0, 4, 4) 3
-    ∷ row (10, 2056, 2) 1 1 4 7 (0, 0, 4, 4) 4
-    ∷ row (10, 2056, 2) 1 1 4 8 (0, 1, 4, 4) 4
-    ∷ row (10, 2056, 2) 1 1 4 8 (0, 2, 4, 4) 5
+    ∷ row (10, 2056, 2) 1 1 1 7 (0, 0, 4, 4) 3
+    ∷ row (10, 2056, 2) 1 1 2 7 (0, 0, 4, 4) 4
+    ∷ row (10, 2056, 2) 1 1 2 8 (0, 1, 4, 4) 4
+    ∷ row (10, 2056, 2) 1 1 2 8 (0, 2, 4, 4) 5
     ∷ []
 
 refusals-hold : map refusedSeen refusals ≡ map (λ (r : Refused). (r .result, true)) refusals

@@ -1,4 +1,4 @@
--- The images of R-1 as R-3, R-5 and R-6 change them, word by word, and their refusals, each at its condition and beside an accepted call or the next
+-- The images of R-1 as R-3, R-5, R-6 and R-8 change them, word by word, and their refusals, each at its condition and beside an accepted call or the next
 -- refusal, with what they leave: saves of short states, and readings of their images into other memory. (That an image reads back as the state is
 -- shown for every sound one: reads-back of semantics.)
 use mathlib.Core.Path.{_≡_, refl, ap, ap₂, _∙_}
@@ -11,12 +11,13 @@ use lib.Dec.{eqb, ltb}
 use Rattle.words.specs.Basics.{none, same, sum, δ, count}
 use Rattle.words.specs.Counting.{sum-cong, sum-first}
 use Rattle.sizes.specs.Sizes.{height, width, treeNodes}
-use Rattle.pool.specs.Pool.{refcount, left, right, value}
+use Rattle.packed.specs.Pool.{refcount, links, content, left, right}
 use Rattle.frames.specs.declared.Frame.{Frame}
 use Rattle.frames.specs.Frames.{frameAt, freePlace}
 use Rattle.frames.specs.Siblings.{chained}
 use Rattle.frames.specs.Deques.{size, place}
-use Rattle.soundness.specs.Soundness.{oneMain, parentsLive, countsRight, placedOnce, returningRight, linksRight, totalsRight, holdLive, absentEmpty, linked, onlyBelow, treeAt, nodesAt, rootsBelow, checked, cleared}
+use Rattle.soundness.specs.Soundness.{oneMain, parentsLive, countsRight, placedOnce, returningRight, linksRight, totalsRight, holdLive, absentEmpty, linked, onlyBelow, rootsBelow, checked, cleared}
+use Rattle.soundness.specs.PackedTrees.{treeAt, nodesOn, isOn}
 use Rattle.image.specs.declared.ImageCheck.{ImageCheck}
 use Rattle.image.specs.declared.ImageCheck.the-variants.{WrongLength, WrongCheck, Good}
 use Rattle.image.specs.Image.{dequesOf, tableWords, imageWords, wordBytes, bytesOf, wordsOf, wordAt, check, blocksOf, filled, asBlocks, nodesIn, placesIn, blocksCalled, wrongLength, dataOf, checksHold, allZero, restOf, wrongCheck, imageCheck, lentDeques, recordsIn}
@@ -26,6 +27,7 @@ use Rattle.semantics.specs.Entries.{State, fits, isSound}
 use Rattle.semantics.specs.Images.{savedImage, SaveResult, saveRefused, saveChecked, saveWith, saveOn, LoadResult, stateIn, poolWith, loadRefused, recordsZero, nodesZero, loadChecked, loadWith, loadOn}
 use Rattle.starred.specs.Tapes.{anyTable, partsWith, recordsOf, deques, frame, live, waiting, framesIn}
 use Rattle.starred.specs.Quick.{soundQuick, sound-quick, checkedBy}
+use Rattle.soundness.specs.Layout.{twoWords}
 
 -- ---- R-1's check in one pass over the bytes, for computing
 
@@ -76,7 +78,7 @@ stateOf ns places ds fs = record { numbers = ns ++ (places ∷ []); deques = ds;
 
 -- a leaf with so many holders
 abbrev heldBy : ℕ → List ℕ
-heldBy k = k ∷ none ∷ none ∷ 7 ∷ []
+heldBy k = k ∷ 7 ∷ []
 
 -- one worker, Main lives, and no node is free
 abbrev mainFrames : List Frame
@@ -111,7 +113,7 @@ abbrev ended : State
 ended = stateOf (1 ∷ 1 ∷ 1 ∷ 0 ∷ 0 ∷ 10 ∷ 9 ∷ 2 ∷ 1 ∷ []) 8 (deques [] []) freeFrames
 
 abbrev freeLeaf : List ℕ
-freeLeaf = 0 ∷ none ∷ 0 ∷ 0 ∷ []
+freeLeaf = 0 ∷ none ∷ []
 
 -- R-6: Main and its child in a table of 2 places
 abbrev fullFrames : List Frame
@@ -123,6 +125,13 @@ full = stateOf (1 ∷ 1 ∷ 1 ∷ none ∷ none ∷ 0 ∷ 0 ∷ 0 ∷ 0 ∷ []) 
 -- Main in a table of 1
 abbrev lone : State
 lone = stateOf (1 ∷ 1 ∷ 1 ∷ none ∷ none ∷ 0 ∷ 0 ∷ 0 ∷ 0 ∷ []) 1 (deques (0 ∷ []) []) (live none 0 0 0 0 ∷ [])
+
+-- R-8: Main with two splitters and five nodes, of which 3 and 4 are free: "left plus 65,536 times right"
+abbrev grown : State
+grown = numbered (1 ∷ 2 ∷ 5 ∷ 3 ∷ 1 ∷ 0 ∷ 0 ∷ 0 ∷ 0 ∷ [])
+
+abbrev fiveNodes : List ℕ
+fiveNodes = 1 ∷ (1 + 65536 * 2) ∷ 1 ∷ 10 ∷ 1 ∷ 20 ∷ 0 ∷ 4 ∷ 0 ∷ none ∷ []
 
 -- ---- images
 
@@ -138,49 +147,56 @@ dequeIn places ps = length ps ∷ (ps ++ replicate (places - length ps) 0)
 abbrev dequesIn : ℕ → List ℕ → List ℕ → List ℕ
 dequesIn places ps qs = dequeIn places ps ++ dequeIn places qs ++ replicate (6 * suc places) 0
 
--- R-1's words of a state, 768 added to the first ("The first word of an image has 256 added", "Each later change of the image adds 256 again"), and as the
--- rest of the last block 72 words. R-6: "images hold that many records and deque places, with the length as a word before the deques"
+-- R-1's words of a state, 1,024 added to the first ("The first word of an image has 256 added", "Each later change of the image adds 256 again"), and as the
+-- rest of the last block 74 words. R-6: "images hold that many records and deque places, with the length as a word before the deques". R-8: "Images have the new nodes."
 pub image : List ℕ
-image = blocksWith (788 ∷ 23 ∷ []) ((769 ∷ 1 ∷ 1 ∷ none ∷ 1 ∷ 0 ∷ 0 ∷ 0 ∷ 0 ∷ 8 ∷ []) ++ dequesIn 8 (0 ∷ []) [] ++ recordsOf mainFrames ++ heldBy 1 ++ replicate 72 0)
+image = blocksWith (1044 ∷ 25 ∷ []) ((1025 ∷ 1 ∷ 1 ∷ none ∷ 1 ∷ 0 ∷ 0 ∷ 0 ∷ 0 ∷ 8 ∷ []) ++ dequesIn 8 (0 ∷ []) [] ++ recordsOf mainFrames ++ heldBy 1 ++ replicate 74 0)
 
 pub waitingImage : List ℕ
-waitingImage = blocksWith (792 ∷ 24 ∷ []) ((769 ∷ 1 ∷ 1 ∷ none ∷ 2 ∷ 0 ∷ 0 ∷ 0 ∷ 0 ∷ 8 ∷ []) ++ dequesIn 8 (1 ∷ []) [] ++ recordsOf waitingFrames ++ heldBy 2 ++ replicate 72 0)
+waitingImage = blocksWith (1048 ∷ 26 ∷ []) ((1025 ∷ 1 ∷ 1 ∷ none ∷ 2 ∷ 0 ∷ 0 ∷ 0 ∷ 0 ∷ 8 ∷ []) ++ dequesIn 8 (1 ∷ []) [] ++ recordsOf waitingFrames ++ heldBy 2 ++ replicate 74 0)
 
 pub siblingsImage : List ℕ
-siblingsImage = blocksWith (806 ∷ 25 ∷ []) ((770 ∷ 1 ∷ 1 ∷ none ∷ 3 ∷ 0 ∷ 0 ∷ 0 ∷ 0 ∷ 8 ∷ []) ++ dequesIn 8 (1 ∷ []) (2 ∷ []) ++ recordsOf siblingFrames ++ heldBy 3 ++ replicate 72 0)
+siblingsImage = blocksWith (1062 ∷ 27 ∷ []) ((1026 ∷ 1 ∷ 1 ∷ none ∷ 3 ∷ 0 ∷ 0 ∷ 0 ∷ 0 ∷ 8 ∷ []) ++ dequesIn 8 (1 ∷ []) (2 ∷ []) ++ recordsOf siblingFrames ++ heldBy 3 ++ replicate 74 0)
 
 pub endedImage : List ℕ
-endedImage = blocksWith (811 ∷ 16 ∷ []) ((769 ∷ 1 ∷ 1 ∷ 0 ∷ 0 ∷ 10 ∷ 9 ∷ 2 ∷ 1 ∷ 8 ∷ []) ++ dequesIn 8 [] [] ++ recordsOf freeFrames ++ freeLeaf ++ replicate 72 0)
+endedImage = blocksWith (1067 ∷ 16 ∷ []) ((1025 ∷ 1 ∷ 1 ∷ 0 ∷ 0 ∷ 10 ∷ 9 ∷ 2 ∷ 1 ∷ 8 ∷ []) ++ dequesIn 8 [] [] ++ recordsOf freeFrames ++ freeLeaf ++ replicate 74 0)
 
 pub fullImage : List ℕ
-fullImage = blocksWith (782 ∷ []) ((769 ∷ 1 ∷ 1 ∷ none ∷ none ∷ 0 ∷ 0 ∷ 0 ∷ 0 ∷ 2 ∷ []) ++ dequesIn 2 (0 ∷ 1 ∷ []) [] ++ recordsOf fullFrames ++ heldBy 2 ++ replicate 65 0)
+fullImage = blocksWith (1040 ∷ []) ((1025 ∷ 1 ∷ 1 ∷ none ∷ none ∷ 0 ∷ 0 ∷ 0 ∷ 0 ∷ 2 ∷ []) ++ dequesIn 2 (0 ∷ 1 ∷ []) [] ++ recordsOf fullFrames ++ heldBy 2 ++ replicate 67 0)
 
 pub loneImage : List ℕ
-loneImage = blocksWith (776 ∷ []) ((769 ∷ 1 ∷ 1 ∷ none ∷ none ∷ 0 ∷ 0 ∷ 0 ∷ 0 ∷ 1 ∷ []) ++ dequesIn 1 (0 ∷ []) [] ++ recordsOf (live none 0 0 0 0 ∷ []) ++ heldBy 1 ++ replicate 85 0)
+loneImage = blocksWith (1034 ∷ []) ((1025 ∷ 1 ∷ 1 ∷ none ∷ none ∷ 0 ∷ 0 ∷ 0 ∷ 0 ∷ 1 ∷ []) ++ dequesIn 1 (0 ∷ []) [] ++ recordsOf (live none 0 0 0 0 ∷ []) ++ heldBy 1 ++ replicate 87 0)
+
+pub grownImage : List ℕ
+grownImage = blocksWith (1053 ∷ 131126 ∷ []) ((1025 ∷ 2 ∷ 5 ∷ 3 ∷ 1 ∷ 0 ∷ 0 ∷ 0 ∷ 0 ∷ 8 ∷ []) ++ dequesIn 8 (0 ∷ []) [] ++ recordsOf mainFrames ++ fiveNodes ++ replicate 66 0)
 
 -- of a table without places, where no frame lives
 pub emptyImage : List ℕ
-emptyImage = blocksWith (769 ∷ []) ((769 ∷ 1 ∷ 1 ∷ 0 ∷ none ∷ 0 ∷ 0 ∷ 0 ∷ 0 ∷ 0 ∷ []) ++ dequesIn 0 [] [] ++ freeLeaf ++ replicate 105 0)
+emptyImage = blocksWith (1025 ∷ []) ((1025 ∷ 1 ∷ 1 ∷ 0 ∷ none ∷ 0 ∷ 0 ∷ 0 ∷ 0 ∷ 0 ∷ []) ++ dequesIn 0 [] [] ++ freeLeaf ++ replicate 107 0)
 
 -- of the first state with 257 places
 pub manyImage : List ℕ
 manyImage =
     blocksWith
-    ((1029 ∷ replicate 15 0) ++ (26 ∷ 143 ∷ 264 ∷ 345 ∷ 495 ∷ 555 ∷ 726 ∷ 847 ∷ 875 ∷ 1078 ∷ 1085 ∷ 1309 ∷ 1295 ∷ 1540 ∷ 1661 ∷ 1615 ∷ 1892 ∷ 1825 ∷ 2123 ∷ 2244 ∷ 2145 ∷ 2475 ∷ 2355 ∷ 2706 ∷ 1275 ∷ []))
-    ((769 ∷ 1 ∷ 1 ∷ none ∷ 1 ∷ 0 ∷ 0 ∷ 0 ∷ 0 ∷ 257 ∷ []) ++ dequesIn 257 (0 ∷ []) [] ++ recordsOf (framesIn 257 (live none 0 0 0 0 ∷ [])) ++ heldBy 1 ++ replicate 45 0)
+    ((1285 ∷ replicate 15 0) ++ (26 ∷ 143 ∷ 264 ∷ 345 ∷ 495 ∷ 555 ∷ 726 ∷ 847 ∷ 875 ∷ 1078 ∷ 1085 ∷ 1309 ∷ 1295 ∷ 1540 ∷ 1661 ∷ 1615 ∷ 1892 ∷ 1825 ∷ 2123 ∷ 2244 ∷ 2145 ∷ 2475 ∷ 2355 ∷ 2706 ∷ 1277 ∷ []))
+    ((1025 ∷ 1 ∷ 1 ∷ none ∷ 1 ∷ 0 ∷ 0 ∷ 0 ∷ 0 ∷ 257 ∷ []) ++ dequesIn 257 (0 ∷ []) [] ++ recordsOf (framesIn 257 (live none 0 0 0 0 ∷ [])) ++ heldBy 1 ++ replicate 47 0)
 
--- the first of them as R-5 wrote it: 512 added, no length, 64 places, 96 words of rest
-pub earlier : List ℕ
-earlier =
+-- the first of them as R-6 wrote it: 768 added, the node of four words, 72 words of rest
+pub imageOfR6 : List ℕ
+imageOfR6 = blocksWith (788 ∷ 23 ∷ []) ((769 ∷ 1 ∷ 1 ∷ none ∷ 1 ∷ 0 ∷ 0 ∷ 0 ∷ 0 ∷ 8 ∷ []) ++ dequesIn 8 (0 ∷ []) [] ++ recordsOf mainFrames ++ (1 ∷ none ∷ none ∷ 7 ∷ []) ++ replicate 72 0)
+
+-- as R-5 wrote it: 512 added, no length, 64 places, 96 words of rest
+pub imageOfR5 : List ℕ
+imageOfR5 =
     blocksWith (516 ∷ 0 ∷ 0 ∷ 0 ∷ 43 ∷ 165 ∷ 255 ∷ 396 ∷ 517 ∷ 575 ∷ 68 ∷ [])
-    ((513 ∷ 1 ∷ 1 ∷ none ∷ 1 ∷ 0 ∷ 0 ∷ 0 ∷ 0 ∷ []) ++ dequesIn 64 (0 ∷ []) [] ++ recordsOf (framesIn 64 (live none 0 0 0 0 ∷ [])) ++ heldBy 1 ++ replicate 96 0)
+    ((513 ∷ 1 ∷ 1 ∷ none ∷ 1 ∷ 0 ∷ 0 ∷ 0 ∷ 0 ∷ []) ++ dequesIn 64 (0 ∷ []) [] ++ recordsOf (framesIn 64 (live none 0 0 0 0 ∷ [])) ++ (1 ∷ none ∷ none ∷ 7 ∷ []) ++ replicate 96 0)
 
 -- the words of n blocks
 abbrev ofBlocks : ℕ → List ℕ → List ℕ
 ofBlocks n words = bytesOf (filled n words)
 
 abbrev savedWords : State → List ℕ → List ℕ
-savedWords s ws = imageWords (s .numbers) (s .deques) (s .frames) ws
+savedWords s ws = imageWords twoWords (s .numbers) (s .deques) (s .frames) ws
 
 -- the blocks and the words of each
 abbrev saved : List (ℕ × List ℕ)
@@ -191,22 +207,25 @@ saved =
     ∷ (2, savedWords ended freeLeaf)
     ∷ (1, savedWords full (heldBy 2))
     ∷ (1, savedWords lone (heldBy 1))
+    ∷ (2, savedWords grown fiveNodes)
     ∷ []
 
 pub allImages : List (List ℕ)
-allImages = image ∷ waitingImage ∷ siblingsImage ∷ endedImage ∷ fullImage ∷ loneImage ∷ []
+allImages = image ∷ waitingImage ∷ siblingsImage ∷ endedImage ∷ fullImage ∷ loneImage ∷ grownImage ∷ []
 
 images-quickly : map (λ (row : ℕ × List ℕ). blocksQuick (row .0) (ofBlocks (row .0) (row .1))) saved ≡ allImages
-unfolding allImages image waitingImage siblingsImage endedImage fullImage loneImage bytesOf tableWords dequesOf
+unfolding allImages image waitingImage siblingsImage endedImage fullImage loneImage grownImage bytesOf tableWords dequesOf
 images-quickly = refl
 
-pub images : savedImage state (heldBy 1) ∷ savedImage waits (heldBy 2) ∷ savedImage siblings (heldBy 3) ∷ savedImage ended freeLeaf ∷ savedImage full (heldBy 2) ∷ savedImage lone (heldBy 1) ∷ [] ≡ allImages
+pub images :
+    savedImage twoWords state (heldBy 1) ∷ savedImage twoWords waits (heldBy 2) ∷ savedImage twoWords siblings (heldBy 3) ∷ savedImage twoWords ended freeLeaf ∷ savedImage twoWords full (heldBy 2) ∷ savedImage twoWords lone (heldBy 1)
+    ∷ savedImage twoWords grown fiveNodes ∷ [] ≡ allImages
 unfolding asBlocks dequesOf tableWords
 images = (λ i. map (λ (row : ℕ × List ℕ). blocks-quick (row .0) (ofBlocks (row .0) (row .1)) i) saved) ∙ images-quickly
 
 -- what they say
-pub read-as : map stateIn allImages ≡ state ∷ waits ∷ siblings ∷ ended ∷ full ∷ lone ∷ []
-unfolding allImages image waitingImage siblingsImage endedImage fullImage loneImage dataOf wordsOf bytesOf lentDeques recordsIn
+pub read-as : map (stateIn twoWords) allImages ≡ state ∷ waits ∷ siblings ∷ ended ∷ full ∷ lone ∷ grown ∷ []
+unfolding allImages image waitingImage siblingsImage endedImage fullImage loneImage grownImage dataOf wordsOf bytesOf lentDeques recordsIn
 read-as = refl
 
 -- ---- saves
@@ -262,31 +281,31 @@ savedBy r o = (o .result, eqb (o .result) 0 || same (o .target) (r .target))
 
 abbrev saveQuick : Saving → SaveResult
 saveQuick r =
-    cond (fits (r .state)) (saveChecked (checkedBy (soundQuick (r .state) (r .pool)) (record { state = r .state; pool = r .pool }) (r .work)) (r .state) (r .pool) (r .work) (r .target))
+    cond (fits (r .state)) (saveChecked twoWords (checkedBy (soundQuick (r .state) (r .pool)) (record { state = r .state; pool = r .pool }) (r .work)) (r .state) (r .pool) (r .work) (r .target))
     (saveRefused (r .work) (r .target) Lengths)
 
-save-quick : (r : Saving) → saveOn (r .state) (r .pool) (r .work) (r .target) ≡ saveQuick r
+save-quick : (r : Saving) → saveOn twoWords (r .state) (r .pool) (r .work) (r .target) ≡ saveQuick r
 unfolding saveOn saveWith checked
 save-quick r i =
-    cond (fits (r .state)) (saveChecked (checkedBy (sound-quick (r .state) (r .pool) i) (record { state = r .state; pool = r .pool }) (r .work)) (r .state) (r .pool) (r .work) (r .target))
+    cond (fits (r .state)) (saveChecked twoWords (checkedBy (sound-quick (r .state) (r .pool) i) (record { state = r .state; pool = r .pool }) (r .work)) (r .state) (r .pool) (r .work) (r .target))
     (saveRefused (r .work) (r .target) Lengths)
 
 savings-quickly : map (λ (r : Saving). savedBy r (saveQuick r)) savings ≡ map (λ (r : Saving). (r .result, true)) savings
-unfolding savings cleared oneMain parentsLive countsRight placedOnce returningRight linksRight totalsRight chained holdLive absentEmpty linked onlyBelow treeAt nodesAt rootsBelow refcount left right value frameAt size place height width treeNodes δ count
+unfolding savings cleared oneMain parentsLive countsRight placedOnce returningRight linksRight totalsRight chained holdLive absentEmpty linked onlyBelow treeAt nodesOn isOn rootsBelow refcount left right frameAt size place height width treeNodes δ count content links
 savings-quickly = refl
 
-pub save-refusals : map (λ (r : Saving). savedBy r (saveOn (r .state) (r .pool) (r .work) (r .target))) savings ≡ map (λ (r : Saving). (r .result, true)) savings
+pub save-refusals : map (λ (r : Saving). savedBy r (saveOn twoWords (r .state) (r .pool) (r .work) (r .target))) savings ≡ map (λ (r : Saving). (r .result, true)) savings
 save-refusals = (λ i. map (λ (r : Saving). savedBy r (save-quick r i)) savings) ∙ savings-quickly
 
 -- ---- readings
 
 -- with the checks in one pass
 abbrev imageQuick : List ℕ → ImageCheck
-imageQuick i = cond (wrongLength i) WrongLength (cond (not (checksQuick (blocksCalled i) i) || not (allZero (restOf i))) WrongCheck Good)
+imageQuick i = cond (wrongLength twoWords i) WrongLength (cond (not (checksQuick (blocksCalled twoWords i) i) || not (allZero (restOf twoWords i))) WrongCheck Good)
 
-image-quick : (i : List ℕ) → imageCheck i ≡ imageQuick i
+image-quick : (i : List ℕ) → imageCheck twoWords i ≡ imageQuick i
 unfolding imageCheck wrongCheck
-image-quick i = ap (λ b. cond (wrongLength i) WrongLength (cond (not b || not (allZero (restOf i))) WrongCheck Good)) (checks-quick (blocksCalled i) i)
+image-quick i = ap (λ b. cond (wrongLength twoWords i) WrongLength (cond (not b || not (allZero (restOf twoWords i))) WrongCheck Good)) (checks-quick (blocksCalled twoWords i) i)
 
 -- given whether what is read is sound
 abbrev loadBy : Bool → ImageCheck → List Frame → List ℕ → List ℕ → List ℕ → LoadResult
@@ -294,10 +313,10 @@ loadBy b WrongLength fs ws work i = loadRefused fs ws work Blocks
 loadBy b WrongCheck fs ws work i = loadRefused fs ws work BlockCheck
 loadBy b Good fs ws work i =
     cond (ltb (length work) (nodesIn i)) (loadRefused fs ws work Work)
-    (cond (eqb (length fs) (placesIn i) && b) (record { state = stateIn i; pool = poolWith ws i; work = cleared (nodesIn i) work; result = 0 })
-    (loadRefused (recordsZero fs) (nodesZero ws) (cleared (nodesIn i) work) Refusal.Unsound))
+    (cond (eqb (length fs) (placesIn i) && b) (record { state = stateIn twoWords i; pool = poolWith twoWords ws i; work = cleared (nodesIn i) work; result = 0 })
+    (loadRefused (recordsZero fs) (nodesZero twoWords ws) (cleared (nodesIn i) work) Refusal.Unsound))
 
-load-by : (k : ImageCheck) (fs : List Frame) (ws work i : List ℕ) → loadChecked k fs ws work i ≡ loadBy (isSound (stateIn i) (poolWith ws i)) k fs ws work i
+load-by : (k : ImageCheck) (fs : List Frame) (ws work i : List ℕ) → loadChecked twoWords k fs ws work i ≡ loadBy (isSound twoWords (stateIn twoWords i) (poolWith twoWords ws i)) k fs ws work i
 load-by WrongLength fs ws work i = refl
 load-by WrongCheck fs ws work i = refl
 load-by Good fs ws work i = refl
@@ -306,13 +325,13 @@ abbrev orLengths : State → List ℕ → List ℕ → LoadResult → LoadResult
 orLengths s ws work o = cond (fits s) o (record { state = s; pool = ws; work = work; result = 99 })
 
 abbrev loadQuick : State → List ℕ → List ℕ → List ℕ → LoadResult
-loadQuick s ws work i = orLengths s ws work (loadBy (soundQuick (stateIn i) (poolWith ws i)) (imageQuick i) (s .frames) ws work i)
+loadQuick s ws work i = orLengths s ws work (loadBy (soundQuick (stateIn twoWords i) (poolWith twoWords ws i)) (imageQuick i) (s .frames) ws work i)
 
-load-quick : (s : State) (ws work i : List ℕ) → loadOn s ws work i ≡ loadQuick s ws work i
+load-quick : (s : State) (ws work i : List ℕ) → loadOn twoWords s ws work i ≡ loadQuick s ws work i
 unfolding loadOn loadWith
 load-quick s ws work i =
     ap (orLengths s ws work)
-    (load-by (imageCheck i) (s .frames) ws work i ∙ (λ j. loadBy (sound-quick (stateIn i) (poolWith ws i) j) (image-quick i j) (s .frames) ws work i))
+    (load-by (imageCheck twoWords i) (s .frames) ws work i ∙ (λ j. loadBy (sound-quick (stateIn twoWords i) (poolWith twoWords ws i) j) (image-quick i j) (s .frames) ws work i))
 
 -- an image read into these parts with this work slice, and the result
 pub record Reading : Type 0 where
@@ -338,7 +357,7 @@ lacks i k = lacksIn 8 i k
 
 -- the pool that is lent: two nodes, and a word
 abbrev lentPool : List ℕ
-lentPool = replicate 9 7
+lentPool = replicate 5 7
 
 -- what a refused reading leaves. 17, 18 and 5: the table, the pool and the work as they were. "6 when reading leaves every whole node of the pool zero",
 -- R-6: "every record of the table zero too", and the work slice as the check does. "A refused reading hands out a state of zeros." 99 leaves the parts
@@ -347,12 +366,12 @@ leftBy r o =
     same (o .state .numbers) (cond (eqb (o .result) 99) (r .parts .numbers) (replicate 10 0))
     && same (o .state .deques) (cond (eqb (o .result) 99) (r .parts .deques) (replicate 2056 0))
     && same (recordsOf (o .state .frames)) (cond (eqb (o .result) 6) (replicate (12 * length (r .parts .frames)) 0) (recordsOf (r .parts .frames)))
-    && same (o .pool) (cond (eqb (o .result) 6) (0 ∷ 0 ∷ 0 ∷ 0 ∷ 0 ∷ 0 ∷ 0 ∷ 0 ∷ 7 ∷ []) lentPool)
+    && same (o .pool) (cond (eqb (o .result) 6) (0 ∷ 0 ∷ 0 ∷ 0 ∷ 7 ∷ []) lentPool)
     && same (o .work) (cond (eqb (o .result) 6) (0 ∷ []) (r .work))
 
 -- an accepted one: what the image says (read-as) in a table of as many places, and the words past its node as they were
 abbrev keptBy : Reading → LoadResult → Bool
-keptBy r o = eqb (length (o .state .frames)) (length (r .parts .frames)) && same (drop 4 (o .pool)) (7 ∷ 7 ∷ 7 ∷ 7 ∷ 7 ∷ []) && same (o .work) (0 ∷ [])
+keptBy r o = eqb (length (o .state .frames)) (length (r .parts .frames)) && same (drop 2 (o .pool)) (7 ∷ 7 ∷ 7 ∷ []) && same (o .work) (0 ∷ [])
 
 abbrev readBy : Reading → LoadResult → ℕ × Bool
 readBy r o = (o .result, cond (eqb (o .result) 0) (keptBy r o) (leftBy r o))
@@ -397,24 +416,26 @@ readings =
     ∷ gives (take 1023 image) 17
     ∷ gives (take 511 image) 17
     ∷ gives [] 17
-    -- 2 blocks hold 19 nodes
-    ∷ gives (set image 8 19) 18
-    ∷ gives (set image 8 20) 17
+    -- 2 blocks hold 38 nodes
+    ∷ gives (set image 8 38) 18
+    ∷ gives (set image 8 39) 17
     -- R-6: or, with one node, 6 to 11 places; 16,777,216 more
     ∷ gives (set image 36 5) 17
     ∷ gives (set image 36 6) 18
     ∷ gives (set image 36 11) 18
     ∷ gives (set image 36 12) 17
     ∷ gives (set image 39 1) 17
-    -- R-3: "Each later change of the image adds 256 again and reads only its own form. A first word of no readable form gives 17.": the form of R-5, and its
-    -- first word, R-3's, R-1's, and a later one's in these blocks, each with its check; 767, 0, 65,536 more and 16,777,216 more
-    ∷ gives earlier 17
+    -- R-3: "Each later change of the image adds 256 again and reads only its own form. A first word of no readable form gives 17.": the forms of R-6 and R-5, and their
+    -- first words, R-3's, R-1's, and a later one's in these blocks, each with its check; 1,023, 0, 65,536 more and 16,777,216 more
+    ∷ gives imageOfR6 17
+    ∷ gives imageOfR5 17
+    ∷ gives (begins 1 3 20 3 image) 17
     ∷ gives (begins 1 2 20 2 image) 17
     ∷ gives (begins 1 1 20 1 image) 17
     ∷ gives (begins 1 0 20 0 image) 17
-    ∷ gives (begins 0 4 19 4 image) 17
-    ∷ gives (begins 1 4 20 4 image) 17
-    ∷ gives (begins 255 2 18 3 image) 17
+    ∷ gives (begins 0 5 19 5 image) 17
+    ∷ gives (begins 1 5 20 5 image) 17
+    ∷ gives (begins 255 3 18 4 image) 17
     ∷ gives (begins 0 0 19 0 image) 17
     ∷ gives (set image 2 1) 17
     ∷ gives (set image 3 1) 17
@@ -425,16 +446,16 @@ readings =
     ∷ gives endedImage 0
     ∷ givesIn 2 fullImage 0
     ∷ givesIn 1 loneImage 0
-    -- 1,023 and 768 have this form: the check is wrong then, and where it is put right there are not 1 to 8 workers
+    -- 1,279 and 1,024 have this form: the check is wrong then, and where it is put right there are not 1 to 8 workers
     ∷ gives (set image 0 255) 18
     ∷ gives (set image 0 0) 18
-    ∷ gives (begins 255 3 18 4 image) 6
-    ∷ gives (begins 0 3 19 3 image) 6
+    ∷ gives (begins 255 4 18 5 image) 6
+    ∷ gives (begins 0 4 19 4 image) 6
     -- "18, a check is wrong or the rest of the last block is not zero": a byte changed, a check changed, the first byte of the rest and the check
     -- with it
     ∷ gives (set image 20 2) 18
     ∷ gives (set image 511 1) 18
-    ∷ gives (lastBlock 220 1 24 image) 18
+    ∷ gives (lastBlock 212 1 26 image) 18
     -- R-5: the totals are "zero while Main lives"; the links, "Main's being none"
     ∷ gives (otherSum image) 6
     ∷ gives (otherAddend image) 6
@@ -458,7 +479,7 @@ readings =
     ∷ givesIn 7 (otherLength 7 image) 18
     -- 17 before 18, 18 before 5, 5 before 6
     ∷ gives (take 512 (set image 20 2)) 17
-    ∷ gives (set (set image 1 4) 20 2) 17
+    ∷ gives (set (set image 1 5) 20 2) 17
     ∷ lacks (set image 20 2) 18
     ∷ lacks (otherPlace image) 5
     ∷ gives (otherPlace image) 6
@@ -472,8 +493,8 @@ readings =
     ∷ []
 
 readings-quickly : map (λ (r : Reading). readBy r (loadQuick (r .parts) lentPool (r .work) (r .image))) readings ≡ map (λ (r : Reading). (r .result, true)) readings
-unfolding readings image waitingImage siblingsImage endedImage fullImage loneImage emptyImage manyImage earlier wrongLength allZero dataOf wordAt wordsOf bytesOf lentDeques recordsIn cleared oneMain parentsLive countsRight placedOnce returningRight linksRight totalsRight chained holdLive absentEmpty linked onlyBelow treeAt nodesAt rootsBelow refcount left right value frameAt size place height width treeNodes δ count
+unfolding readings image waitingImage siblingsImage endedImage fullImage loneImage emptyImage manyImage imageOfR6 imageOfR5 wrongLength allZero dataOf wordAt wordsOf bytesOf lentDeques recordsIn cleared oneMain parentsLive countsRight placedOnce returningRight linksRight totalsRight chained holdLive absentEmpty linked onlyBelow treeAt nodesOn isOn rootsBelow refcount left right frameAt size place height width treeNodes δ count content links
 readings-quickly = refl
 
-pub load-refusals : map (λ (r : Reading). readBy r (loadOn (r .parts) lentPool (r .work) (r .image))) readings ≡ map (λ (r : Reading). (r .result, true)) readings
+pub load-refusals : map (λ (r : Reading). readBy r (loadOn twoWords (r .parts) lentPool (r .work) (r .image))) readings ≡ map (λ (r : Reading). (r .result, true)) readings
 load-refusals = (λ i. map (λ (r : Reading). readBy r (load-quick (r .parts) lentPool (r .work) (r .image) i)) readings) ∙ readings-quickly

@@ -7,7 +7,8 @@ use lib.ListN.{length, replicate}
 use lib.Dec.{eqb}
 use Rattle.words.specs.Basics.{joined}
 use Rattle.sizes.specs.Sizes.{height, width, treeNodes, bit}
-use Rattle.pool.specs.Pool.{refcount, left, right, value, setNode, setRefcount, side, child, sibling, leafOf, readAt, retain, release, pathNode, copyPath, setValue, setLink, renew, firstShared, rest, writeFrom, write, initLevel, initInner, initLeaves, initFree, initPool}
+use Rattle.pool.specs.Pool.{side}
+use Rattle.packed.specs.Pool.{refcount, links, content, left, right, setNode, setRefcount, child, sibling, leafOf, readAt, retain, release, pathNode, copyPath, setValue, setLink, renew, firstShared, rest, writeFrom, write, initLevel, initInner, initLeaves, initFree, initPool, setContent}
 use Rattle.reducers.specs.Reducers.{foldView}
 use Rattle.frames.specs.Frames.{frameAt, setFrame, initPlaces, initFrames}
 use Rattle.frames.specs.Deques.{size, setSize, place, setPlace, bottom, top, push, pop, shiftUp, dropTop, initDeques}
@@ -20,6 +21,7 @@ use Rattle.semantics.specs.Entries.{totalsOf, startOn, startWith, runOn, TapeRe
 use Rattle.semantics.specs.Calls.{Start, startResult, afterStart, tapeResult}
 use Rattle.starred.specs.Tapes.{bytes, spawns, returns, steals, syncs, reads, writes, folds, foldsMap, foldsLargest, partsWith, anyPool, five, identities}
 use Rattle.starred.specs.Quick.{quickTape, tape-quick}
+use Rattle.soundness.specs.Layout.{twoWords}
 
 -- a start, with a frame table of so many places, then a tape
 pub record Case : Type 0 where
@@ -54,11 +56,11 @@ replies k = replicate (2 * length (k .records) + 2) 9
 
 -- a start that is refused ends it
 abbrev told : Case → TapeResult → Outcome
-told k t = let o : Outcome = outcomeOf t in cond (eqb (startResult (startOf k) .result) 0) o (refusedBy (startResult (startOf k) .result))
+told k t = let o : Outcome = outcomeOf t in cond (eqb (startResult twoWords (startOf k) .result) 0) o (refusedBy (startResult twoWords (startOf k) .result))
 
 -- the tape is lent two answer words more than it needs, and one work word more
 abbrev pub outcome : Case → Outcome
-outcome k = told k (tapeResult (afterStart (startOf k)) (joined (k .records)) (works k) (replies k))
+outcome k = told k (tapeResult twoWords (afterStart twoWords (startOf k)) (joined (k .records)) (works k) (replies k))
 
 -- ---- the table
 
@@ -230,7 +232,7 @@ table =
 
 -- without the check
 quickly : map (λ (row : Case × Outcome). told (row .0) (quickTape (startOf (row .0)) (joined (row .0 .records)) (works (row .0)) (replies (row .0)))) table ≡ map (λ (row : Case × Outcome). row .1) table
-unfolding table startOn startWith runOn recordOf decodeAt spawnOn endAt upward endBottom returnOn stealOn syncOn readOn writeOn foldOn stepOn addChild spawn removeFrame endFrame goOn wentOn steal sync synced fold relinkFrom eldestTo firstFrom nextAfter foldView shiftUp dropTop pop top bottom side child sibling bit leafOf readAt retain release setRefcount pathNode copyPath setValue setLink renew firstShared rest writeFrom write initPool initFree initLeaves initInner initLevel setNode height width treeNodes initDeques initFrames initPlaces push setSize setPlace size place setFrame frameAt cleared refcount left right value
+unfolding table startOn startWith runOn recordOf decodeAt spawnOn endAt upward endBottom returnOn stealOn syncOn readOn writeOn foldOn stepOn addChild spawn removeFrame endFrame goOn wentOn steal sync synced fold relinkFrom eldestTo firstFrom nextAfter foldView shiftUp dropTop pop top bottom side child sibling bit leafOf readAt retain release setRefcount pathNode copyPath setValue setLink renew firstShared rest writeFrom write initPool initFree initLeaves initInner initLevel setNode height width treeNodes initDeques initFrames initPlaces push setSize setPlace size place setFrame frameAt cleared refcount left right content links setContent
 quickly = refl
 
 pub starred : map (λ (row : Case × Outcome). outcome (row .0)) table ≡ map (λ (row : Case × Outcome). row .1) table

@@ -61,9 +61,9 @@ partsWith places = record { numbers = replicate numberCount 3; deques = replicat
 abbrev pub anyParts : State
 anyParts = partsWith 64
 
--- a pool of so many nodes, which holds anything before a start
+-- a pool of so many nodes, R-8's of two words, which holds anything before a start
 abbrev pub anyPool : ℕ → List ℕ
-anyPool nodes = replicate (4 * nodes) 7
+anyPool nodes = replicate (2 * nodes) 7
 
 -- the words of a frame table, and of a state, one after another
 abbrev pub recordsOf : List Frame → List ℕ
