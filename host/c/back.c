@@ -5,7 +5,7 @@
 
 #include "splitter.h"
 
-enum { NODES = 40, PLACES = 64, WORKERS = 2, SPLITTERS = 5, LEFT = 1, VALUE = 3 };
+enum { NODES = 40, PLACES = 64, WORKERS = 2, SPLITTERS = 5 };
 
 static struct splitter_state state, kept_state;
 static struct splitter_frame table[PLACES], kept_table[PLACES];
@@ -46,7 +46,7 @@ static void go_back(void) {
 static uint32_t *leaf(void) {
     uint32_t node = table[0].root;
     for (unsigned level = 3; level > 0; level--) {
-        node = pool[node * SPLITTER_NODE_WORDS + LEFT];
+        node = pool[node * SPLITTER_NODE_WORDS + 1] % 65536u;
     }
     return pool + node * SPLITTER_NODE_WORDS;
 }
@@ -61,7 +61,7 @@ int main(void) {
     answers("copy of a damaged run", keep_copy(), SPLITTER_UNSOUND, 0);
     go_back();
     answers("read", splitter_read(&lent, 0, 0), SPLITTER_VALUE, 11);
-    leaf()[VALUE] ^= 4;
+    leaf()[1] ^= 4; /* its value */
     answers("a changed value", splitter_read(&lent, 0, 0), SPLITTER_VALUE, 11 ^ 4);
     printf("back: a damaged run is refused by 6, its copy goes on; a changed leaf value is read\n");
     return 0;

@@ -1,5 +1,5 @@
-/* The form of an image (document 02, R-6): a save adds 768 to the first word, and a reading takes no other form. Images from before, of
- * versions 0 to 2, are refused by 17, and so is each first word that is not 768 to 1,023. An image of each table length is read back into
+/* The form of an image (document 02, R-8): a save adds 1,024 to the first word, and a reading takes no other form. Images from before, of
+ * versions 0 to 3, are refused by 17, and so is each first word that is not 1,024 to 1,279. An image of each table length is read back into
  * a table of that length and refused by 6 in any other. */
 #include <stdio.h>
 #include <string.h>
@@ -126,16 +126,16 @@ static void first_word(size_t len, uint32_t word, uint32_t wanted) {
     put_word(image, old);
 }
 
-/* 768 to 1,023 have a form; the workers in it must be 1 to 8. All but worker 0 are idle, so that any such number is sound. */
+/* 1,024 to 1,279 have a form; the workers in it must be 1 to 8. All but worker 0 are idle, so that any such number is sound. */
 static void first_words(void) {
     begin(OLDER_PLACES, 20);
     same("save", splitter_lent_save(&run.lent, image, sizeof image), SPLITTER_OK);
-    for (uint32_t word = 0; word < 1400; word++) {
+    for (uint32_t word = 0; word < 1700; word++) {
         uint32_t workers = word % 256;
         int form = word / 256 * 256 == SPLITTER_IMAGE_VERSION, sound = workers >= 1 && workers <= SPLITTER_MAX_WORKERS;
         first_word(SPLITTER_IMAGE_BYTES(OLDER_PLACES, 20), word, !form ? SPLITTER_BAD_BLOCKS : sound ? SPLITTER_OK : SPLITTER_UNSOUND);
     }
-    static const uint32_t others[] = {1282, 65536 + 770, 1u << 24, 0x80000302u, 0xffffffffu};
+    static const uint32_t others[] = {1794, 65536 + 1026, 1u << 24, 0x80000402u, 0xffffffffu};
     for (size_t i = 0; i < sizeof others / sizeof others[0]; i++) {
         first_word(SPLITTER_IMAGE_BYTES(OLDER_PLACES, 20), others[i], SPLITTER_BAD_BLOCKS);
     }
@@ -153,6 +153,6 @@ int main(void) {
     }
     first_words();
     printf("forms: images with 15 to %d nodes and 2 to %d places are read back, in another table refused by 6, those from before by 17; "
-           "first words 768 to 1023 have a form\n", MOST, PLACES);
+           "first words 1024 to 1279 have a form\n", MOST, PLACES);
     return 0;
 }

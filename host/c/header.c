@@ -107,12 +107,12 @@ static void sizes(void) {
     EXPECT(splitter_tree_nodes(256), 511);
     EXPECT(splitter_tree_nodes(UINT32_MAX), UINT64_C(8589934590));
     EXPECT(splitter_image_bytes(0, 0), 512);
-    EXPECT(splitter_image_bytes(1, 22), 512);  /* 18 + 20 + 88 words, of 127 */
-    EXPECT(splitter_image_bytes(1, 23), 1024);
-    EXPECT(splitter_image_bytes(64, 24), 5632); /* 18 + 1,280 + 96 words, of 1,397 */
-    EXPECT(splitter_image_bytes(64, 25), 6144);
-    EXPECT(splitter_image_bytes(256, SPLITTER_MAX_NODES), 285184);
-    EXPECT(splitter_image_bytes(UINT32_MAX, UINT32_MAX), 512 * ((18 + 24 * UINT64_C(4294967295) + 126) / 127));
+    EXPECT(splitter_image_bytes(1, 44), 512);  /* 18 + 20 + 88 words, of 127 */
+    EXPECT(splitter_image_bytes(1, 45), 1024);
+    EXPECT(splitter_image_bytes(64, 49), 5632); /* 18 + 1,280 + 98 words, of 1,397 */
+    EXPECT(splitter_image_bytes(64, 50), 6144);
+    EXPECT(splitter_image_bytes(256, SPLITTER_MAX_NODES), 153088);
+    EXPECT(splitter_image_bytes(UINT32_MAX, UINT32_MAX), 512 * ((18 + 22 * UINT64_C(4294967295) + 126) / 127));
     for (uint32_t nodes = 0; nodes <= SPLITTER_MAX_NODES; nodes++) {
         uint32_t places = nodes % (SPLITTER_MAX_PLACES + 1);
         EXPECT(splitter_image_bytes(places, nodes), SPLITTER_IMAGE_BYTES(places, nodes));

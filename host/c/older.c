@@ -32,6 +32,57 @@ static void put_words(struct blocks *blocks, const uint32_t *words, size_t len) 
     }
 }
 
+enum { FREE = 255 };
+static uint8_t levels[SPLITTER_MAX_NODES]; /* of the nodes in use */
+
+/* "Levels tell which is meant": from a node of this level down. */
+static void find_levels(const uint32_t *pool, uint32_t node, uint8_t level) {
+    uint32_t links = pool[node * SPLITTER_NODE_WORDS + 1];
+    if (levels[node] != FREE) {
+        return;
+    }
+    levels[node] = level;
+    for (unsigned side = 0; level > 0 && side < 2; side++) {
+        uint32_t link = side == 0 ? links % 65536u : links / 65536u;
+        if (link != SPLITTER_NO_LINK) {
+            find_levels(pool, link, (uint8_t)(level - 1));
+        }
+    }
+}
+
+static uint32_t unpacked(uint32_t link) {
+    return link == SPLITTER_NO_LINK ? SPLITTER_NONE : link;
+}
+
+/* A node's four words. */
+static void put_node(struct blocks *blocks, const uint32_t *node, uint8_t level) {
+    uint32_t words[OLDER_NODE_WORDS] = {node[0], node[1], 0, 0};
+    if (level == 0) {
+        words[1] = words[2] = SPLITTER_NONE;
+        words[3] = node[1];
+    } else if (level != FREE) {
+        words[1] = unpacked(node[1] % 65536u);
+        words[2] = unpacked(node[1] / 65536u);
+    }
+    put_words(blocks, words, OLDER_NODE_WORDS);
+}
+
+static void put_nodes(struct blocks *blocks, const struct splitter_state *state, const struct splitter_frame *table, const uint32_t *pool) {
+    uint8_t height = 0;
+    while (1u << height < state->numbers[SPLITTER_NUMBER_SPLITTERS]) {
+        height++;
+    }
+    memset(levels, FREE, sizeof levels);
+    for (unsigned place = 0; place < OLDER_PLACES; place++) {
+        if (table[place].live != 0) {
+            find_levels(pool, table[place].root, height);
+        }
+    }
+    for (uint32_t node = 0; node < state->numbers[SPLITTER_NUMBER_NODES]; node++) {
+        put_node(blocks, pool + node * SPLITTER_NODE_WORDS, levels[node]);
+    }
+}
+
 size_t older_image(const struct splitter_state *state, const struct splitter_frame *table, const uint32_t *pool, unsigned version,
                    uint8_t *target) {
     struct blocks blocks = {target, 0, 0};
@@ -45,7 +96,7 @@ size_t older_image(const struct splitter_state *state, const struct splitter_fra
         memcpy(words, &table[place], sizeof words);
         put_words(&blocks, words, OLDER_FRAME_RECORD_WORDS(version));
     }
-    put_words(&blocks, pool, SPLITTER_NODE_WORDS * (size_t)state->numbers[SPLITTER_NUMBER_NODES]);
+    put_nodes(&blocks, state, table, pool);
     while (blocks.words > 0) {
         put_word(&blocks, 0);
     }

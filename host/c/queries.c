@@ -167,7 +167,7 @@ static void random_pool(void) {
     for (unsigned i = 0; i < sizeof nodes / sizeof nodes[0]; i++) {
         nodes[i] = any(3) == 0 ? any_word() : any(17);
     }
-    if (splitter_free_nodes(numbers, SPLITTER_NUMBERS_WORDS, nodes, any(65)) > 17) {
+    if (splitter_free_nodes(numbers, SPLITTER_NUMBERS_WORDS, nodes, any(33)) > 17) {
         surprise("free nodes of random words");
     }
 }

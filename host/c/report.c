@@ -361,7 +361,7 @@ static uint32_t spoilt_call(unsigned wrong) {
     return splitter_report(memory.state.numbers, SPLITTER_NUMBERS_WORDS - has(wrong, NUMBERS),
                            memory.state.deques, SPLITTER_DEQUES_WORDS - has(wrong, DEQUES), memory.table, places,
                            has(wrong, NO_WORKERS) ? any(2) * 9 : WORKERS, values, has(wrong, VALUES) ? 0 : SPLITTERS,
-                           memory.pool, nodes * SPLITTER_NODE_WORDS + any(GUARD), memory.work, nodes - has(wrong, WORK),
+                           memory.pool, nodes * SPLITTER_NODE_WORDS + any(SPLITTER_NODE_WORDS), memory.work, nodes - has(wrong, WORK),
                            tape, (splitter_len)(end - tape) - ragged, memory.answers, 2 * records() - short_answers,
                            memory.clocks, has(wrong, CLOCKS) ? off_by_one(clocks) : clocks,
                            memory.report, has(wrong, REPORT) ? off_by_one(SPLITTER_REPORT_WORDS) : SPLITTER_REPORT_WORDS);

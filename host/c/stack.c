@@ -20,7 +20,7 @@ static uint8_t image[SPLITTER_IMAGE_BYTES(FRAMES, NODES)];
 static uint64_t clocks[SPLITTER_CLOCKS_WORDS(FRAMES)];
 static uint32_t saved, loaded, reported; /* what the calls answered */
 static uint32_t workers = 2;             /* of the next start or report */
-static _Alignas(16) unsigned char stack[1 << 17];
+static unsigned char stack[1 << 17] __attribute__((aligned(16)));
 
 static void start(void) {
     splitter_lent_start(&lent, workers, values, SPLITTER_MAX_SPLITTERS);

@@ -467,7 +467,7 @@ static void stress_run(void) {
     unsigned nodes = tree + any(any(2) == 0 ? 3 * tree : NODES - tree + 1);
     nodes = nodes < NODES ? nodes : NODES;
     unsigned places = 1 + any(any(2) == 0 ? 8 : PLACES);
-    struct splitter_lent lent = {state, table, places, pool, nodes * SPLITTER_NODE_WORDS + any(4), work, nodes};
+    struct splitter_lent lent = {state, table, places, pool, nodes * SPLITTER_NODE_WORDS + any(SPLITTER_NODE_WORDS), work, nodes};
     run.lent = lent;
     for (unsigned i = 0; i < n; i++) {
         values[i] = any(5);

@@ -37,7 +37,7 @@ static void fork_to(unsigned worker, unsigned thief) {
     same("steal", splitter_answer_kind(checked_steal(&run, thief, worker)), SPLITTER_STOLEN);
 }
 
-/* Every node lies once on the free chain, all but its link zero. */
+/* Every node lies once on the free chain, without holders. */
 static void check_free_nodes(void) {
     static uint8_t met[NODES];
     uint32_t node = state.numbers[SPLITTER_NUMBER_FREE_NODE];
@@ -47,7 +47,7 @@ static void check_free_nodes(void) {
             surprise("the free chain has not every node once");
         }
         const uint32_t *words = pool + node * SPLITTER_NODE_WORDS;
-        same("free node", words[0] | words[2] | words[3], 0);
+        same("free node", words[0], 0);
         node = words[1];
     }
     same("end of the free chain", node, UINT32_MAX);

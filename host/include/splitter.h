@@ -16,9 +16,11 @@
  *   table     an array of struct splitter_frame, 1 to SPLITTER_MAX_PLACES places: as many frames can live at a time. 48 bytes a place,
  *             3 KiB for 64, 12 KiB for 256. A call changes the records where they are and makes no copy of the table. A start takes it
  *             whatever it holds and records its length; every later call of the run gets the same table with the same length.
- *   pool      SPLITTER_NODE_WORDS words for each node, T(n) to SPLITTER_MAX_NODES nodes: splitter_tree_nodes(n) gives T(n). A frame's
- *             view is a tree of T(n) nodes, and frames share what neither has written since the spawn. A spawn takes no node. On the path
- *             to its splitter, a write alters in place the nodes that only its frame has; from the first shared one on, the rest is new.
+ *   pool      SPLITTER_NODE_WORDS words for each node, 8 bytes, T(n) to SPLITTER_MAX_NODES nodes: splitter_tree_nodes(n) gives T(n). A
+ *             frame's view is a tree of T(n) nodes, and frames share what neither has written since the spawn. A spawn takes no node. On
+ *             the path to its splitter, a write alters in place the nodes that only its frame has; from the first shared one on, the rest
+ *             is new. A node's first word is its holders, the links to it. Its level tells the second: an inner node's left link plus
+ *             65,536 times its right one, SPLITTER_NO_LINK for none; a leaf's value; a free node's next one, or SPLITTER_NONE.
  *   work      a word for each node of the pool, for the check of state, table and pool; the words are zero afterwards.
  *   answers   two words for each record of a tape.
  *   target    the bytes of an image, to save a run in: splitter_image_bytes(places, nodes), SPLITTER_IMAGE_BYTES(places, nodes) for an
@@ -52,8 +54,9 @@
  * The table's length is the image's word SPLITTER_NUMBER_PLACES, bytes 36 to 39, little-endian. The host's own part of the search is
  * not in it. Each block has a check, a sum: it finds a changed byte, but not blocks that changed places, nor words that did within a
  * block. Such an image is read if it is sound. A host that needs more keeps a sequence number and a CRC of its own around the image
- * (docs/INTEGRATION.md, host/c/kept.c). A save writes version 3: the workers plus 768 in the first word, and as many records and deque
- * places as the table has. A reading takes no other: images from before, of versions 0 to 2, are refused by SPLITTER_BAD_BLOCKS.
+ * (docs/INTEGRATION.md, host/c/kept.c). A save writes version 4: the workers plus 1,024 in the first word, as many records and deque
+ * places as the table has, and two words for each node. A reading takes no other: images from before, of versions 0 to 3, are refused by
+ * SPLITTER_BAD_BLOCKS.
  *
  * The nine functions are the library. Below them are inline helpers: the same calls over struct splitter_state and over struct
  * splitter_lent, a call for each kind of step, queries, records, texts. A host needs no others than those over struct splitter_lent.
@@ -73,7 +76,7 @@ extern "C" {
  * something is added; while the major number is 0, nothing is released and any of them may change anything. The archive has no number:
  * link the one that came with this header. The form of images is counted apart, by SPLITTER_IMAGE_VERSION. */
 #define SPLITTER_VERSION_MAJOR 0u
-#define SPLITTER_VERSION_MINOR 2u
+#define SPLITTER_VERSION_MINOR 3u
 #define SPLITTER_VERSION (SPLITTER_VERSION_MAJOR * 1000u + SPLITTER_VERSION_MINOR)
 
 /* The length of a slice: 64 bits on every machine, also where size_t has 32. */
@@ -93,7 +96,8 @@ typedef uint64_t splitter_len;
 #define SPLITTER_DEQUE_PLACES 256u      /* of each worker's deque, whatever the table's length */
 #define SPLITTER_DEQUES_WORDS 2056u     /* for each of 8 workers its deque's length, then SPLITTER_DEQUE_PLACES places from the top */
 #define SPLITTER_FRAME_RECORD_WORDS 12u /* of struct splitter_frame */
-#define SPLITTER_NODE_WORDS 4u
+#define SPLITTER_NODE_WORDS 2u          /* holders, then what the node's level tells */
+#define SPLITTER_NO_LINK 65535u         /* in the place of an inner node's left or right link */
 #define SPLITTER_MAX_NODES 16384u
 #define SPLITTER_MAX_SPLITTERS 256u
 #define SPLITTER_MAX_WORKERS 8u
@@ -102,7 +106,7 @@ typedef uint64_t splitter_len;
 #define SPLITTER_RECORD_BYTES 8u
 #define SPLITTER_BLOCK_BYTES 512u       /* of an image: data, then a check of 4 bytes */
 #define SPLITTER_BLOCK_WORDS 127u       /* of a block's data */
-#define SPLITTER_IMAGE_VERSION 768u     /* added to the workers in an image's first word */
+#define SPLITTER_IMAGE_VERSION 1024u    /* added to the workers in an image's first word */
 #define SPLITTER_REPORT_WORDS 4u        /* of 64 bits: struct splitter_parallelism */
 #define SPLITTER_STACK_BYTES 2048u      /* a call takes at most this much stack; measured (host/c/stack.c, make cross-test) */
 
@@ -234,7 +238,7 @@ enum {
     SPLITTER_POOL_FULL = 16,           /* a write, and fewer nodes are free than the shared rest of its path has */
     /* Of a reading, before 5 and 6, and of a save, after 6. */
     SPLITTER_BAD_BLOCKS = 17,          /* the image is not just as many whole blocks as its first block calls for, has no whole block, or
-                                        * its first word is not 768 to 1,023: a version that this library does not read */
+                                        * its first word is not 1,024 to 1,279: a version that this library does not read */
     SPLITTER_BAD_CHECK = 18,           /* a check is wrong or the rest of the last block is not zero */
     SPLITTER_SHORT_TARGET = 19,        /* the target is too short */
     /* Of a report, known when its tape has run: only the report is withheld. State, table, pool, work, answers and clocks are the run's. */
@@ -292,7 +296,7 @@ uint32_t splitter_report(uint32_t *SPLITTER_RESTRICT numbers, splitter_len numbe
                          uint64_t *SPLITTER_RESTRICT clocks, splitter_len clocks_len,
                          uint64_t *SPLITTER_RESTRICT report, splitter_len report_len);
 
-/* Saves the run: its image, of version 3, in the front of the target. State, table and pool are only read. SPLITTER_OK, or a refusal: 99,
+/* Saves the run: its image, of version 4, in the front of the target. State, table and pool are only read. SPLITTER_OK, or a refusal: 99,
  * 5, 6, 19; then nothing has changed but the work slice. Target bytes past the image never change. */
 uint32_t splitter_save(const uint32_t *SPLITTER_RESTRICT numbers, splitter_len numbers_len,
                        const uint32_t *SPLITTER_RESTRICT deques, splitter_len deques_len,
@@ -301,7 +305,7 @@ uint32_t splitter_save(const uint32_t *SPLITTER_RESTRICT numbers, splitter_len n
                        uint32_t *SPLITTER_RESTRICT work, splitter_len work_len,
                        uint8_t *SPLITTER_RESTRICT target, splitter_len target_len);
 
-/* Reads an image of just image_len bytes, of version 3, whatever state, table and pool hold. SPLITTER_OK, and the run goes on as at its
+/* Reads an image of just image_len bytes, of version 4, whatever state, table and pool hold. SPLITTER_OK, and the run goes on as at its
  * save, or a refusal: 99, 17, 18, 5, 6. The table must have the image's length. Refused by 99 nothing has changed. Refused by another, the
  * state is zero, and by 6 every record of the lent table and every whole node of the pool too. The pool may be longer than the image's
  * nodes: pool words past these never change but by 6. */

@@ -82,7 +82,7 @@ pub enum Refusal {
     /// A write while fewer nodes are free than the shared rest of its path has.
     PoolFull,
     /// An image that is not just as many whole blocks as its first block calls for, has no whole block, or
-    /// whose first word is not 768 to 1,023: a form that this library does not read.
+    /// whose first word is not 1,024 to 1,279: a form that this library does not read.
     BadBlocks,
     /// An image with a wrong check, or with a rest of its last block that is not zero.
     BadCheck,

@@ -142,7 +142,7 @@ pub use step::{affine, Reducer, Step};
 /// The version of splitter.h that this binding follows; the package has the same.
 pub const VERSION_MAJOR: u32 = 0;
 /// Its minor number.
-pub const VERSION_MINOR: u32 = 2;
+pub const VERSION_MINOR: u32 = 3;
 /// Both, to compare.
 pub const VERSION: u32 = VERSION_MAJOR * 1000 + VERSION_MINOR;
 
@@ -154,8 +154,10 @@ pub const NUMBERS_WORDS: usize = 10;
 pub const DEQUE_PLACES: usize = 256;
 /// The words of the state's deques.
 pub const DEQUES_WORDS: usize = MAX_WORKERS * (1 + DEQUE_PLACES);
-/// The words of a node.
-pub const NODE_WORDS: usize = 4;
+/// The words of a node: its holders, then what its level tells.
+pub const NODE_WORDS: usize = 2;
+/// In the place of an inner node's left or right link, in the low or high half of its second word: none.
+pub const NO_LINK: u32 = 65_535;
 /// The most nodes of a pool.
 pub const MAX_NODES: usize = 16_384;
 /// The most splitters.
@@ -172,7 +174,7 @@ pub const BLOCK_BYTES: usize = 512;
 /// The words of a block's data; its check follows them.
 pub const BLOCK_WORDS: usize = 127;
 /// Added to the workers in an image's first word.
-pub const IMAGE_VERSION: u32 = 768;
+pub const IMAGE_VERSION: u32 = 1_024;
 
 /// The bytes of an image that a save writes, of so many places and nodes: whole blocks.
 pub fn image_bytes(places: u32, nodes: u32) -> u64 {

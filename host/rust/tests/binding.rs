@@ -5,7 +5,7 @@ use splitter::{
     Synced, Totals,
 };
 use splitter::{clocks_words, image_array_bytes, image_bytes, BLOCK_BYTES, BLOCK_WORDS, IMAGE_VERSION, NONE};
-use splitter::{DEQUES_WORDS, DEQUE_PLACES, NODE_WORDS, NUMBERS_WORDS};
+use splitter::{DEQUES_WORDS, DEQUE_PLACES, NODE_WORDS, NO_LINK, NUMBERS_WORDS};
 use splitter::{MAX_NODES, MAX_PLACES, MAX_SPLITTERS, MAX_WORKERS, REDUCERS};
 use splitter::{VERSION, VERSION_MAJOR, VERSION_MINOR};
 use std::mem::{offset_of, size_of};
@@ -90,6 +90,7 @@ fn the_header_has_the_same_sizes() {
         ("DEQUE_PLACES", DEQUE_PLACES),
         ("FRAME_RECORD_WORDS", Frame::WORDS),
         ("NODE_WORDS", NODE_WORDS),
+        ("NO_LINK", NO_LINK as usize),
         ("MAX_NODES", MAX_NODES),
         ("MAX_SPLITTERS", MAX_SPLITTERS),
         ("MAX_WORKERS", MAX_WORKERS),
@@ -113,7 +114,7 @@ fn the_package_has_the_same_version() {
     assert_eq!(env!("CARGO_PKG_VERSION_MAJOR"), VERSION_MAJOR.to_string());
     assert_eq!(env!("CARGO_PKG_VERSION_MINOR"), VERSION_MINOR.to_string());
     assert!(HEADER.contains("#define SPLITTER_VERSION (SPLITTER_VERSION_MAJOR * 1000u + SPLITTER_VERSION_MINOR)"));
-    assert_eq!(VERSION, 2);
+    assert_eq!(VERSION, 3);
 }
 
 /// As in the header, the parts lie one after the other.
@@ -172,7 +173,7 @@ fn sizes_of_trees() {
 
 #[test]
 fn sizes_of_images() {
-    assert_eq!(image_bytes(u32::MAX, u32::MAX), (18 + 24 * u64::from(u32::MAX)).div_ceil(127) * 512);
+    assert_eq!(image_bytes(u32::MAX, u32::MAX), (18 + 22 * u64::from(u32::MAX)).div_ceil(127) * 512);
     for nodes in 0..=MAX_NODES {
         let places = nodes % (MAX_PLACES + 1);
         assert_eq!(image_bytes(places as u32, nodes as u32), image_array_bytes(places, nodes) as u64);
@@ -474,8 +475,8 @@ fn blocks(words: &[u32]) -> Vec<u8> {
     image
 }
 
-/// The run as an image with this first word, so many numbers, and so many words to a frame record.
-fn image_of(engine: &Engine, first: u32, numbers: usize, frame_words: usize) -> Vec<u8> {
+/// The run as an image with this first word, so many numbers, so many words to a frame record, and these nodes.
+fn image_of(engine: &Engine, first: u32, numbers: usize, frame_words: usize, nodes: &[u32]) -> Vec<u8> {
     let mut words = engine.state.numbers[..numbers].to_vec();
     words[0] = first;
     for deque in engine.state.deques.chunks(1 + DEQUE_PLACES) {
@@ -484,12 +485,12 @@ fn image_of(engine: &Engine, first: u32, numbers: usize, frame_words: usize) -> 
     for frame in &*engine.frames {
         words.extend(&frame.to_words()[..frame_words]);
     }
-    words.extend(&*engine.pool);
+    words.extend(nodes);
     blocks(&words)
 }
 
-/// Document 02's R-6: a save adds 768 to the first word, and a reading takes no other form: not those from
-/// before, with five numbers and six or seven words to a frame record, or nine numbers.
+/// Document 02's R-8: a save adds 1,024 to the first word, and a reading takes no other form: not those from
+/// before, with four words to a node, five numbers and six or seven words to a frame record, nine or ten numbers.
 #[test]
 fn the_form_of_an_image() {
     with_example(|engine| {
@@ -497,7 +498,8 @@ fn the_form_of_an_image() {
         for (step, answer) in EXAMPLE {
             assert_eq!(engine.step(step), answer);
             engine.save(&mut image).expect("room for the image");
-            assert_eq!(image[..], image_of(engine, IMAGE_VERSION + 2, NUMBERS_WORDS, Frame::WORDS));
+            let expected = image_of(engine, IMAGE_VERSION + 2, NUMBERS_WORDS, Frame::WORDS, engine.pool);
+            assert_eq!(image[..], expected);
             let (state, frames, pool) = (engine.state.clone(), engine.frames.to_vec(), engine.pool.to_vec());
             engine.frames.fill(GARBAGE);
             engine.pool.fill(7);
@@ -505,19 +507,17 @@ fn the_form_of_an_image() {
             assert!(*engine.state == state && engine.frames == frames && engine.pool == pool);
         }
         let whole = (NUMBERS_WORDS, Frame::WORDS);
-        let wrong = [
-            (2, (5, 6)),
-            (256 + 2, (5, 7)),
-            (512 + 2, (9, Frame::WORDS)),
-            (2, whole),
-            (256 + 2, whole),
-            (512 + 2, whole),
-            (1_024 + 2, whole),
-            (u32::MAX, whole),
-            (IMAGE_VERSION + 2, (5, 7)),
-        ];
-        for image in wrong.map(|(first, (numbers, frame_words))| image_of(engine, first, numbers, frame_words)) {
-            assert_eq!(engine.load(&image), Err(Refusal::BadBlocks));
+        let older = [(2, (5, 6)), (256 + 2, (5, 7)), (512 + 2, (9, Frame::WORDS)), (768 + 2, whole)];
+        let present = [2, 256 + 2, 512 + 2, 768 + 2, 1_280 + 2, u32::MAX].map(|first| (first, whole));
+        // Main has returned: every node is free, in four words 0, the next one, 0, 0
+        let four: Vec<u32> = engine.pool.chunks(NODE_WORDS).flat_map(|node| [node[0], node[1], 0, 0]).collect();
+        let two = engine.pool.to_vec();
+        let wrong = [(&older[..], four), (&present[..], two.clone()), (&[(IMAGE_VERSION + 2, (5, 7))], two)];
+        for (forms, nodes) in wrong {
+            for &(first, (numbers, frame_words)) in forms {
+                let image = image_of(engine, first, numbers, frame_words, &nodes);
+                assert_eq!(engine.load(&image), Err(Refusal::BadBlocks));
+            }
         }
     });
 }
