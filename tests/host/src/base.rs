@@ -1,7 +1,7 @@
 //! Sound pairs of a state, with its table, and a pool, as runs of plain.rs leave them.
 
 use crate::corrupt::Pair;
-use crate::plain::{self, Frame, State, SPAWN};
+use crate::plain::{self, Frame, State, NODE_WORDS, SPAWN};
 use crate::random::Random;
 use crate::sketch::Sketch;
 use crate::steps::{self, Driver, StepWords};
@@ -36,7 +36,7 @@ pub fn played(splitters: usize, nodes: u32, random: &Random) -> Pair {
 /// The same in a table of so many places.
 pub fn played_in(places: usize, splitters: usize, nodes: u32, random: &Random) -> Pair {
     let workers = 1 + random.word_below(8);
-    let mut pool = vec![0; 4 * nodes as usize];
+    let mut pool = vec![0; NODE_WORDS * nodes as usize];
     let table = vec![Frame::default(); places];
     let (state, _) = plain::start(workers, &random.words(splitters), table, &mut pool);
     let mut pair = Pair {

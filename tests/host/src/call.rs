@@ -3,7 +3,7 @@
 use crate::image;
 use crate::lent::Lent;
 use crate::parts::Parts;
-use crate::plain::{self, FRAME_WORDS};
+use crate::plain::{self, Layout, Node, OldNode, FRAME_WORDS};
 use splitter::{raw, Frame};
 use std::fmt;
 
@@ -111,6 +111,15 @@ impl Call {
     }
 
     pub fn by_plain(&self) -> Outcome {
+        self.by_layout::<Node>()
+    }
+
+    /// The same with four words to a node, in a pool of such nodes. There are no images of them.
+    pub fn by_older_layout(&self) -> Outcome {
+        self.by_layout::<OldNode>()
+    }
+
+    fn by_layout<N: Layout>(&self) -> Outcome {
         let mut after = self.untouched([0, 0]);
         let Some(mut state) = self.state.state() else {
             after.result[0] = BAD_STATE;
@@ -119,14 +128,15 @@ impl Call {
         let (pool, work) = (&mut after.pool, &mut after.work);
         match &self.entry {
             Entry::Start { workers, values } => {
-                (state, after.result[0]) = plain::start(*workers, values, state.frames, pool);
+                (state, after.result[0]) =
+                    plain::start_of::<N>(*workers, values, state.frames, pool);
             }
-            &Entry::Step([kind, worker, field, value]) => {
-                after.result =
-                    plain::step(&mut state, pool, work, kind, worker, field, value).into();
+            &Entry::Step(step) => {
+                after.result = plain::step_of::<N>(&mut state, pool, work, step).into();
             }
             Entry::Tape { bytes, .. } => {
-                after.result[0] = plain::tape(&mut state, pool, work, bytes, &mut after.answers);
+                let answers = &mut after.answers;
+                after.result[0] = plain::tape_of::<N>(&mut state, pool, work, bytes, answers);
             }
             Entry::Report(asked) => {
                 let report = after.report.as_mut_slice().try_into().ok();
@@ -144,7 +154,7 @@ impl Call {
                     report,
                 };
                 (state, after.result[0]) =
-                    plain::report(workers, values, state.frames, bytes, lent);
+                    plain::report_of::<N>(workers, values, state.frames, bytes, lent);
             }
             Entry::Save { .. } => {
                 after.result[0] = image::save(&self.state, pool, work, &mut after.bytes);

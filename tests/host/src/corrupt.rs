@@ -7,9 +7,15 @@ mod tables;
 mod trees;
 pub mod words;
 
-use crate::plain::{self, Node, State, HOLDERS, LEFT, NONE, RIGHT};
+use crate::plain::{self, Layout, Node, State, HOLDERS, NODE_WORDS, NONE};
 use crate::random::Random;
 use Expected::{Either, Sound, Unsound};
+
+/// The sides of an inner node's links; a link to no node; a node's second word.
+const LEFT: u32 = 0;
+const RIGHT: u32 = 1;
+const NO_LINK: u32 = Node::NO_LINK;
+const WORD: usize = 1;
 
 #[derive(Clone)]
 pub struct Pair {
@@ -47,7 +53,7 @@ const fn kind(name: &'static str, expected: Expected, share: usize, change: Chan
     }
 }
 
-pub const KINDS: [Kind; 83] = [
+pub const KINDS: [Kind; 89] = [
     kind("state word", Either, 200, words::state_word),
     kind("record word", Either, 80, words::record_word),
     kind("pool word", Either, 40, words::pool_word),
@@ -66,12 +72,23 @@ pub const KINDS: [Kind; 83] = [
     kind("wrong level", Unsound, 8, trees::wrong_level),
     kind("wrong size", Unsound, 8, trees::wrong_size),
     kind("node shared", Sound, 12, trees::node_shared),
-    kind("inner value", Unsound, 5, trees::inner_value),
+    kind("holders off by one", Unsound, 6, trees::holders_off_by_one),
+    kind("leaf as inner node", Unsound, 10, trees::leaf_as_inner_node),
+    kind("inner node as leaf", Unsound, 10, trees::inner_node_as_leaf),
     kind("leaf value", Sound, 4, trees::leaf_value),
-    kind("leaf with a link", Unsound, 5, trees::leaf_with_link),
-    kind("link missing", Unsound, 5, trees::link_missing),
+    kind("leaf value as links", Sound, 8, trees::leaf_value_as_links),
+    kind("left link none", Unsound, 6, trees::left_link_none),
+    kind("right link none", Unsound, 6, trees::right_link_none),
+    kind(
+        "link past the nodes",
+        Unsound,
+        8,
+        trees::link_past_the_nodes,
+    ),
     kind("link too many", Unsound, 5, trees::link_too_many),
+    kind("right link, no node", Unsound, 8, trees::right_link_no_node),
     kind("free node not zero", Unsound, 6, trees::free_node_not_zero),
+    kind("free node's word", Unsound, 8, trees::free_node_word),
     kind("free node lost", Unsound, 5, trees::free_node_lost),
     kind("used node chained", Unsound, 5, trees::used_node_chained),
     kind("node leaked", Unsound, 5, trees::node_leaked),
@@ -171,17 +188,24 @@ struct Standing {
 /// What the changes need of a sound pair.
 impl Pair {
     fn node(&self, node: u32) -> Node {
-        let at = 4 * node as usize;
-        [0, 1, 2, 3].map(|word| self.pool[at + word])
+        Node::nodes(&self.pool)[node as usize]
     }
 
     fn word(&mut self, node: u32, word: usize) -> &mut u32 {
-        &mut self.pool[4 * node as usize + word]
+        &mut self.pool[NODE_WORDS * node as usize + word]
     }
 
     fn set(&mut self, node: u32, words: Node) {
-        let at = 4 * node as usize;
-        self.pool[at..at + 4].copy_from_slice(&words);
+        Node::nodes_mut(&mut self.pool)[node as usize] = words;
+    }
+
+    /// An inner node's link.
+    fn link(&self, node: u32, side: u32) -> u32 {
+        self.node(node).link(side)
+    }
+
+    fn set_link(&mut self, node: u32, side: u32, to: u32) {
+        Node::nodes_mut(&mut self.pool)[node as usize].set_link(side, to);
     }
 
     pub fn live(&self) -> Vec<usize> {
@@ -245,14 +269,14 @@ impl Pair {
     }
 
     /// What stands at a node's left or right.
-    fn below(&self, at: Standing, side: usize) -> Option<Standing> {
+    fn below(&self, at: Standing, side: u32) -> Option<Standing> {
         let half = 1 << at.level.checked_sub(1)?;
         let leaves = match side {
             LEFT => at.leaves.min(half),
             _ => at.leaves.checked_sub(half).filter(|&leaves| leaves > 0)?,
         };
         Some(Standing {
-            node: self.node(at.node)[side],
+            node: self.link(at.node, side),
             level: at.level - 1,
             leaves,
         })
@@ -270,7 +294,7 @@ impl Pair {
         let mut next = self.state.free;
         while next != NONE {
             chain.push(next);
-            next = self.node(next)[LEFT];
+            next = self.node(next).next_free();
         }
         chain
     }
@@ -279,7 +303,7 @@ impl Pair {
     fn rechain(&mut self, chain: &[u32]) {
         let mut next = NONE;
         for &node in chain.iter().rev() {
-            self.set(node, [0, next, 0, 0]);
+            self.set(node, Node::free(next));
             next = node;
         }
         self.state.free = next;
@@ -289,29 +313,31 @@ impl Pair {
         *self.word(node, HOLDERS) += 1;
     }
 
-    fn release(&mut self, node: u32) {
-        let [holders, left, right, _] = self.node(node);
-        *self.word(node, HOLDERS) = holders - 1;
-        if holders > 1 {
+    /// A node of this level.
+    fn release(&mut self, node: u32, level: u32) {
+        let old = self.node(node);
+        *self.word(node, HOLDERS) = old.holders() - 1;
+        if old.holders() > 1 {
             return;
         }
-        self.set(node, [0, self.state.free, 0, 0]);
+        self.set(node, Node::free(self.state.free));
         self.state.free = node;
-        for link in [left, right] {
-            if link != NONE {
-                self.release(link);
+        for link in [old.link(LEFT), old.link(RIGHT)] {
+            if level > 0 && link != NO_LINK {
+                self.release(link, level - 1);
             }
         }
     }
 
-    /// Links to another node, with all reference counts and the free chain put right.
-    fn relink(&mut self, from: u32, side: usize, to: u32) {
-        let old = std::mem::replace(self.word(from, side), to);
-        if to != NONE {
+    /// Links an inner node to another, with all reference counts and the free chain put right.
+    fn relink(&mut self, from: Standing, side: u32, to: u32) {
+        let old = self.link(from.node, side);
+        self.set_link(from.node, side, to);
+        if to != NO_LINK {
             self.retain(to);
         }
-        if old != NONE {
-            self.release(old);
+        if old != NO_LINK {
+            self.release(old, from.level - 1);
         }
     }
 }

@@ -3,15 +3,17 @@
 
 use crate::corrupt::Pair;
 use crate::image::{self, Size, BLOCK_BYTES, DATA_BYTES, PER_VERSION, VERSION, WORKERS};
+use crate::layouts;
 use crate::parts::Parts;
-use crate::plain::{DEQUE_WORDS, FRAME_WORDS, MAX_NODES, MAX_PLACES};
+use crate::plain::{DEQUE_WORDS, FRAME_WORDS, MAX_NODES, MAX_PLACES, NODE_WORDS};
 use crate::random::Random;
 
 /// What a damaged image is made from.
 pub struct Source {
     pub image: Vec<u8>,
-    /// The same in a form from before.
+    /// The same in a form from before R-6, and in that from before R-8.
     pub before: Vec<u8>,
+    pub third: Vec<u8>,
     /// Saved some steps earlier in the same run.
     pub older: Vec<u8>,
     /// Saved in another run.
@@ -41,7 +43,7 @@ pub const MOST_NODES: usize = MAX_NODES + 100;
 /// Nor more places.
 pub const MOST_PLACES: usize = MAX_PLACES + 60;
 
-pub const DAMAGES: [Damage; 53] = [
+pub const DAMAGES: [Damage; 58] = [
     damage("none", &[0], |_, _, _| Some(())),
     damage("a bit", &[17, 18], bit),
     damage("a byte", &[17, 18], byte),
@@ -91,6 +93,15 @@ pub const DAMAGES: [Damage; 53] = [
     damage("first word, no version", &[17], first_word_of_no_version),
     damage("version lied", &[6, 17, 18], version_lied),
     damage("version lied, fitting", &[6], version_lied_fitting),
+    damage("four-word nodes", &[17], four_word_nodes),
+    damage(
+        "four-word nodes, lied",
+        &[0, 6, 17, 18],
+        four_word_nodes_lied,
+    ),
+    damage("four words, fitting", &[0, 6], four_word_nodes_fitting),
+    damage("a node's first word", &[6], node_first_word),
+    damage("a node's second word", &[0, 6], node_second_word),
     damage("a seventh word", &[0, 6], seventh_word),
     damage("a view word", &[0, 6], view_word),
     damage("a link", &[6], sibling_link),
@@ -117,30 +128,36 @@ fn size_of(pair: &Pair) -> Size {
     };
     Size {
         places: within(pair.state.places, MOST_PLACES, pair.state.frames.len()),
-        nodes: within(pair.state.nodes, MOST_NODES, pair.pool.len() / 4),
+        nodes: within(pair.state.nodes, MOST_NODES, pair.pool.len() / NODE_WORDS),
     }
 }
 
 /// Places of an image from before.
 const PLACES_BEFORE: usize = 64;
 
-/// Numbers, and words to a frame record, of the forms before: versions 0 to 2.
-const BEFORE: [(usize, usize); 3] = [(5, 6), (5, 7), (9, 12)];
+/// Numbers, and words to a frame record, of the forms before: versions 0 to 3.
+const BEFORE: [(usize, usize); 4] = [(5, 6), (5, 7), (9, 12), (10, 12)];
+/// The last of them, with the length of the table.
+const THIRD: u32 = 3;
 
-/// The image of a sound pair in a form from before, with 64 places, zero where the table has none.
+/// The image of a sound pair in a form from before, with four words to a node; before R-6 with 64 places, zero where the table has none.
 pub fn image_before(pair: &Pair, version: u32) -> Vec<u8> {
     let (numbers, frame_words) = BEFORE[version as usize];
     let mut state = Parts::of(&pair.state);
-    state.frames.resize(PLACES_BEFORE * FRAME_WORDS, 0);
+    let places = match version {
+        THIRD => state.places(),
+        _ => PLACES_BEFORE,
+    };
+    state.frames.resize(places * FRAME_WORDS, 0);
     let mut words = state.numbers[..numbers].to_vec();
     words[WORKERS] += version * PER_VERSION;
     for deque in state.deques.chunks(DEQUE_WORDS) {
-        words.extend(&deque[..1 + PLACES_BEFORE]);
+        words.extend(&deque[..1 + places]);
     }
     for record in state.frames.chunks(FRAME_WORDS) {
         words.extend(&record[..frame_words]);
     }
-    words.extend(&pair.pool[..4 * pair.state.nodes as usize]);
+    words.extend(layouts::unpack(&pair.state, &pair.pool).unwrap_or_default());
     let mut image = vec![0; words.len().div_ceil(127) * BLOCK_BYTES];
     image::put(words, &mut image);
     image
@@ -438,13 +455,13 @@ fn places_lied(image: &mut Vec<u8>, _: &Source, random: &Random) -> Option<()> {
 }
 
 /// So many nodes take just 2^32 bytes of an image.
-const WRAP_BYTES: u32 = 127 << 21;
+const WRAP_BYTES: u32 = 127 << 22;
 
 /// Numbers that are not far from the truth in arithmetic of 32 bits.
 fn nodes_lied_wildly(image: &mut Vec<u8>, _: &Source, random: &Random) -> Option<()> {
     let old = image::recorded(image)?.nodes;
-    let wrapped = old.wrapping_add((1 + random.word_below(3)) << 30);
-    let wrapped_bytes = old.wrapping_add((1 + random.word_below(15)) * WRAP_BYTES);
+    let wrapped = old.wrapping_add(random.pick(&[1 << 31, 1 << 31, 1 << 30, 3 << 30]));
+    let wrapped_bytes = old.wrapping_add((1 + random.word_below(8)) * WRAP_BYTES);
     let far = 1 << 20 | random.word();
     let lies = [
         u32::MAX,
@@ -470,10 +487,10 @@ fn places_lied_wildly(image: &mut Vec<u8>, _: &Source, random: &Random) -> Optio
 /// A few blocks, and a number of nodes that calls for as many if its words are counted modulo 2^32.
 fn nodes_wrapped(image: &mut Vec<u8>, _: &Source, random: &Random) -> Option<()> {
     let size = recorded_within(image)?;
-    let state = image::first_node(size.places) as u32; // two more than a multiple of four
-    let words = 2 + 4 * random.word_below(state / 4);
-    let quarter = random.word_below(4) << 30;
-    let nodes = (words.wrapping_sub(state) / 4).wrapping_add(quarter);
+    let state = image::first_node(size.places) as u32; // even
+    let words = 2 + 2 * random.word_below(state / 2 - 1);
+    let half = random.word_below(2) << 31;
+    let nodes = (words.wrapping_sub(state) / 2).wrapping_add(half);
     image.resize(words.div_ceil(127) as usize * BLOCK_BYTES, 0);
     record_nodes(image, nodes)
 }
@@ -481,11 +498,11 @@ fn nodes_wrapped(image: &mut Vec<u8>, _: &Source, random: &Random) -> Option<()>
 /// Times five it is 1, modulo 2^32.
 const FIFTH: u32 = 0xCCCC_CCCD;
 
-/// The same by a number of places: 20 times it, 18 and four times the nodes are a few words modulo 2^32.
+/// The same by a number of places: 20 times it, 18 and twice the nodes are a few words modulo 2^32.
 fn places_wrapped(image: &mut Vec<u8>, _: &Source, random: &Random) -> Option<()> {
     let size = recorded_within(image)?;
-    let others = 18 + 4 * size.nodes;
-    let words = 2 + 4 * random.word_below(1_000);
+    let others = 18 + 2 * size.nodes;
+    let words = others % 4 + 4 * (1 + random.word_below(1_000));
     let fours = words.wrapping_sub(others) / 4;
     let quarter = random.word_below(4) << 30;
     let places = (fours.wrapping_mul(FIFTH) & 0x3FFF_FFFF).wrapping_add(quarter);
@@ -721,6 +738,10 @@ fn first_word(image: &mut Vec<u8>, _: &Source, random: &Random) -> Option<()> {
         1_023,
         1_024,
         1_032,
+        1_033,
+        1_279,
+        1_280,
+        1_288,
         1 << 31,
         near,
         near,
@@ -737,16 +758,17 @@ fn first_word_of_no_version(image: &mut Vec<u8>, _: &Source, random: &Random) ->
         workers,
         256 + workers,
         512 + workers,
-        767,
-        1_024,
-        1_024 + workers,
+        768 + workers,
+        1_023,
+        1_280,
         1_280 + workers,
+        1_536 + workers,
         65_536 + old,
         old.swap_bytes(),
         1 << 31,
         1 << 31 | old,
         u32::MAX,
-        1_024 | random.word(),
+        1_280 | random.word(),
     ];
     let word = random.pick(&words);
     (word / PER_VERSION != VERSION).then_some(())?;
@@ -766,6 +788,57 @@ fn version_lied_fitting(image: &mut Vec<u8>, source: &Source, random: &Random) -
     let size = recorded_within(image)?;
     fit(image, size);
     Some(())
+}
+
+/// R-7's form: four words to a node.
+fn four_word_nodes(image: &mut Vec<u8>, source: &Source, _: &Random) -> Option<()> {
+    image.clone_from(&source.third);
+    Some(())
+}
+
+/// With the present first word.
+fn four_word_nodes_lied(image: &mut Vec<u8>, source: &Source, _: &Random) -> Option<()> {
+    image.clone_from(&source.third);
+    let old = image::get(image).nth(WORKERS)?;
+    set_first(image, VERSION * PER_VERSION + old % PER_VERSION)
+}
+
+/// And the length as the present form calls for: a pool of one node may be sound.
+fn four_word_nodes_fitting(image: &mut Vec<u8>, source: &Source, random: &Random) -> Option<()> {
+    four_word_nodes_lied(image, source, random)?;
+    let size = recorded_within(image)?;
+    fit(image, size);
+    Some(())
+}
+
+/// Holders, of any node.
+fn node_first_word(image: &mut Vec<u8>, _: &Source, random: &Random) -> Option<()> {
+    let size = recorded_there(image).filter(|size| size.nodes > 0)?;
+    let node = NODE_WORDS * random.below(size.nodes as usize);
+    let word = image::first_node(size.places) as usize + node;
+    let old = image::get(image).nth(word)?;
+    let news = [0, 1, 2, old.wrapping_sub(1), old.wrapping_add(1), u32::MAX];
+    set_checked(image, word, &news, random)
+}
+
+/// Links, a value or the next free node: only a leaf stands another word there.
+fn node_second_word(image: &mut Vec<u8>, _: &Source, random: &Random) -> Option<()> {
+    let size = recorded_there(image).filter(|size| size.nodes > 0)?;
+    let node = NODE_WORDS * random.below(size.nodes as usize);
+    let word = image::first_node(size.places) as usize + node + 1;
+    let old = image::get(image).nth(word)?;
+    let [low, high] = [old & 0xFFFF, old & !0xFFFF];
+    let news = [
+        old.rotate_left(16),
+        high | 0xFFFF,
+        low | 0xFFFF << 16,
+        65_535,
+        u32::MAX,
+        high | size.nodes,
+        low | size.nodes << 16,
+        old ^ 1 << random.below(32),
+    ];
+    set_checked(image, word, &news, random)
 }
 
 /// A word of a place's record.

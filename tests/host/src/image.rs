@@ -1,4 +1,4 @@
-//! R-1's image, as change it, in plain Rust: what a save writes and what a reading accepts, refuses and leaves. Written from
+//! R-1's image, as change it, in plain Rust: what a save writes and what a reading accepts, refuses and leaves. Written from
 //! documents 01 and 02 alone.
 
 #[cfg(test)]
@@ -9,7 +9,9 @@ mod tests;
 
 use crate::call::BAD_STATE;
 use crate::parts::Parts;
-use crate::plain::{self, Refusal, DEQUE_WORDS, FRAME_WORDS, MAX_WORKERS, NUMBERS_WORDS};
+use crate::plain::{
+    self, Refusal, DEQUE_WORDS, FRAME_WORDS, MAX_WORKERS, NODE_WORDS, NUMBERS_WORDS,
+};
 
 pub const BLOCK_BYTES: usize = 512;
 /// A block's bytes of data; the check follows them.
@@ -22,7 +24,7 @@ pub const PLACES: usize = 9;
 /// The first word has the version times this added.
 pub const PER_VERSION: u32 = 256;
 /// The version that a save writes, and the only one that a reading takes.
-pub const VERSION: u32 = 3;
+pub const VERSION: u32 = 4;
 
 /// The image is not just as many whole blocks as its first block calls for, has no whole block, or a first word of no readable form.
 pub const NOT_ITS_BLOCKS: u32 = 17;
@@ -50,7 +52,7 @@ pub fn first_node(places: u32) -> u64 {
 
 /// The words of an image of this size, any numbers.
 pub fn words(size: Size) -> u64 {
-    first_node(size.places) + 4 * u64::from(size.nodes)
+    first_node(size.places) + NODE_WORDS as u64 * u64::from(size.nodes)
 }
 
 /// Its bytes.
@@ -115,7 +117,7 @@ pub fn image_words(state: &Parts, size: Size, pool: &[u32]) -> Vec<u32> {
         add(deque, 1 + places);
     }
     add(&state.frames, FRAME_WORDS * places);
-    add(pool, 4 * nodes);
+    add(pool, NODE_WORDS * nodes);
     words
 }
 
@@ -175,7 +177,7 @@ fn take(state: &mut Parts, pool: &mut [u32], work: &mut [u32], image: &[u8]) -> 
         .state()
         .and_then(|state| plain::sound(&state, pool, work));
     if sound.is_none() {
-        let whole = pool.len() / 4 * 4;
+        let whole = pool.len() / NODE_WORDS * NODE_WORDS;
         pool[..whole].fill(0);
         state.frames.fill(0);
         return Refusal::Unsound as u32;
@@ -199,7 +201,7 @@ fn read(size: Size, state: &mut Parts, pool: &mut [u32], image: &[u8]) {
         fill(&mut deque[..1 + places]);
     }
     fill(&mut state.frames);
-    if let Some(front) = pool.get_mut(..4 * size.nodes as usize) {
+    if let Some(front) = pool.get_mut(..NODE_WORDS * size.nodes as usize) {
         fill(front);
     }
 }

@@ -7,7 +7,7 @@ use crate::corrupt::{self, Expected, Pair, KINDS};
 use crate::damage::{self, Source, DAMAGES, MOST_NODES, MOST_PLACES};
 use crate::image::{self, Size, SHORT_TARGET};
 use crate::parts::Parts;
-use crate::plain::{self, Refusal, State, MAX_NODES, SPAWN};
+use crate::plain::{self, Refusal, State, MAX_NODES, NODE_WORDS, SPAWN};
 use crate::random::Random;
 use crate::sentences;
 use crate::session::{Failure, Session};
@@ -101,7 +101,8 @@ fn count(answers: &mut Answers, after: &Outcome) {
 pub fn compare_sizes() -> Result<(), Failure> {
     let powers = (8..32).flat_map(|power| (0..5).map(move |near| (1u32 << power) - 2 + near));
     let wraps = (0..=128).map(|times: u32| times.wrapping_mul(127 << 18));
-    let wraps = wraps.flat_map(|nodes| [0, 5, 227, 325].map(|less| nodes.wrapping_sub(less)));
+    let wraps = wraps
+        .flat_map(|nodes| [0, 5, 19, 227, 325, 649, 2_569].map(|less| nodes.wrapping_sub(less)));
     let far: Vec<u32> = powers
         .chain(wraps)
         .chain([u32::MAX - 1, u32::MAX])
@@ -182,7 +183,7 @@ fn pair(random: &Random) -> Pair {
 
 /// One node less than fill some blocks, with so many places: 25 or more.
 fn full(places: u32) -> u32 {
-    let fills = |nodes: &u32| (18 + 20 * places + 4 * nodes).is_multiple_of(127);
+    let fills = |nodes: &u32| (18 + 20 * places + 2 * nodes).is_multiple_of(127);
     (26..26 + 127).find(fills).map_or(25, |nodes| nodes - 1)
 }
 
@@ -266,7 +267,7 @@ fn loading(image: Vec<u8>, random: &Random) -> Call {
     } else {
         30
     };
-    let pool = 4 * nodes + random.pick(&[0, 1, 2, 3, 4, random.below(60)]);
+    let pool = NODE_WORDS * nodes + random.pick(&[0, 1, 2, 3, 4, random.below(60)]);
     Call {
         state: Parts::garbage(places as usize, random),
         pool: random.words(pool),
@@ -375,6 +376,7 @@ pub fn group(
     let source = Source {
         image: damage::image_of(&pair),
         before: damage::image_before(&pair, random.word_below(3)),
+        third: damage::image_before(&pair, 3),
         older,
         other: damage::image_of(&base::any(&random)),
     };
@@ -483,7 +485,7 @@ fn read_damaged(
 fn spoil(call: &mut Call, random: &Random) {
     let (pool, work) = (call.pool.len(), call.work.len());
     if random.one_in(2) {
-        let left = random.pick(&[0, pool.saturating_sub(4), random.below(pool + 1)]);
+        let left = random.pick(&[0, pool.saturating_sub(NODE_WORDS), random.below(pool + 1)]);
         call.pool.truncate(left);
     }
     if random.one_in(3) {
@@ -508,7 +510,7 @@ fn expect_answer(call: &Call, answers: &[u32], result: u32) -> Result<(), Failur
         result == BAD_STATE
     } else if call.work.len() < nodes {
         by_bytes || result == SHORT_WORK
-    } else if call.pool.len() / 4 < nodes || call.state.places() != places as usize {
+    } else if call.pool.len() / NODE_WORDS < nodes || call.state.places() != places as usize {
         by_bytes || result == UNSOUND
     } else {
         OF_LOADS.contains(&result) && may(result) && !matches!(result, SHORT_WORK | BAD_STATE)

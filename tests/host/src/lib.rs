@@ -8,6 +8,7 @@ pub mod damage;
 pub mod family;
 pub mod image;
 pub mod images;
+pub mod layouts;
 pub mod lent;
 pub mod order;
 pub mod parts;

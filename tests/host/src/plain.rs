@@ -1,10 +1,13 @@
-//! Document 01's engine, with of document 02, in plain, fast, safe Rust: copying of what is shared of a path, reference
-//! counts, free lists, recursive release, returns that wait, views that join, a lent frame table, clocks. Written from the documents alone. It is what the library is compared with,
+//! Document 01's engine, with of document 02, in plain, fast, safe Rust: copying of what is shared of a path, reference
+//! counts, free lists, recursive release, returns that wait, views that join, a lent frame table, clocks. Written from the documents alone, but that how a link is chosen, and that retain and
+//! release leave alone what is no node, were tuned for R-8 by someone who had read crate packed. It is what the library is compared with,
 //! and the peer it is timed against: what a tape and a single step share is inlined in both, so that each is as fast as if the other
-//! were not there.
+//! were not there. The functions that end in `_of` are the same with nodes of either layout.
 
+mod layout;
 mod timing;
 
+pub use layout::Layout;
 use std::ops::{Deref, DerefMut};
 use std::{array, mem};
 use timing::{Beside, Clocks, Untimed};
@@ -20,12 +23,12 @@ pub const FRAME_WORDS: usize = 12;
 pub const NUMBERS_WORDS: usize = 10;
 pub const DEQUES_WORDS: usize = MAX_WORKERS * DEQUE_WORDS;
 
-/// Holders (the reference count), left, right, value. A free node is 0, the next free node, 0, 0.
-pub type Node = [u32; 4];
+/// The words of a node.
+pub type Node = [u32; NODE_WORDS];
+pub const NODE_WORDS: usize = 2;
+/// Those from before R-8.
+pub type OldNode = [u32; 4];
 pub const HOLDERS: usize = 0;
-pub const LEFT: usize = 1;
-pub const RIGHT: usize = 2;
-pub const VALUE: usize = 3;
 
 pub const RECORD_BYTES: usize = 8;
 pub const SPAWN: u32 = 1;
@@ -353,13 +356,17 @@ pub fn tree_nodes(splitters: u32) -> u32 {
 }
 
 /// Begins a run in this table, whatever it holds: the state and 0, or a state of zeros, with the table as it was, and the refusal.
-pub fn start(
+pub fn start(workers: u32, values: &[u32], frames: Vec<Frame>, pool: &mut [u32]) -> (State, u32) {
+    start_of::<Node>(workers, values, frames, pool)
+}
+
+pub fn start_of<N: Layout>(
     workers: u32,
     values: &[u32],
     mut frames: Vec<Frame>,
     pool: &mut [u32],
 ) -> (State, u32) {
-    let (nodes, _) = pool.as_chunks_mut::<4>();
+    let nodes = N::nodes_mut(pool);
     if let Some(refusal) = refuse_start(workers, values.len(), frames.len(), nodes.len()) {
         return (State::zero(frames), refusal as u32);
     }
@@ -367,7 +374,7 @@ pub fn start(
     let last = nodes.len() - 1;
     for (node, cell) in nodes.iter_mut().enumerate().skip(tree) {
         let next = if node < last { node as u32 + 1 } else { NONE };
-        *cell = [0, next, 0, 0];
+        *cell = N::free(next);
     }
     let vacant = furnish(&mut frames);
     let head = Head {
@@ -416,7 +423,7 @@ fn refuse_start(workers: u32, values: usize, places: usize, nodes: usize) -> Opt
 }
 
 /// Writes the first tree, level by level from the root; the number of its nodes.
-fn plant(values: &[u32], nodes: &mut [Node]) -> usize {
+fn plant<N: Layout>(values: &[u32], nodes: &mut [N]) -> usize {
     let width = |level: u32| values.len().div_ceil(1 << level);
     let mut first = 0;
     for level in (1..=height(values.len() as u32)).rev() {
@@ -424,12 +431,12 @@ fn plant(values: &[u32], nodes: &mut [Node]) -> usize {
         for (group, node) in nodes[first..below].iter_mut().enumerate() {
             let left = (below + 2 * group) as u32;
             let has_right = 2 * group + 1 < width(level - 1);
-            *node = [1, left, if has_right { left + 1 } else { NONE }, 0];
+            *node = N::inner(left, if has_right { left + 1 } else { N::NO_LINK });
         }
         first = below;
     }
     for (node, &value) in nodes[first..].iter_mut().zip(values) {
-        *node = [1, NONE, NONE, value];
+        *node = N::leaf(value);
     }
     first + values.len()
 }
@@ -444,10 +451,20 @@ pub fn step(
     field: u32,
     value: u32,
 ) -> (u32, u32) {
-    match admit(state, pool, work) {
+    step_of::<Node>(state, pool, work, [kind, worker, field, value])
+}
+
+#[inline(always)]
+pub fn step_of<N: Layout>(
+    state: &mut State,
+    pool: &mut [u32],
+    work: &mut [u32],
+    [kind, worker, field, value]: [u32; 4],
+) -> (u32, u32) {
+    match admit::<N>(state, pool, work) {
         Ok(free_nodes) => {
             let step = Step::decode(kind, worker, field, value);
-            Engine::new(state, free_nodes, pool, Untimed).answer(step)
+            Engine::<N, _>::new(state, free_nodes, pool, Untimed).answer(step)
         }
         Err(refusal) => (refusal as u32, 0),
     }
@@ -461,12 +478,23 @@ pub fn tape(
     bytes: &[u8],
     answers: &mut [u32],
 ) -> u32 {
+    tape_of::<Node>(state, pool, work, bytes, answers)
+}
+
+#[inline(always)]
+pub fn tape_of<N: Layout>(
+    state: &mut State,
+    pool: &mut [u32],
+    work: &mut [u32],
+    bytes: &[u8],
+    answers: &mut [u32],
+) -> u32 {
     if !is_tape(bytes, answers) {
         return Refusal::BadTape as u32;
     }
-    match admit(state, pool, work) {
+    match admit::<N>(state, pool, work) {
         Ok(free_nodes) => {
-            run_tape(state, free_nodes, pool, bytes, answers);
+            Engine::<N, _>::new(state, free_nodes, pool, Untimed).run(bytes, answers);
             0
         }
         Err(refusal) => refusal as u32,
@@ -487,7 +515,7 @@ pub fn run_tape(
     bytes: &[u8],
     answers: &mut [u32],
 ) -> u32 {
-    let mut engine = Engine::new(state, free_nodes, pool, Untimed);
+    let mut engine = Engine::<Node, _>::new(state, free_nodes, pool, Untimed);
     engine.run(bytes, answers);
     engine.free_nodes
 }
@@ -512,6 +540,17 @@ pub fn report(
     bytes: &[u8],
     lent: Reporting,
 ) -> (State, u32) {
+    report_of::<Node>(workers, values, frames, bytes, lent)
+}
+
+#[inline(always)]
+pub fn report_of<N: Layout>(
+    workers: u32,
+    values: &[u32],
+    frames: Vec<Frame>,
+    bytes: &[u8],
+    lent: Reporting,
+) -> (State, u32) {
     let Reporting {
         pool,
         work,
@@ -519,17 +558,17 @@ pub fn report(
         clocks,
         report,
     } = lent;
-    let nodes = pool.len() / 4;
+    let nodes = N::nodes(pool).len();
     let refusal = refuse_start(workers, values.len(), frames.len(), nodes)
         .or((!is_tape(bytes, answers)).then_some(Refusal::BadTape))
         .or((work.len() < nodes).then_some(Refusal::ShortWork));
     if let Some(refusal) = refusal {
         return (State::zero(frames), refusal as u32);
     }
-    let (mut state, _) = start(workers, values, frames, pool);
+    let (mut state, _) = start_of::<N>(workers, values, frames, pool);
     work[..nodes].fill(0);
     let free_nodes = state.nodes - tree_nodes(state.splitters);
-    let mut engine = Engine::new(&mut state, free_nodes, pool, Clocks::begin(clocks));
+    let mut engine = Engine::<N, _>::new(&mut state, free_nodes, pool, Clocks::begin(clocks));
     engine.run(bytes, answers);
     let Clocks { work, span, .. } = engine.beside;
     if span == 0 {
@@ -541,11 +580,11 @@ pub fn report(
 
 /// Refusals 5 and 6; else the number of free nodes.
 #[inline(always)]
-fn admit(state: &State, pool: &[u32], work: &mut [u32]) -> Result<u32, Refusal> {
+fn admit<N: Layout>(state: &State, pool: &[u32], work: &mut [u32]) -> Result<u32, Refusal> {
     if work.len() < state.nodes as usize {
         return Err(Refusal::ShortWork);
     }
-    sound(state, pool, work).ok_or(Refusal::Unsound)
+    sound_of::<N>(state, pool, work).ok_or(Refusal::Unsound)
 }
 
 #[derive(Clone, Copy)]
@@ -576,21 +615,20 @@ impl Step {
 }
 
 /// A sound state, its table and its nodes, with what need not be found again at each step; and clocks, if there are any.
-struct Engine<'a, B> {
+struct Engine<'a, N, B> {
     head: &'a mut Head,
     frames: &'a mut [Frame],
-    nodes: &'a mut [Node],
+    nodes: &'a mut [N],
     free_nodes: u32,
     height: u32,
     main_lives: bool,
     beside: B,
 }
 
-impl<'a, B: Beside> Engine<'a, B> {
-    fn new(state: &'a mut State, free_nodes: u32, pool: &'a mut [u32], beside: B) -> Engine<'a, B> {
-        let (nodes, _) = pool.as_chunks_mut::<4>();
+impl<'a, N: Layout, B: Beside> Engine<'a, N, B> {
+    fn new(state: &'a mut State, free_nodes: u32, pool: &'a mut [u32], beside: B) -> Self {
         Engine {
-            nodes: &mut nodes[..state.nodes as usize],
+            nodes: &mut N::nodes_mut(pool)[..state.nodes as usize],
             height: height(state.splitters),
             main_lives: state.main_lives(),
             free_nodes,
@@ -729,7 +767,7 @@ impl<'a, B: Beside> Engine<'a, B> {
         }
         self.frames[place as usize] = Frame::vacant(self.head.vacant);
         self.head.vacant = place;
-        self.release(root);
+        self.release(root, self.height);
         parent
     }
 
@@ -857,10 +895,9 @@ impl<'a, B: Beside> Engine<'a, B> {
         self.beside.costs(bottom);
         let mut node = self.frames[bottom].root;
         for level in (0..self.height).rev() {
-            let side = LEFT + (splitter >> level & 1) as usize;
-            node = self.nodes[node as usize][side];
+            node = self.nodes[node as usize].link(splitter >> level & 1);
         }
-        Ok(self.nodes[node as usize][VALUE])
+        Ok(self.nodes[node as usize].value())
     }
 
     /// The free nodes left. From the root down, nodes with one holder stay where they are; from the first with more holders on, the path
@@ -874,13 +911,13 @@ impl<'a, B: Beside> Engine<'a, B> {
         let mut node = self.frames[bottom].root;
         let mut above = NONE;
         let mut level = self.height;
-        while level > 0 && self.nodes[node as usize][HOLDERS] == 1 {
+        while level > 0 && self.nodes[node as usize].holders() == 1 {
             level -= 1;
             above = node;
-            node = self.nodes[node as usize][LEFT + (splitter >> level & 1) as usize];
+            node = self.nodes[node as usize].link(splitter >> level & 1);
         }
-        if self.nodes[node as usize][HOLDERS] == 1 {
-            self.nodes[node as usize][VALUE] = value;
+        if self.nodes[node as usize].holders() == 1 {
+            self.nodes[node as usize].set_value(value);
             self.beside.costs(bottom);
             return Ok(self.free_nodes);
         }
@@ -888,11 +925,11 @@ impl<'a, B: Beside> Engine<'a, B> {
             return Err(Refusal::PoolFull);
         }
         let new = self.copy_rest(node, level, splitter, value);
-        self.nodes[node as usize][HOLDERS] -= 1;
+        *self.nodes[node as usize].holders_mut() -= 1;
         if above == NONE {
             self.frames[bottom].root = new;
         } else {
-            self.nodes[above as usize][LEFT + (splitter >> level & 1) as usize] = new;
+            self.nodes[above as usize].set_link(splitter >> level & 1, new);
         }
         self.beside.costs(bottom);
         Ok(self.free_nodes)
@@ -919,52 +956,53 @@ impl<'a, B: Beside> Engine<'a, B> {
         let first = self.allocate();
         let (mut old, mut new) = (node, first);
         for level in (0..level).rev() {
-            let [_, left, right, _] = self.nodes[old as usize];
+            let [left, right] = [0, 1].map(|side| self.nodes[old as usize].link(side));
             let child = self.allocate();
             if splitter >> level & 1 == 0 {
-                self.nodes[new as usize] = [1, child, right, 0];
-                if right != NONE {
-                    self.retain(right);
-                }
+                self.nodes[new as usize] = N::inner(child, right);
+                self.retain(right);
                 old = left;
             } else {
-                self.nodes[new as usize] = [1, left, child, 0];
+                self.nodes[new as usize] = N::inner(left, child);
                 self.retain(left);
                 old = right;
             }
             new = child;
         }
-        self.nodes[new as usize] = [1, NONE, NONE, value];
+        self.nodes[new as usize] = N::leaf(value);
         first
     }
 
     fn allocate(&mut self) -> u32 {
         let node = self.head.free;
-        self.head.free = self.nodes[node as usize][LEFT];
+        self.head.free = self.nodes[node as usize].next_free();
         self.free_nodes -= 1;
         node
     }
 
+    /// No link, no change.
     fn retain(&mut self, node: u32) {
-        self.nodes[node as usize][HOLDERS] += 1;
+        if let Some(cell) = self.nodes.get_mut(node as usize) {
+            *cell.holders_mut() += 1;
+        }
     }
 
-    /// At zero holders the node is freed, then its left link is released, then its right.
-    fn release(&mut self, node: u32) {
-        let cell = &mut self.nodes[node as usize];
-        cell[HOLDERS] -= 1;
-        if cell[HOLDERS] > 0 {
+    /// At zero holders the node, of this level, is freed, then its left link is released, then its right. No link, no change.
+    fn release(&mut self, node: u32, level: u32) {
+        let Some(cell) = self.nodes.get_mut(node as usize) else {
+            return;
+        };
+        *cell.holders_mut() -= 1;
+        if cell.holders() > 0 {
             return;
         }
-        let [_, left, right, _] = *cell;
-        *cell = [0, self.head.free, 0, 0];
+        let freed = *cell;
+        *cell = N::free(self.head.free);
         self.head.free = node;
         self.free_nodes += 1;
-        if left != NONE {
-            self.release(left);
-        }
-        if right != NONE {
-            self.release(right);
+        if level > 0 {
+            self.release(freed.link(0), level - 1);
+            self.release(freed.link(1), level - 1);
         }
     }
 }
@@ -973,16 +1011,21 @@ impl<'a, B: Beside> Engine<'a, B> {
 /// recorded node; these words are zero afterwards.
 #[inline(always)]
 pub fn sound(state: &State, pool: &[u32], work: &mut [u32]) -> Option<u32> {
+    sound_of::<Node>(state, pool, work)
+}
+
+#[inline(always)]
+pub fn sound_of<N: Layout>(state: &State, pool: &[u32], work: &mut [u32]) -> Option<u32> {
     let marks = &mut work[..state.nodes as usize];
     marks.fill(0);
-    let free_nodes = judge(state, pool, marks);
+    let free_nodes = judge::<N>(state, pool, marks);
     marks.fill(0);
     free_nodes
 }
 
 #[inline(always)]
-fn judge(state: &State, pool: &[u32], marks: &mut [u32]) -> Option<u32> {
-    let (nodes, _) = pool.as_chunks::<4>();
+fn judge<N: Layout>(state: &State, pool: &[u32], marks: &mut [u32]) -> Option<u32> {
+    let nodes = N::nodes(pool);
     if !numbers_sound(state, nodes.len()) || !frames_sound(state) {
         return None;
     }
@@ -992,7 +1035,7 @@ fn judge(state: &State, pool: &[u32], marks: &mut [u32]) -> Option<u32> {
     let counts_right = marks
         .iter()
         .zip(nodes)
-        .all(|(mark, node)| mark & LINKS == node[HOLDERS]);
+        .all(|(mark, node)| mark & LINKS == node.holders());
     let sound = counts_right && free_chain_sound(state.free, free_nodes, nodes);
     sound.then_some(free_nodes)
 }
@@ -1123,7 +1166,7 @@ fn vacant_chain_sound(state: &State) -> bool {
 const LINKS: u32 = 0xFFFF;
 
 /// Walks the trees of all live frames, each node once: the number of nodes reached.
-fn walk_trees(state: &State, nodes: &[Node], marks: &mut [u32]) -> Option<u32> {
+fn walk_trees<N: Layout>(state: &State, nodes: &[N], marks: &mut [u32]) -> Option<u32> {
     let mut walk = Walk {
         nodes,
         marks,
@@ -1138,15 +1181,15 @@ fn walk_trees(state: &State, nodes: &[Node], marks: &mut [u32]) -> Option<u32> {
         .then_some(walk.reached)
 }
 
-struct Walk<'a> {
-    nodes: &'a [Node],
+struct Walk<'a, N> {
+    nodes: &'a [N],
     marks: &'a mut [u32],
     reached: u32,
 }
 
-impl Walk<'_> {
-    /// A tree of this level with so many leaves stands at `node`. No tree has two levels or two numbers of leaves, so a node met
-    /// again must be met as before, and need not be walked again.
+impl<N: Layout> Walk<'_, N> {
+    /// A tree of this level with so many leaves stands at `node`. No node may be reached on two levels, and no tree of a level has two
+    /// numbers of leaves, so a node met again must be met as before, and need not be walked again.
     fn visit(&mut self, node: u32, level: u32, leaves: u32) -> bool {
         let Some(mark) = self.marks.get_mut(node as usize) else {
             return false;
@@ -1158,28 +1201,28 @@ impl Walk<'_> {
         }
         *mark = standing | 1;
         self.reached += 1;
-        let [_, left, right, value] = self.nodes[node as usize];
+        let node = &self.nodes[node as usize];
         if level == 0 {
-            return left == NONE && right == NONE;
+            return node.may_be_leaf();
         }
         let half = 1 << (level - 1);
-        value == 0
-            && self.visit(left, level - 1, leaves.min(half))
+        node.may_be_inner()
+            && self.visit(node.link(0), level - 1, leaves.min(half))
             && if leaves > half {
-                self.visit(right, level - 1, leaves - half)
+                self.visit(node.link(1), level - 1, leaves - half)
             } else {
-                right == NONE
+                node.link(1) == N::NO_LINK
             }
     }
 }
 
 /// A chain that ends after as many steps as there are free nodes, through free nodes only, holds each of them once. The reference counts
 /// are known to be right, so a node without holders was not reached.
-fn free_chain_sound(first: u32, free_nodes: u32, nodes: &[Node]) -> bool {
+fn free_chain_sound<N: Layout>(first: u32, free_nodes: u32, nodes: &[N]) -> bool {
     let mut next = first;
     for _ in 0..free_nodes {
         match nodes.get(next as usize) {
-            Some(&[0, link, 0, 0]) => next = link,
+            Some(node) if node.holders() == 0 && node.may_be_free() => next = node.next_free(),
             _ => return false,
         }
     }

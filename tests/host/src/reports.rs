@@ -3,8 +3,10 @@
 
 use crate::call::{Call, Entry, Outcome, Reporting, BAD_STATE, CLOCK_WORDS, REPORT_WORDS};
 use crate::clocks::{self, Machine, Name, Own, Start, Steps};
+use crate::layouts::Older;
 use crate::plain::{
-    self, Refusal, State, FOLD, MAX_PLACES, READ, RECORD_BYTES, RETURN, SPAWN, STEAL, SYNC, WRITE,
+    self, Refusal, State, FOLD, MAX_PLACES, NODE_WORDS, READ, RECORD_BYTES, RETURN, SPAWN, STEAL,
+    SYNC, WRITE,
 };
 use crate::random::Random;
 use crate::runs;
@@ -149,6 +151,7 @@ fn compare(call: &Call, session: &mut Session, counts: &mut Counts) -> Result<Co
         return Err("no report".to_string());
     };
     let after = session.both(call)?;
+    Older::new().compare(call, &after, &mut session.layouts)?;
     counts.count(asked, &after);
     if !matches!(after.result[0], 0 | NO_SPAN) {
         check_left(call, &after)?;
@@ -219,7 +222,7 @@ fn by_names(call: &Call, asked: &Reporting, after: &Outcome) -> Result<Machine, 
     let mut machine = Machine::start(Start {
         workers: asked.workers,
         values: &asked.values,
-        nodes: call.pool.len() / 4,
+        nodes: call.pool.len() / NODE_WORDS,
         places: call.state.places(),
     });
     let (records, _) = asked.bytes.as_chunks::<RECORD_BYTES>();
@@ -275,7 +278,7 @@ fn drawn(random: &Random) -> Call {
             .flat_map(|word| word.to_le_bytes())
             .collect(),
     };
-    let nodes = start.pool.len() / 4;
+    let nodes = start.pool.len() / NODE_WORDS;
     asking(start, (workers, values), nodes, bytes, random)
 }
 
@@ -335,7 +338,7 @@ fn tape(state: State, pool: Vec<u32>, random: &Random) -> Vec<u8> {
 /// Something is refused: one of the conditions, or several.
 fn spoil(call: &mut Call, random: &Random) {
     loop {
-        let nodes = call.pool.len() / 4;
+        let nodes = call.pool.len() / NODE_WORDS;
         let Entry::Report(asked) = &mut call.entry else {
             return;
         };
@@ -355,9 +358,11 @@ fn spoil(call: &mut Call, random: &Random) {
                 call.state.resize_table(random.pick(&[0, 257, 300]), random);
                 asked.clocks.resize(CLOCK_WORDS * call.state.places(), 7);
             }
-            6 => call.pool.truncate(
-                random.below(4 * plain::tree_nodes(asked.values.len().max(1) as u32) as usize),
-            ),
+            6 => {
+                call.pool.truncate(random.below(
+                    NODE_WORDS * plain::tree_nodes(asked.values.len().max(1) as u32) as usize,
+                ))
+            }
             7 => asked.bytes.extend(vec![7; 1 + random.below(7)]),
             8 => asked
                 .answers
@@ -488,7 +493,7 @@ fn schedule(program: &Program, splitters: u32, random: &Random) -> Call {
     let (workers, values) = (1 + random.word_below(8), random.words(splitters as usize));
     let start = Call {
         state: crate::parts::Parts::garbage(places, random),
-        pool: random.words(4 * nodes + random.below(4)),
+        pool: random.words(NODE_WORDS * nodes + random.below(NODE_WORDS)),
         work: Vec::new(),
         entry: Entry::Step([0; 4]),
     };

@@ -3,8 +3,9 @@
 use crate::base;
 use crate::call::{Call, Entry, Outcome};
 use crate::family::Family;
+use crate::layouts::Older;
 use crate::parts::Parts;
-use crate::plain::{self, Refusal, State, MAX_NODES, MAX_PLACES, RECORD_BYTES, WRITE};
+use crate::plain::{self, Refusal, State, MAX_NODES, MAX_PLACES, NODE_WORDS, RECORD_BYTES, WRITE};
 use crate::random::Random;
 use crate::replay;
 use crate::sentences;
@@ -120,7 +121,7 @@ pub fn starting_wide(random: &Random) -> Call {
     let places = wide_places(random);
     let path = plain::height(splitters as u32) as usize + 1;
     let nodes = plain::tree_nodes(splitters as u32) as usize + random.below(places + 6) * path;
-    let pool_words = 4 * nodes + random.below(4);
+    let pool_words = NODE_WORDS * nodes + random.below(NODE_WORDS);
     Call {
         state: Parts::garbage(places, random),
         pool: random.words(pool_words),
@@ -154,7 +155,7 @@ pub fn starting_tight(large: bool, random: &Random) -> Call {
         let paths = random.pick(&[0, 1, 2, 3, 3, 3, 3, 3]) * path(n) + random.below(path(n) + 1);
         (n as usize, plain::tree_nodes(n) as usize + paths)
     };
-    let pool_words = 4 * nodes + random.below(4);
+    let pool_words = NODE_WORDS * nodes + random.below(NODE_WORDS);
     Call {
         state: Parts::garbage(wide_places(random), random),
         pool: random.words(pool_words),
@@ -184,7 +185,7 @@ pub fn starting(random: &Random) -> Call {
         _ => base::any_places(random),
     };
     let nodes = nodes_for(splitters, random);
-    let pool_words = 4 * nodes + random.below(4);
+    let pool_words = NODE_WORDS * nodes + random.below(NODE_WORDS);
     let mut state = Parts::garbage(places, random);
     if random.one_in(20) {
         state.spoil_length(random);
@@ -216,6 +217,7 @@ fn nodes_for(splitters: usize, random: &Random) -> usize {
 struct Run {
     state: Parts,
     pool: Vec<u32>,
+    older: Older,
     family: Family,
     driver: Driver,
     random: Random,
@@ -225,9 +227,12 @@ impl Run {
     /// None if the start was refused.
     fn begin(call: Call, random: Random, session: &mut Session) -> Result<Option<Run>, Failure> {
         let after = session.both(&call)?;
+        let mut older = Older::new();
+        older.compare(&call, &after, &mut session.layouts)?;
         let run = Run {
             state: after.state,
             pool: after.pool,
+            older,
             family: Family::of_main(),
             driver: Driver::new(12, 30),
             random,
@@ -250,6 +255,7 @@ impl Run {
     /// Makes the call on both sides and takes over what it left. The cases are those of its writes.
     fn make(&mut self, call: &Call, cases: &[Case], session: &mut Session) -> Result<(), Failure> {
         let after = session.both(call)?;
+        self.older.compare(call, &after, &mut session.layouts)?;
         if matches!(after.result[0], 0 | POOL_FULL | WRITTEN) {
             cases.iter().for_each(|case| session.sharing.add(case));
         }
@@ -314,7 +320,7 @@ impl Run {
     fn vary_pool(&mut self) {
         if self.random.one_in(12) {
             let more = self.random.below(10);
-            self.pool.truncate(4 * self.nodes());
+            self.pool.truncate(NODE_WORDS * self.nodes());
             self.pool.extend(self.random.words(more));
         }
     }
@@ -381,7 +387,7 @@ impl Run {
             0 => call.state.spoil_length(random),
             5 => call.state.spoil_table(random),
             1 => call.work.truncate(random.below(nodes)),
-            2 => call.pool.truncate(random.below(4 * nodes)),
+            2 => call.pool.truncate(random.below(NODE_WORDS * nodes)),
             _ => {
                 if let Entry::Tape { bytes, answers } = &mut call.entry {
                     if random.one_in(2) {

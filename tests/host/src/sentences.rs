@@ -1,4 +1,4 @@
-//! Document 01's "Soundness", with what of document 02 ask, sentence by sentence, over the words of a state, a table
+//! Document 01's "Soundness", with what of document 02 ask, sentence by sentence, over the words of a state, a table
 //! and a pool: for clarity, not for speed. It shares nothing with plain.rs. Every sentence can be asked of every state, so that one can tell which
 //! ones are broken.
 
@@ -19,7 +19,7 @@ pub struct Sentence {
     holds: fn(&Pair) -> bool,
 }
 
-pub const SENTENCES: [Sentence; 24] = [
+pub const SENTENCES: [Sentence; 25] = [
     Sentence {
         text: "workers are 1 to 8",
         holds: workers_are_1_to_8,
@@ -93,6 +93,10 @@ pub const SENTENCES: [Sentence; 24] = [
         holds: walks_give_trees,
     },
     Sentence {
+        text: "no node is reached on two levels",
+        holds: no_node_on_two_levels,
+    },
+    Sentence {
         text: "nodes reached have right holders",
         holds: holders_are_right,
     },
@@ -139,11 +143,21 @@ struct Frame {
     next_younger: u32,
 }
 
+/// "A node becomes two words: holders, then .." what its level tells.
 struct Node {
     holders: u32,
-    left: u32,
-    right: u32,
-    value: u32,
+    second: u32,
+}
+
+impl Node {
+    /// "left plus 65,536 times right for inner nodes with 65,535 for none"
+    fn left(&self) -> Option<u32> {
+        Some(self.second % 65_536).filter(|&left| left != 65_535)
+    }
+
+    fn right(&self) -> Option<u32> {
+        Some(self.second / 65_536).filter(|&right| right != 65_535)
+    }
 }
 
 /// A state and a pool, read into records, and what walking from the live frames gives.
@@ -168,7 +182,8 @@ struct Pair {
     /// The lent pool's whole nodes.
     nodes: Vec<Node>,
     shaped: bool,
-    reached: HashSet<u32>,
+    /// The nodes reached, with the levels on which they are.
+    reached: HashMap<u32, HashSet<u32>>,
 }
 
 impl Pair {
@@ -192,7 +207,7 @@ impl Pair {
             frames: read_frames(&state.frames, numbers[9] as usize),
             nodes: read_nodes(pool),
             shaped: true,
-            reached: HashSet::new(),
+            reached: HashMap::new(),
         };
         if pair.numbers_are_right() {
             pair.walk_from_live_frames();
@@ -230,10 +245,11 @@ impl Pair {
     }
 
     fn walk_from_live_frames(&mut self) {
-        let mut reached = HashSet::new();
+        let mut reached = HashMap::new();
         let mut shaped = true;
         for (_, frame) in self.live_frames() {
-            shaped &= walk(self, frame.root, height(self.splitters), 0, &mut reached);
+            let root = Some(frame.root);
+            shaped &= walk(self, root, height(self.splitters), 0, &mut reached);
         }
         self.shaped = shaped;
         self.reached = reached;
@@ -259,11 +275,9 @@ fn read_frames(words: &[u32], recorded: usize) -> Vec<Frame> {
 fn read_nodes(words: &[u32]) -> Vec<Node> {
     let read = |node: &[u32]| Node {
         holders: node[0],
-        left: node[1],
-        right: node[2],
-        value: node[3],
+        second: node[1],
     };
-    words.chunks_exact(4).map(read).collect()
+    words.chunks_exact(2).map(read).collect()
 }
 
 /// "H is the least number with 2^H at least n."
@@ -283,21 +297,27 @@ fn tree_nodes(n: u32) -> u32 {
 
 /// Walks to every position of the tree that is under this one; whether the shape is right. A position is a level and a group, and its
 /// left and right positions are the groups 2g and 2g + 1 one level below, where these exist.
-fn walk(pair: &Pair, number: u32, level: u32, group: u32, reached: &mut HashSet<u32>) -> bool {
-    let Some(node) = pair.node(number) else {
+fn walk(
+    pair: &Pair,
+    link: Option<u32>,
+    level: u32,
+    group: u32,
+    reached: &mut HashMap<u32, HashSet<u32>>,
+) -> bool {
+    let Some((number, node)) = link.and_then(|number| Some((number, pair.node(number)?))) else {
         return false;
     };
-    reached.insert(number);
+    reached.entry(number).or_default().insert(level);
     if level == 0 {
-        return node.left == NONE && node.right == NONE;
+        return true; // any value
     }
-    let left = walk(pair, node.left, level - 1, 2 * group, reached);
+    let left = walk(pair, node.left(), level - 1, 2 * group, reached);
     let right = if 2 * group + 1 < width(pair.splitters, level - 1) {
-        walk(pair, node.right, level - 1, 2 * group + 1, reached)
+        walk(pair, node.right(), level - 1, 2 * group + 1, reached)
     } else {
-        node.right == NONE
+        node.right().is_none()
     };
-    node.value == 0 && left && right
+    left && right
 }
 
 /// "Workers are 1 to 8"
@@ -447,7 +467,12 @@ fn walks_give_trees(pair: &Pair) -> bool {
     !pair.numbers_are_right() || pair.shaped
 }
 
-/// "nodes reached have right holders": holders counts links from nodes in use and from live frames.
+/// "soundness asks that no node is reached on two levels" (document 02, R-8)
+fn no_node_on_two_levels(pair: &Pair) -> bool {
+    pair.reached.values().all(|levels| levels.len() == 1)
+}
+
+/// "nodes reached have right holders": holders counts links from nodes in use, the inner ones, and from live frames.
 fn holders_are_right(pair: &Pair) -> bool {
     if !pair.numbers_are_right() {
         return true;
@@ -456,31 +481,33 @@ fn holders_are_right(pair: &Pair) -> bool {
     for (_, frame) in pair.live_frames() {
         *links.entry(frame.root).or_default() += 1;
     }
-    for &number in &pair.reached {
-        if let Some(node) = pair.node(number) {
-            *links.entry(node.left).or_default() += 1;
-            *links.entry(node.right).or_default() += 1;
+    for (&number, levels) in &pair.reached {
+        let inner = levels.iter().any(|&level| level > 0);
+        if let Some(node) = pair.node(number).filter(|_| inner) {
+            for link in [node.left(), node.right()].into_iter().flatten() {
+                *links.entry(link).or_default() += 1;
+            }
         }
     }
-    pair.reached.iter().all(|number| {
+    pair.reached.keys().all(|number| {
         pair.node(*number)
             .is_some_and(|node| links.get(number) == Some(&node.holders))
     })
 }
 
-/// "all others are free and lie once on the free chain." A free node holds 0, the next free node or none, 0, 0.
+/// "all others are free and lie once on the free chain." A free node holds 0, then "the next free node or none".
 fn other_nodes_are_free(pair: &Pair) -> bool {
     if !pair.numbers_are_right() {
         return true;
     }
     let others: HashSet<u32> = (0..pair.recorded_nodes)
-        .filter(|number| !pair.reached.contains(number))
+        .filter(|number| !pair.reached.contains_key(number))
         .collect();
-    let is_free = |node: &Node| node.holders == 0 && node.right == 0 && node.value == 0;
+    let is_free = |node: &Node| node.holders == 0;
     let all_free = others
         .iter()
         .all(|&number| pair.node(number).is_some_and(is_free));
-    let next = |number| pair.node(number).map(|node| node.left);
+    let next = |number| pair.node(number).map(|node| node.second);
     all_free && chained_once(pair.first_free_node, next) == Some(others)
 }
 

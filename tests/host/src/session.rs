@@ -2,6 +2,7 @@
 
 use crate::call::{Call, Entry, Outcome};
 use crate::family;
+use crate::layouts;
 use crate::plain::{Refusal, RECORD_BYTES};
 use crate::record::Recorder;
 use crate::sharing::Sharing;
@@ -23,6 +24,7 @@ pub struct Session {
     pub waits: Waits,
     pub tables: Tables,
     pub families: family::Counts,
+    pub layouts: layouts::Counts,
     pub calls: u64,
     pub records: u64,
 }
@@ -37,6 +39,7 @@ impl Session {
             waits: Waits::default(),
             tables: Tables::default(),
             families: family::Counts::default(),
+            layouts: layouts::Counts::default(),
             calls: 0,
             records: 0,
         }

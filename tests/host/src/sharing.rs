@@ -1,7 +1,7 @@
 //! R-2's cases: how much of its path a write finds shared, and how many nodes are free then. Counted are the writes that come as far as
 //! refusal 16.
 
-use crate::plain::{self, State, HOLDERS, LEFT, VALUE, WRITE};
+use crate::plain::{self, Layout, State, WRITE};
 use crate::steps::StepWords;
 use std::collections::BTreeMap;
 
@@ -59,7 +59,7 @@ impl Case {
 pub fn rest(state: &State, pool: &[u32], frame: u32, splitter: u32) -> u32 {
     let height = plain::height(state.splitters);
     let path = path(state, pool, frame, splitter);
-    let own = path.iter().take_while(|node| node[HOLDERS] == 1).count();
+    let own = path.iter().take_while(|node| node.holders() == 1).count();
     height + 1 - own as u32
 }
 
@@ -67,16 +67,16 @@ pub fn rest(state: &State, pool: &[u32], frame: u32, splitter: u32) -> u32 {
 pub fn value(state: &State, pool: &[u32], frame: u32, splitter: u32) -> u32 {
     path(state, pool, frame, splitter)
         .last()
-        .map_or(0, |leaf| leaf[VALUE])
+        .map_or(0, |leaf| leaf.value())
 }
 
 /// The nodes from the root to the leaf, in a sound pair.
 fn path(state: &State, pool: &[u32], frame: u32, splitter: u32) -> Vec<plain::Node> {
-    let (nodes, _) = pool.as_chunks::<4>();
+    let nodes = plain::Node::nodes(pool);
     let mut node = nodes[state.frames[frame as usize].root as usize];
     let mut path = vec![node];
     for level in (0..plain::height(state.splitters)).rev() {
-        node = nodes[node[LEFT + (splitter >> level & 1) as usize] as usize];
+        node = nodes[node.link(splitter >> level & 1) as usize];
         path.push(node);
     }
     path

@@ -4,9 +4,10 @@ use crate::base;
 use crate::call::{Call, Entry, Outcome};
 use crate::corrupt::words::TURNS;
 use crate::corrupt::{self, Expected, Pair, KINDS};
+use crate::layouts::Older;
 use crate::order;
 use crate::parts::Parts;
-use crate::plain::{Refusal, State, NONE, RETURN, SPAWN, WRITE};
+use crate::plain::{Refusal, State, NODE_WORDS, NONE, RETURN, SPAWN, WRITE};
 use crate::random::Random;
 use crate::replay;
 use crate::sentences::{self, SENTENCES};
@@ -136,7 +137,7 @@ fn judge(
 
 /// An empty tape asks for nothing but the check.
 fn asking(pair: &Pair, random: &Random) -> Call {
-    let held = pair.pool.len() / 4;
+    let held = pair.pool.len() / NODE_WORDS;
     let recorded = pair.state.nodes as usize;
     let work = if recorded > 20_000 {
         held
@@ -221,6 +222,8 @@ fn go_on(
         ..call
     };
     let after = session.both(&step)?;
+    let mut older = Older::of(&pair.state, &pair.pool)?;
+    older.compare(&step, &after, &mut session.layouts)?;
     let broken = sentences::broken(&after.state, &after.pool);
     expect(broken.is_empty(), "a step left an unsound state")?;
     let mut ordered = Ok(());

@@ -94,11 +94,22 @@ pub fn plausible(state: &State, kind: u32, random: &Random) -> StepWords {
         _ => 0,
     };
     let value = match kind {
+        WRITE if random.one_in(3) => like_links(state.nodes, random),
         WRITE => random.word() >> random.word_below(32),
         FOLD => folded_value(field, random),
         _ => 0,
     };
     [kind, worker, field, value]
+}
+
+/// A value that would be links of an inner node, of a pool of so many nodes, or a little beside such.
+pub fn like_links(nodes: u32, random: &Random) -> u32 {
+    let link = || match random.below(6) {
+        0 => 65_535,
+        1 => nodes,
+        _ => random.word_below(nodes.max(1)),
+    };
+    link() % 65_536 + link() % 65_536 * 65_536
 }
 
 /// A fold by the worker. A map that multiplies by an even number loses what was before it, bit by bit, so most multipliers are odd.

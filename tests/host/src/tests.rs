@@ -1,4 +1,4 @@
-//! Document 01's example and edges, as change them, and R-7's, through plain.rs and the library, and the sentences on
+//! Document 01's example and edges, as change them, and R-7's, through plain.rs and the library, and the sentences on
 //! states corrupted by hand.
 
 mod reducers;
@@ -7,6 +7,7 @@ mod tables;
 mod waiting;
 
 use crate::call::{Call, Entry, Outcome, BAD_STATE};
+use crate::layouts::{self, Older};
 use crate::parts::{Parts, LENGTHS};
 use crate::plain::{self, State, NONE, READ, RETURN, SPAWN, STEAL, SYNC, WRITE};
 use crate::random::Random;
@@ -16,7 +17,7 @@ use crate::steps;
 /// Places of the table in most tests.
 const PLACES: usize = 64;
 
-/// A start and one tape, by both, with the same outcome: the tape's call and what it left.
+/// A start and one tape, by both and in both layouts, with the same outcome: the tape's call and what it left.
 fn run(workers: u32, values: &[u32], nodes: usize, entries: &[[u32; 4]]) -> (Call, Outcome) {
     run_in(PLACES, workers, values, nodes, entries)
 }
@@ -31,6 +32,8 @@ fn run_in(
 ) -> (Call, Outcome) {
     let start = starting_in(places, workers, values, nodes);
     let begun = both(&start);
+    let (mut older, mut counts) = (Older::new(), layouts::Counts::default());
+    assert_eq!(older.compare(&start, &begun, &mut counts), Ok(()));
     if begun.result[0] != 0 {
         return (start, begun);
     }
@@ -44,13 +47,14 @@ fn run_in(
         },
     };
     let ended = both(&tape);
+    assert_eq!(older.compare(&tape, &ended, &mut counts), Ok(()));
     (tape, ended)
 }
 
 fn starting_in(places: usize, workers: u32, values: &[u32], nodes: usize) -> Call {
     Call {
         state: Parts::garbage(places, &Random::new(7)),
-        pool: vec![7; 4 * nodes],
+        pool: vec![7; 2 * nodes],
         work: Vec::new(),
         entry: Entry::Start {
             workers,
@@ -309,9 +313,17 @@ fn rests_of_the_path() {
     }
 }
 
-/// The nodes of a call's end, four words each.
+/// The nodes of a call's end, two words each.
 fn nodes(after: &Outcome) -> &[plain::Node] {
     after.pool.as_chunks().0
+}
+
+/// A link to no node.
+const NO_LINK: u32 = 65_535;
+
+/// An inner node; leaves and free nodes are told by their two words.
+const fn inner(holders: u32, left: u32, right: u32) -> plain::Node {
+    [holders, left + 65_536 * right]
 }
 
 /// Level by level the first tree is 0; 1, 2; 3, 4, 5; 6 to 10, and 11 to 19 are free. The child's first write takes 11 to 14, root first; that
@@ -330,31 +342,59 @@ fn nodes_of_a_child() {
     let expected = [[101, 1], [106, 5], [106, 4], [106, 1], [16, 0], [106, 1]];
     assert_eq!(after.answers.as_chunks().0, expected);
     let expected = [
+        [1, 131_073],
+        [1, 262_147],
+        [1, 4_294_901_765],
+        inner(1, 6, 7),
+        inner(2, 8, 9),
+        inner(1, 10, NO_LINK),
+        [1, 10],
+        [1, 20],
+        [1, 30],
+        [1, 40],
+        [1, 50],
+        inner(1, 12, 16),
+        inner(1, 13, 4),
+        inner(1, 14, 15),
+        [1, 95],
+        [1, 98],
+        inner(1, 17, NO_LINK),
+        inner(1, 18, NO_LINK),
+        [1, 97],
+        [0, NONE],
+    ];
+    assert_eq!(nodes(&after), expected);
+    let state = after.state.state().expect("a whole state");
+    assert_eq!([state.frames[0].root, state.frames[1].root], [0, 11]);
+    assert_eq!(state.free, 19);
+}
+
+/// "unpacking the new pool gives the old one node for node", by hand: the same nodes in four words.
+#[test]
+fn unpacked() {
+    let entries = [[SPAWN, 0, 0, 0], [WRITE, 0, 4, 131_073]];
+    let (_, after) = run(1, &FIVE, 16, &entries);
+    let state = after.state.state().expect("a whole state");
+    let expected = [
         [1, 1, 2, 0],
-        [1, 3, 4, 0],
+        [2, 3, 4, 0],
         [1, 5, NONE, 0],
         [1, 6, 7, 0],
-        [2, 8, 9, 0],
+        [1, 8, 9, 0],
         [1, 10, NONE, 0],
         [1, NONE, NONE, 10],
         [1, NONE, NONE, 20],
         [1, NONE, NONE, 30],
         [1, NONE, NONE, 40],
         [1, NONE, NONE, 50],
-        [1, 12, 16, 0],
-        [1, 13, 4, 0],
-        [1, 14, 15, 0],
-        [1, NONE, NONE, 95],
-        [1, NONE, NONE, 98],
-        [1, 17, NONE, 0],
-        [1, 18, NONE, 0],
-        [1, NONE, NONE, 97],
+        [1, 1, 12, 0],
+        [1, 13, NONE, 0],
+        [1, 14, NONE, 0],
+        [1, NONE, NONE, 131_073],
         [0, NONE, 0, 0],
     ];
-    assert_eq!(nodes(&after), expected);
-    let state = after.state.state().expect("a whole state");
-    assert_eq!([state.frames[0].root, state.frames[1].root], [0, 11]);
-    assert_eq!(state.free, 19);
+    let unpacked = layouts::unpack(&state, &after.pool).expect("a sound pool");
+    assert_eq!(unpacked, expected.as_flattened());
 }
 
 /// Refused by 16 a write changes nothing; after a return it is accepted.
@@ -415,8 +455,8 @@ fn broken(change: fn(&mut Parts, &mut [u32])) -> Vec<&'static str> {
 const DEQUE_1: usize = 257;
 const FRAME_0: usize = 0;
 const FRAME_1: usize = 12;
-const NODE_3: usize = 12;
-const NODE_7: usize = 28;
+const NODE_3: usize = 6;
+const NODE_7: usize = 14;
 
 #[test]
 fn corrupted_numbers() {
@@ -469,25 +509,86 @@ fn corrupted_frames() {
 fn corrupted_trees() {
     let alone = |text, change| assert_eq!(broken(change), [text]);
     let shape = "walking from each live frame gives a tree of the shape";
-    alone(shape, |_, pool| pool[3] = 1);
+    // node 5 has leaf 10 and none on the right
+    assert!(broken(|_, pool| pool[2 * 5 + 1] = 10).contains(&shape));
+    alone(shape, |_, pool| pool[2 * 5 + 1] = 10 + 65_536 * 20);
+    alone(shape, |_, pool| pool[2 * 5 + 1] = 10 + 65_536 * 65_534);
     alone("nodes reached have right holders", |_, pool| pool[0] = 2);
     let free = "all other nodes are free and once on the free chain";
-    alone(free, |_, pool| pool[4 * 19 + 3] = 1);
-    alone(free, |_, pool| pool[4 * 19 + 1] = 11);
+    alone(free, |_, pool| pool[2 * 19] = 1);
+    alone(free, |_, pool| pool[2 * 19 + 1] = 11);
+    alone(free, |_, pool| pool[2 * 19 + 1] = 65_535);
+    alone(free, |_, pool| pool[2 * 18 + 1] = 65_535 * 65_536 + 19);
     alone(free, |state, _| state.numbers[3] = 12);
-    assert!(broken(|_, pool| pool[NODE_3 + 2] = 0).contains(&shape));
+    assert!(broken(|_, pool| pool[NODE_3 + 1] = 6 + 65_536 * 65_535).contains(&shape));
+    assert!(broken(|_, pool| pool[NODE_3 + 1] = 65_535 + 65_536 * 7).contains(&shape));
+    assert!(broken(|_, pool| pool[NODE_3 + 1] = 20 + 65_536 * 7).contains(&shape));
+    assert!(broken(|_, pool| pool[NODE_3 + 1] = NONE).contains(&shape));
 }
 
 /// Nodes 6 and 7 are the leaves under node 3. One of them may stand in both places, and the other is free then.
 #[test]
 fn leaf_in_two_places() {
     let share = |state: &mut Parts, pool: &mut [u32]| {
-        pool[NODE_3 + 2] = 6;
-        pool[4 * 6] = 2;
-        pool[NODE_7..NODE_7 + 4].copy_from_slice(&[0, 11, 0, 0]);
+        pool[NODE_3 + 1] = 6 + 65_536 * 6;
+        pool[2 * 6] = 2;
+        pool[NODE_7..NODE_7 + 2].copy_from_slice(&[0, 11]);
         state.numbers[3] = 7;
     };
     assert!(broken(share).is_empty());
+}
+
+const TWO_LEVELS: &str = "no node is reached on two levels";
+
+/// Leaf 10 gets the links of node 5, to itself and to none, and stands in its place: all else is right.
+#[test]
+fn leaf_as_inner_node() {
+    let stand = |state: &mut Parts, pool: &mut [u32]| {
+        pool[2 * 2 + 1] = 10 + 65_536 * 65_535;
+        pool[2 * 10..2 * 11].copy_from_slice(&[2, 10 + 65_536 * 65_535]);
+        pool[2 * 5..2 * 6].copy_from_slice(&[0, 11]);
+        state.numbers[3] = 5;
+    };
+    assert_eq!(broken(stand), [TWO_LEVELS]);
+}
+
+/// Node 4 stands in the place of leaf 7 too, and 7 is free.
+#[test]
+fn inner_node_as_leaf() {
+    let stand = |state: &mut Parts, pool: &mut [u32]| {
+        pool[NODE_3 + 1] = 6 + 65_536 * 4;
+        pool[2 * 4] = 2;
+        pool[NODE_7..NODE_7 + 2].copy_from_slice(&[0, 11]);
+        state.numbers[3] = 7;
+    };
+    assert_eq!(broken(stand), [TWO_LEVELS]);
+}
+
+/// A leaf's value may be any word, also one that would be links, to itself, to another node or to none.
+#[test]
+fn leaves_with_any_value() {
+    let values = [
+        0,
+        7,
+        10,
+        65_535,
+        655_370,
+        131_073,
+        4_294_901_770,
+        NONE - 1,
+        NONE,
+    ];
+    for value in values {
+        for leaf in 6..11 {
+            let (mut call, _) = run(2, &FIVE, 20, &[]);
+            call.pool[2 * leaf + 1] = value;
+            assert!(sentences::broken(&call.state, &call.pool).is_empty());
+            call.entry = Entry::Step([READ, 0, leaf as u32 - 6, 0]);
+            assert_eq!(both(&call).result, [105, value]);
+            call.entry = Entry::Step([RETURN, 0, 0, 0]);
+            assert_eq!(both(&call).result, [102, 3]);
+        }
+    }
 }
 
 /// A write by one frame alone, in a tree that has a node in two places: it is left as it is in the other place. The start is one of four
@@ -497,7 +598,7 @@ fn write_beside_itself() {
     let write = |links: &[(usize, plain::Node)], free: u32| {
         let (mut call, _) = run(1, &[10, 20, 30, 40], 9, &[]);
         for &(node, words) in links {
-            call.pool[4 * node..4 * node + 4].copy_from_slice(&words);
+            call.pool[2 * node..2 * node + 2].copy_from_slice(&words);
         }
         call.state.numbers[3] = free;
         call.entry = Entry::Step([WRITE, 0, 0, 99]);
@@ -505,36 +606,29 @@ fn write_beside_itself() {
         assert!(sentences::broken(&after.state, &after.pool).is_empty());
         after
     };
-    let leaf = [1, NONE, NONE, 10];
-    let after = write(
-        &[
-            (1, [1, 3, 3, 0]),
-            (3, [2, NONE, NONE, 10]),
-            (4, [0, 7, 0, 0]),
-        ],
-        4,
-    );
+    let leaf = [1, 10];
+    let after = write(&[(1, inner(1, 3, 3)), (3, [2, 10]), (4, [0, 7])], 4);
     assert_eq!(after.result, [106, 2]);
-    assert_eq!(nodes(&after)[1], [1, 4, 3, 0]);
-    assert_eq!(nodes(&after)[3..5], [leaf, [1, NONE, NONE, 99]]);
+    assert_eq!(nodes(&after)[1], inner(1, 4, 3));
+    assert_eq!(nodes(&after)[3..5], [leaf, [1, 99]]);
     let after = write(
         &[
-            (0, [1, 1, 1, 0]),
-            (1, [2, 3, 4, 0]),
-            (2, [0, 5, 0, 0]),
-            (5, [0, 6, 0, 0]),
-            (6, [0, 7, 0, 0]),
+            (0, inner(1, 1, 1)),
+            (1, inner(2, 3, 4)),
+            (2, [0, 5]),
+            (5, [0, 6]),
+            (6, [0, 7]),
         ],
         2,
     );
     assert_eq!(after.result, [106, 3]);
     let expected = [
-        [1, 2, 1, 0],
-        [1, 3, 4, 0],
-        [1, 5, 4, 0],
+        inner(1, 2, 1),
+        inner(1, 3, 4),
+        inner(1, 5, 4),
         leaf,
-        [2, NONE, NONE, 20],
-        [1, NONE, NONE, 99],
+        [2, 20],
+        [1, 99],
     ];
     assert_eq!(nodes(&after)[..6], expected);
 }
@@ -543,11 +637,11 @@ fn write_beside_itself() {
 #[test]
 fn node_of_another_size() {
     let share = |state: &mut Parts, pool: &mut [u32]| {
-        pool[4 + 2] = 5;
-        pool[4 * 5] = 2;
+        pool[2 + 1] = 3 + 65_536 * 5;
+        pool[2 * 5] = 2;
         let freed = [(4, 8), (8, 9), (9, 11)];
         for (node, next) in freed {
-            pool[4 * node..4 * node + 4].copy_from_slice(&[0, next, 0, 0]);
+            pool[2 * node..2 * node + 2].copy_from_slice(&[0, next]);
         }
         state.numbers[3] = 4;
     };

@@ -20,6 +20,8 @@ const USAGE: &str = "usage: compare [--runs N] [--reports N] [--corrupt N] [--im
 const GUARD: usize = 7;
 /// From so many on, every event, kind and sentence must have been met.
 const ENOUGH_RUNS: u64 = 1_000;
+/// And so many pools in both layouts.
+const ENOUGH_POOLS: u64 = 20_000;
 /// And from so many runs on, every case of a write at every n.
 const ENOUGH_WRITES: u64 = 4_000;
 const ENOUGH_REPORTS: u64 = 5_000;
@@ -99,10 +101,24 @@ fn compare(options: &Options) -> Result<(), Failure> {
     compare_reports(options, &mut session)?;
     compare_corrupted(options, &mut session)?;
     compare_images(options, &mut session)?;
+    in_both_layouts(options, &session)?;
     match session.recorder {
         Some(recorder) => recorder.finish().map_err(say),
         None => Ok(()),
     }
+}
+
+/// Every call of the runs, every report and every step from a sound corrupted pair was made in both layouts.
+fn in_both_layouts(options: &Options, session: &Session) -> Result<(), Failure> {
+    let layouts = &session.layouts;
+    println!(
+        "in both layouts: {} calls, {} pools of {} nodes unpacked",
+        layouts.calls, layouts.pools, layouts.nodes
+    );
+    if options.runs >= ENOUGH_RUNS && layouts.pools < ENOUGH_POOLS {
+        return Err("few pools in both layouts".to_string());
+    }
+    Ok(())
 }
 
 /// T(n) for every n that a start takes, and for some beyond.

@@ -2,7 +2,7 @@
 
 use super::trees::renumber;
 use super::Pair;
-use crate::plain::MAX_NODES;
+use crate::plain::{MAX_NODES, NODE_WORDS};
 use crate::random::Random;
 
 /// Enough for 257 splitters, were there such a tree.
@@ -45,7 +45,8 @@ fn record_nodes(pair: &mut Pair, nodes: usize) {
         numbers[old as usize] = new;
     }
     renumber(pair, &numbers);
-    pair.pool.resize((4 * nodes).max(pair.pool.len()), 0);
+    pair.pool
+        .resize((NODE_WORDS * nodes).max(pair.pool.len()), 0);
     pair.state.nodes = nodes as u32;
     let free: Vec<u32> = (used.len() as u32..nodes as u32).collect();
     pair.rechain(&free);

@@ -1,14 +1,22 @@
 //! Changes of nodes: links, reference counts, values, the free chain.
 
-use super::{Pair, Standing};
-use crate::plain::{self, HOLDERS, LEFT, NONE, RIGHT, VALUE};
+use super::{Pair, Standing, LEFT, NO_LINK, RIGHT, WORD};
+use crate::plain::{self, Layout, Node, HOLDERS, MAX_NODES, NONE};
 use crate::random::Random;
+use crate::steps;
 
 /// A link of an inner node, not none: whose, its side, and what stands there.
-fn some_link(pair: &Pair, random: &Random) -> Option<(u32, usize, Standing)> {
+fn some_link(pair: &Pair, random: &Random) -> Option<(Standing, u32, Standing)> {
     let from = random.some(&pair.inner())?;
     let side = random.pick(&[LEFT, RIGHT]);
-    Some((from.node, side, pair.below(from, side)?))
+    Some((from, side, pair.below(from, side)?))
+}
+
+/// An inner node with nothing on the right.
+fn some_single(pair: &Pair, random: &Random) -> Option<Standing> {
+    some_standing(pair, random, |&at| {
+        at.level > 0 && pair.below(at, RIGHT).is_none()
+    })
 }
 
 /// A node in use to which the test says yes.
@@ -26,16 +34,16 @@ pub fn links_swapped(pair: &mut Pair, random: &Random) -> Option<()> {
     let inner = pair.inner();
     let (a, b) = (random.some(&inner)?, random.some(&inner)?);
     let (side_a, side_b) = (random.pick(&[LEFT, RIGHT]), random.pick(&[LEFT, RIGHT]));
-    let (link_a, link_b) = (pair.node(a.node)[side_a], pair.node(b.node)[side_b]);
-    *pair.word(a.node, side_a) = link_b;
-    *pair.word(b.node, side_b) = link_a;
+    let (link_a, link_b) = (pair.link(a.node, side_a), pair.link(b.node, side_b));
+    pair.set_link(a.node, side_a, link_b);
+    pair.set_link(b.node, side_b, link_a);
     (link_a != link_b).then_some(())
 }
 
 pub fn free_chain_cycle(pair: &mut Pair, random: &Random) -> Option<()> {
     let chain = pair.chain();
     let from = (!chain.is_empty()).then(|| random.below(chain.len()))?;
-    *pair.word(chain[from], LEFT) = chain[random.below(from + 1)];
+    *pair.word(chain[from], WORD) = chain[random.below(from + 1)];
     Some(())
 }
 
@@ -44,11 +52,11 @@ pub fn tree_cycle(pair: &mut Pair, random: &Random) -> Option<()> {
     let height = plain::height(pair.state.splitters) as usize;
     let mut path = vec![pair.state.frames[random.some(&pair.live())?].root];
     for _ in 1..random.below(height.max(1)) + 1 {
-        path.push(pair.node(*path.last()?)[LEFT]);
+        path.push(pair.link(*path.last()?, LEFT));
     }
     let from = (height > 0).then(|| random.below(path.len()))?;
     let to = path[random.below(from + 1)];
-    *pair.word(path[from], random.pick(&[LEFT, RIGHT])) = to;
+    pair.set_link(path[from], random.pick(&[LEFT, RIGHT]), to);
     if random.one_in(2) {
         pair.retain(to);
     }
@@ -67,6 +75,14 @@ pub fn wrong_holders(pair: &mut Pair, random: &Random) -> Option<()> {
         _ => old + 1,
     };
     (*holders != old).then_some(())
+}
+
+/// Of a node in use.
+pub fn holders_off_by_one(pair: &mut Pair, random: &Random) -> Option<()> {
+    let node = random.some(&pair.standings())?.node;
+    let holders = pair.word(node, HOLDERS);
+    *holders = random.pick(&[*holders - 1, *holders + 1]);
+    Some(())
 }
 
 pub fn holders_moved(pair: &mut Pair, random: &Random) -> Option<()> {
@@ -103,46 +119,129 @@ pub fn node_shared(pair: &mut Pair, random: &Random) -> Option<()> {
     Some(())
 }
 
-pub fn inner_value(pair: &mut Pair, random: &Random) -> Option<()> {
-    let node = random.some(&pair.inner())?.node;
-    *pair.word(node, VALUE) = random.pick(&[1, NONE, 1 << 31, random.word() | 1]);
+/// A leaf gets the links of an inner node and stands in its place too: all is right but that it is reached on two levels.
+pub fn leaf_as_inner_node(pair: &mut Pair, random: &Random) -> Option<()> {
+    let (from, side, old) = some_link(pair, random)?;
+    let leaf = some_standing(pair, random, |at| at.level == 0)?.node;
+    if old.level == 0 {
+        return None;
+    }
+    let links = pair.node(old.node);
+    for link in [links.link(LEFT), links.link(RIGHT)] {
+        if link != NO_LINK {
+            pair.retain(link);
+        }
+    }
+    *pair.word(leaf, WORD) = links[WORD];
+    pair.relink(from, side, leaf);
+    Some(())
+}
+
+/// An inner node stands in a leaf's place too, its links as the value: all is right but that it is reached on two levels.
+pub fn inner_node_as_leaf(pair: &mut Pair, random: &Random) -> Option<()> {
+    let (from, side, old) = some_link(pair, random)?;
+    let inner = random.some(&pair.inner())?;
+    if old.level > 0 {
+        return None;
+    }
+    pair.relink(from, side, inner.node);
     Some(())
 }
 
 pub fn leaf_value(pair: &mut Pair, random: &Random) -> Option<()> {
     let leaf = some_standing(pair, random, |at| at.level == 0)?.node;
-    *pair.word(leaf, VALUE) = random.pick(&[0, NONE, random.word()]);
+    *pair.word(leaf, WORD) = random.pick(&[0, NONE, random.word()]);
     Some(())
 }
 
-pub fn leaf_with_link(pair: &mut Pair, random: &Random) -> Option<()> {
+/// A value that would be links, also to the leaf itself or to an inner node's own.
+pub fn leaf_value_as_links(pair: &mut Pair, random: &Random) -> Option<()> {
     let leaf = some_standing(pair, random, |at| at.level == 0)?.node;
-    let to = some_standing(pair, random, |at| at.node != leaf)?.node;
-    pair.relink(leaf, random.pick(&[LEFT, RIGHT]), to);
+    let value = match random.below(4) {
+        0 => Node::inner(leaf, random.pick(&[leaf, NO_LINK])).value(),
+        1 => pair.node(random.some(&pair.inner())?.node).value(),
+        _ => steps::like_links(pair.state.nodes, random),
+    };
+    *pair.word(leaf, WORD) = value;
     Some(())
 }
 
-pub fn link_missing(pair: &mut Pair, random: &Random) -> Option<()> {
+/// 65,535 on a side where a child is due, with all reference counts put right.
+fn link_missing(pair: &mut Pair, side: u32, random: &Random) -> Option<()> {
+    let from = random.some(&pair.inner())?;
+    pair.below(from, side)?;
+    pair.relink(from, side, NO_LINK);
+    Some(())
+}
+
+pub fn left_link_none(pair: &mut Pair, random: &Random) -> Option<()> {
+    link_missing(pair, LEFT, random)
+}
+
+pub fn right_link_none(pair: &mut Pair, random: &Random) -> Option<()> {
+    link_missing(pair, RIGHT, random)
+}
+
+/// A number that no node has, and that is not none.
+fn no_node(nodes: u32, random: &Random) -> u32 {
+    let past = nodes + random.word_below(NO_LINK - nodes);
+    random.pick(&[nodes, nodes + 1, MAX_NODES as u32, 32_768, 65_534, past])
+}
+
+/// A link past the recorded nodes where a child is due; the reference counts are put right, or not.
+pub fn link_past_the_nodes(pair: &mut Pair, random: &Random) -> Option<()> {
     let (from, side, _) = some_link(pair, random)?;
-    pair.relink(from, side, NONE);
+    let to = no_node(pair.state.nodes, random);
+    if random.one_in(2) {
+        pair.relink(from, side, NO_LINK);
+    }
+    pair.set_link(from.node, side, to);
     Some(())
 }
 
-/// A right link where the tree has nothing on the right.
+/// A right link where the tree has nothing on the right, with all reference counts put right.
 pub fn link_too_many(pair: &mut Pair, random: &Random) -> Option<()> {
-    let from = some_standing(pair, random, |&at| {
-        at.level > 0 && pair.below(at, RIGHT).is_none()
-    })?;
+    let from = some_single(pair, random)?;
     let to = some_standing(pair, random, |at| at.level + 1 == from.level)?;
-    pair.relink(from.node, RIGHT, to.node);
+    pair.relink(from, RIGHT, to.node);
+    Some(())
+}
+
+/// There, a link that is not 65,535 and leads past the nodes, or to any node that does not count it.
+pub fn right_link_no_node(pair: &mut Pair, random: &Random) -> Option<()> {
+    let from = some_single(pair, random)?;
+    let nodes = pair.state.nodes;
+    let to = match random.below(3) {
+        0 => random.pick(&[0, random.word_below(nodes)]),
+        _ => no_node(nodes, random),
+    };
+    pair.set_link(from.node, RIGHT, to);
     Some(())
 }
 
 pub fn free_node_not_zero(pair: &mut Pair, random: &Random) -> Option<()> {
     let node = random.some(&pair.chain())?;
-    let word = random.pick(&[HOLDERS, RIGHT, VALUE]);
-    *pair.word(node, word) = random.pick(&[1, NONE, random.word() | 1]);
+    *pair.word(node, HOLDERS) = random.pick(&[1, 2, 65_536, NONE, random.word() | 1]);
     Some(())
+}
+
+/// A free node's second word is no node's number: also 65,535, which is none for an inner node only, and with links in its high half.
+pub fn free_node_word(pair: &mut Pair, random: &Random) -> Option<()> {
+    let node = random.some(&pair.chain())?;
+    let nodes = pair.state.nodes;
+    let old = *pair.word(node, WORD);
+    let news = [
+        nodes,
+        nodes + 1,
+        65_535,
+        65_535 << 16 | old & 0xFFFF,
+        1 << 16 | old & 0xFFFF,
+        1 << 31,
+        NONE - 1,
+    ];
+    let new = random.pick(&news);
+    *pair.word(node, WORD) = new;
+    (new != old).then_some(())
 }
 
 pub fn free_node_lost(pair: &mut Pair, random: &Random) -> Option<()> {
@@ -157,7 +256,7 @@ pub fn free_node_lost(pair: &mut Pair, random: &Random) -> Option<()> {
 pub fn used_node_chained(pair: &mut Pair, random: &Random) -> Option<()> {
     let used = random.some(&pair.standings())?.node;
     match pair.chain().last() {
-        Some(&last) if random.one_in(2) => *pair.word(last, LEFT) = used,
+        Some(&last) if random.one_in(2) => *pair.word(last, WORD) = used,
         _ => pair.state.free = used,
     }
     Some(())
@@ -169,8 +268,8 @@ pub fn node_leaked(pair: &mut Pair, random: &Random) -> Option<()> {
     let mut chain = pair.chain();
     chain.retain(|&free| free != node);
     pair.rechain(&chain);
-    let holders = random.word_below(2);
-    pair.set(node, [holders, NONE, NONE, random.word_below(2)]);
+    let word = random.pick(&[0, 1, NONE, random.word_below(pair.state.nodes)]);
+    pair.set(node, [random.word_below(2), word]);
     Some(())
 }
 
@@ -181,11 +280,11 @@ pub fn tree_leaked(pair: &mut Pair, random: &Random) -> Option<()> {
     let mut chain = pair.chain();
     chain.retain(|&free| free != node);
     pair.rechain(&chain);
-    let [_, left, right, value] = pair.node(root);
-    pair.set(node, [1, left, right, value]);
-    if random.one_in(2) {
-        for link in [left, right] {
-            if link != NONE {
+    let [_, word] = pair.node(root);
+    pair.set(node, [1, word]);
+    if plain::height(pair.state.splitters) > 0 && random.one_in(2) {
+        for link in [LEFT, RIGHT].map(|side| pair.link(root, side)) {
+            if link != NO_LINK {
                 pair.retain(link);
             }
         }
@@ -197,7 +296,7 @@ pub fn tree_leaked(pair: &mut Pair, random: &Random) -> Option<()> {
 fn give_root(pair: &mut Pair, place: usize, root: u32) {
     pair.retain(root);
     let old = std::mem::replace(&mut pair.state.frames[place].root, root);
-    pair.release(old);
+    pair.release(old, plain::height(pair.state.splitters));
 }
 
 pub fn root_of_another(pair: &mut Pair, random: &Random) -> Option<()> {
@@ -218,7 +317,8 @@ pub fn root_too_low(pair: &mut Pair, random: &Random) -> Option<()> {
 /// A frame's tree is released while the frame lives.
 pub fn released_early(pair: &mut Pair, random: &Random) -> Option<()> {
     let place = random.some(&pair.live())?;
-    pair.release(pair.state.frames[place].root);
+    let height = plain::height(pair.state.splitters);
+    pair.release(pair.state.frames[place].root, height);
     Some(())
 }
 
@@ -238,15 +338,25 @@ pub fn nodes_renumbered(pair: &mut Pair, random: &Random) -> Option<()> {
 
 /// Moves node i to numbers[i], for all recorded nodes.
 pub fn renumber(pair: &mut Pair, numbers: &[u32]) {
-    let number = |link: u32| match link {
+    let number = |node: u32| match node {
         NONE => NONE,
         node => numbers[node as usize],
     };
+    let link = |link: u32| match link {
+        NO_LINK => NO_LINK,
+        node => numbers[node as usize],
+    };
     let old = pair.clone();
-    for node in 0..old.state.nodes {
-        let [holders, left, right, value] = old.node(node);
-        let right = if holders == 0 { 0 } else { number(right) };
-        pair.set(number(node), [holders, number(left), right, value]);
+    for node in old.chain() {
+        let next = old.node(node).next_free();
+        pair.set(number(node), Node::free(number(next)));
+    }
+    for at in old.standings() {
+        let mut words = old.node(at.node);
+        if at.level > 0 {
+            words[WORD] = Node::inner(link(words.link(LEFT)), link(words.link(RIGHT)))[WORD];
+        }
+        pair.set(number(at.node), words);
     }
     pair.state.free = number(pair.state.free);
     for frame in &mut pair.state.frames {

@@ -1,8 +1,9 @@
 //! Words changed without regard to what they mean.
 
 use super::Pair;
-use crate::plain::{self, View, Words, DEQUES_WORDS, FRAME_WORDS, NONE, NUMBERS_WORDS};
+use crate::plain::{self, View, Words, DEQUES_WORDS, FRAME_WORDS, NODE_WORDS, NONE, NUMBERS_WORDS};
 use crate::random::Random;
+use crate::steps;
 use std::array;
 
 /// The words of numbers and deques, which have their turns.
@@ -127,20 +128,21 @@ pub fn garbage_frames(pair: &mut Pair, random: &Random) -> Option<()> {
 /// The state as it was, the pool full of links that may lead anywhere.
 pub fn garbage_pool(pair: &mut Pair, random: &Random) -> Option<()> {
     let nodes = pair.state.nodes;
-    for node in pair.pool.chunks_mut(4) {
-        node.fill_with(|| random.word_below(nodes + 1));
+    let values = random.one_in(2);
+    for node in pair.pool.chunks_mut(NODE_WORDS) {
+        node.fill_with(|| match random.below(4) {
+            0 if values => random.word_below(nodes + 1),
+            _ => steps::like_links(nodes, random),
+        });
         node[0] = random.word_below(3);
-        if let Some(value) = node.get_mut(3) {
-            *value = 0;
-        }
     }
     Some(())
 }
 
 /// The lent pool has fewer nodes than are recorded.
 pub fn pool_cut_off(pair: &mut Pair, random: &Random) -> Option<()> {
-    let whole = 4 * pair.state.nodes as usize;
-    let left = random.pick(&[0, whole - 1, whole - 4, random.below(whole)]);
+    let whole = NODE_WORDS * pair.state.nodes as usize;
+    let left = random.pick(&[0, whole - 1, whole - 2, random.below(whole)]);
     pair.pool.truncate(left);
     Some(())
 }

@@ -1,5 +1,6 @@
-//! A file that R-1's library wrote, before there were frames that wait as returning, views, totals and a lent frame table: data/README.md
-//! says how. It is no longer read, nor is it in the forms from before; the same run in the present form goes on as it did.
+//! A file that R-1's library wrote, before there were frames that wait as returning, views, totals, a lent frame table and nodes of two words:
+//! data/README.md says how. It is no longer read, nor is it in the forms from before; the same run in the present form goes on
+//! as it did.
 
 use super::tests::both;
 use super::*;
@@ -69,16 +70,32 @@ fn present() -> (Parts, Vec<u32>) {
         deques,
         frames,
     };
-    (parts, words[909..909 + 4 * NODE_COUNT].to_vec())
+    (parts, four_words().iter().flat_map(two_words).collect())
 }
 
-/// Its image, written here: 1,458 words in 12 blocks; the rest is zero.
+/// The file's nodes.
+fn four_words() -> Vec<[u32; 4]> {
+    let words = file_words();
+    words[909..909 + 4 * NODE_COUNT].as_chunks().0.to_vec()
+}
+
+/// A node in two words: 65,535 for a link to none.
+fn two_words(node: &[u32; 4]) -> [u32; 2] {
+    let link = |link: u32| if link == NONE { 65_535 } else { link };
+    match *node {
+        [0, next, 0, 0] => [0, next],
+        [holders, NONE, NONE, value] => [holders, value],
+        [holders, left, right, _] => [holders, link(left) + 65_536 * link(right)],
+    }
+}
+
+/// Its image, written here: 1,378 words in 11 blocks; the rest is zero.
 fn present_image() -> Vec<u8> {
     let (state, nodes) = present();
     let deques = &file_words()[5..525];
     let mut words = [&state.numbers[..], deques, &state.frames, &nodes].concat();
-    assert_eq!((words[0], words.len()), (4, 1_458));
-    words[0] = 772;
+    assert_eq!((words[0], words.len()), (4, 1_378));
+    words[0] = 1_028;
     in_blocks(words)
 }
 
@@ -97,7 +114,7 @@ fn loading(image: &[u8]) -> Call {
     let random = Random::new(3);
     Call {
         state: Parts::garbage(64, &random),
-        pool: random.words(4 * NODE_COUNT + 6),
+        pool: random.words(2 * NODE_COUNT + 6),
         work: random.words(NODE_COUNT + 2),
         entry: Entry::Load {
             image: image.to_vec(),
@@ -111,8 +128,8 @@ fn loaded(image: &[u8]) -> Outcome {
     assert_eq!(after.result, [0, 0]);
     let (state, nodes) = present();
     assert_eq!(after.state, state);
-    assert_eq!(after.pool[..4 * NODE_COUNT], nodes);
-    assert_eq!(after.pool[4 * NODE_COUNT..], call.pool[4 * NODE_COUNT..]);
+    assert_eq!(after.pool[..2 * NODE_COUNT], nodes);
+    assert_eq!(after.pool[2 * NODE_COUNT..], call.pool[2 * NODE_COUNT..]);
     after
 }
 
@@ -184,18 +201,29 @@ fn second_form() -> Vec<u8> {
 
 /// And in that from before R-6: 512 more, the totals, twelve words to a record.
 fn third_form() -> Vec<u8> {
-    let (state, nodes) = present();
-    let deques = &file_words()[5..525];
-    let mut third = [&state.numbers[..9], deques, &state.frames, &nodes].concat();
-    assert_eq!(third.len(), 1_457);
-    third[0] += 512;
-    in_blocks(third)
+    with_numbers(9, 512)
 }
 
-/// The file is refused by 17, and so is the same run in the two forms after it.
+/// And in that from before R-8: 768 more, the table's length.
+fn fourth_form() -> Vec<u8> {
+    with_numbers(10, 768)
+}
+
+/// Twelve words to a record, four to a node.
+fn with_numbers(numbers: usize, added: u32) -> Vec<u8> {
+    let (state, nodes) = (present().0, four_words());
+    let deques = &file_words()[5..525];
+    let parts = [&state.numbers[..numbers], deques, &state.frames];
+    let mut words = [&parts.concat(), nodes.as_flattened()].concat();
+    assert_eq!(words.len(), 1_448 + numbers);
+    words[0] += added;
+    in_blocks(words)
+}
+
+/// The file is refused by 17, and so is the same run in the three forms after it.
 #[test]
 fn refused() {
-    for image in [IMAGE.to_vec(), second_form(), third_form()] {
+    for image in [IMAGE.to_vec(), second_form(), third_form(), fourth_form()] {
         let call = loading(&image);
         let after = both(&call);
         assert_eq!(after.result, [17, 0]);
@@ -221,13 +249,13 @@ fn saved_again() {
         pool: read.pool,
         work: vec![7; NODE_COUNT],
         entry: Entry::Save {
-            target: vec![5; 12 * 512 + 1],
+            target: vec![5; 11 * 512 + 1],
         },
     };
     let saved = both(&save);
     assert_eq!(saved.result, [0, 0]);
-    assert_eq!(saved.bytes[..12 * 512], present_image());
-    assert_eq!(saved.bytes[12 * 512], 5);
+    assert_eq!(saved.bytes[..11 * 512], present_image());
+    assert_eq!(saved.bytes[11 * 512], 5);
 }
 
 /// The further records end with Main's return, and no answer of R-1's library in the text is one that R-3 takes away.

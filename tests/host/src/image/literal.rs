@@ -5,17 +5,17 @@ use crate::parts::{Parts, LENGTHS};
 use crate::sentences;
 
 /// "The first word of an image has 256 added" (R-3). "Each later change of the image adds 256 again and reads only its own form": R-5's is
-/// the first, R-6's the second.
-const ADDED: u32 = 256 + 256 + 256;
+/// the first, R-6's the second, R-8's the third ("Images have the new nodes").
+const ADDED: u32 = 256 + 256 + 256 + 256;
 
 /// 5 words, R-5's 4 totals, R-6's "length as a word before the deques".
 const NUMBERS: usize = 5 + 4 + 1;
 
 /// The numbers, 8 times a length and "that many .. deque places", "that many records" of 6, R-3's 1 and R-5's 5 words; "then the pool's
-/// nodes", of four words.
+/// nodes", of two words.
 fn words_of(places: u32, nodes: u32) -> u128 {
     let (places, nodes) = (u128::from(places), u128::from(nodes));
-    NUMBERS as u128 + 8 * (1 + places) + places * (6 + 1 + 5) + nodes * 4
+    NUMBERS as u128 + 8 * (1 + places) + places * (6 + 1 + 5) + nodes * 2
 }
 
 /// "blocks of 512 bytes: 508 of data": the least number of blocks whose data has room.
@@ -109,7 +109,7 @@ pub fn save(state: &Parts, pool: &[u32], work: &mut [u32], target: &mut [u8]) ->
         words.extend((0..=places as usize).map(|at| state.deques[257 * worker + at]));
     }
     words.extend(&state.frames);
-    words.extend(&pool[..4 * nodes as usize]);
+    words.extend(&pool[..2 * nodes as usize]);
     let image = written(&words, blocks as usize);
     (0..image.len()).for_each(|place| target[place] = image[place]);
     0
@@ -160,8 +160,8 @@ fn read(state: &mut Parts, pool: &mut [u32], data: &[u8]) {
     for at in 0..12 * places {
         state.frames[at] = word_at(data, records + at);
     }
-    let nodes = (state.numbers[2] as usize).min(pool.len() / 4);
-    for at in 0..4 * nodes {
+    let nodes = (state.numbers[2] as usize).min(pool.len() / 2);
+    for at in 0..2 * nodes {
         pool[at] = word_at(data, records + 12 * places + at);
     }
 }
@@ -185,10 +185,10 @@ pub fn load(state: &mut Parts, pool: &mut [u32], work: &mut [u32], image: &[u8])
     if sound(state, pool, work) {
         return 0;
     }
-    let (records, held) = (state.frames.len(), pool.len() / 4);
+    let (records, held) = (state.frames.len(), pool.len() / 2);
     zeros(&mut state.numbers, LENGTHS[0]);
     zeros(&mut state.deques, LENGTHS[1]);
     zeros(&mut state.frames, records);
-    zeros(pool, 4 * held);
+    zeros(pool, 2 * held);
     6
 }

@@ -33,7 +33,7 @@ const IDENTITIES: [u32; 5] = [0, NONE, 1, 0, NONE];
 /// One worker, one splitter of value 7, so many places and nodes: a start's words, by hand.
 fn fresh(places: u32, nodes: u32) -> Vec<u32> {
     let next = |number, last| if number < last { number + 1 } else { NONE };
-    let mut words = vec![1 + 768, 1, nodes]; // workers, splitters, nodes
+    let mut words = vec![1 + 1_024, 1, nodes]; // workers, splitters, nodes
     words.extend([next(0, nodes - 1), next(0, places - 1)]); // first free node and place
     words.extend([0; 4]); // the totals
     words.push(places);
@@ -44,9 +44,9 @@ fn fresh(places: u32, nodes: u32) -> Vec<u32> {
     for place in 1..places {
         words.extend([0, next(place, places - 1), 0, 0, 0, 0, 0, 0, 0, 0, 0, 0]);
     }
-    words.extend([1, NONE, NONE, 7]); // the leaf
+    words.extend([1, 7]); // the leaf
     for node in 1..nodes {
-        words.extend([0, next(node, nodes - 1), 0, 0]);
+        words.extend([0, next(node, nodes - 1)]);
     }
     words
 }
@@ -55,17 +55,17 @@ fn smallest() -> Vec<u32> {
     fresh(64, 1)
 }
 
-/// The same in the form from before R-3, version 0, that from before R-5, version 1, with no totals and records of six or seven words, or
-/// that from before R-6, version 2, without the table's length.
+/// The same in the form from before R-3, version 0, that from before R-5, version 1, with no totals and records of six or seven words,
+/// that from before R-6, version 2, without the table's length, or that from before R-8, version 3. The leaf has four words in all of them.
 fn smallest_before(version: u32) -> Vec<u32> {
-    let (numbers, kept) = [(5, 6), (5, 7), (9, 12)][version as usize];
+    let (numbers, kept) = [(5, 6), (5, 7), (9, 12), (10, 12)][version as usize];
     let words = smallest();
     let records = words[RECORDS..NODE_WORDS].chunks(12);
     let kept = records.flat_map(|record| &record[..kept]);
     let others = words[..numbers].iter().chain(&words[10..RECORDS]);
     let mut before: Vec<u32> = others
         .chain(kept)
-        .chain(&words[NODE_WORDS..])
+        .chain(&[1, NONE, NONE, 7])
         .copied()
         .collect();
     before[0] = 1 + 256 * version;
@@ -82,9 +82,9 @@ fn blocks(words: Vec<u32>, checks: &[u32]) -> Vec<u8> {
         .collect()
 }
 
-/// Its image: 1,302 words in 11 blocks, with checks that were summed apart.
+/// Its image: 1,300 words in 11 blocks, with checks that were summed apart.
 fn smallest_image() -> Vec<u8> {
-    let checks = [836, 0, 0, 0, 43, 165, 255, 396, 465, 627, 68];
+    let checks = [1_092, 0, 0, 0, 43, 165, 255, 396, 465, 627, 70];
     blocks(smallest(), &checks)
 }
 
@@ -100,7 +100,7 @@ fn parts_of(words: &[u32]) -> Parts {
     let places = words[9] as usize;
     let records = 10 + 8 * (1 + places);
     let mut numbers = words[..10].to_vec();
-    numbers[0] -= 768;
+    numbers[0] -= 1_024;
     let mut deques = Vec::new();
     for deque in words[10..records].chunks(1 + places) {
         deques.extend(deque);
@@ -139,7 +139,7 @@ fn saving(target: usize) -> Call {
     }
 }
 
-/// Read into a table of 64 places and 11 words of pool: two nodes and three words more.
+/// Read into a table of 64 places and 5 words of pool: two nodes and a word more.
 fn loading(image: Vec<u8>) -> Call {
     loading_into(64, image)
 }
@@ -147,7 +147,7 @@ fn loading(image: Vec<u8>) -> Call {
 fn loading_into(places: usize, image: Vec<u8>) -> Call {
     Call {
         state: Parts::garbage(places, &Random::new(7)),
-        pool: vec![8; 11],
+        pool: vec![8; 5],
         work: vec![9; 3],
         entry: Entry::Load { image },
     }
@@ -163,7 +163,7 @@ fn refused_into(places: usize, image: Vec<u8>) -> u32 {
     let after = both(&call);
     if after.result[0] == 6 {
         assert_eq!(after.state, zeros(vec![0; 12 * places]));
-        assert_eq!(after.pool, [0, 0, 0, 0, 0, 0, 0, 0, 8, 8, 8]);
+        assert_eq!(after.pool, [0, 0, 0, 0, 8]);
     } else {
         assert_eq!(after.state, zeros(call.state.frames.clone()));
         assert!(after.pool == call.pool && after.work == call.work);
@@ -187,19 +187,19 @@ fn with_word(word: usize, value: u32) -> Vec<u8> {
 
 #[test]
 fn sizes() {
-    // 18 words and 20 for each place: 64 places take 11 blocks, with room for 24 nodes, 11 × 127 = 1,397 = 1,298 + 99
+    // 18 words and 20 for each place: 64 places take 11 blocks, with room for 49 nodes, 11 × 127 = 1,397 = 1,298 + 99
     let known = [
         (64, 0, 11),
-        (64, 24, 11),
-        (64, 25, 12),
-        (1, 22, 1),
-        (1, 23, 2),
+        (64, 49, 11),
+        (64, 50, 12),
+        (1, 44, 1),
+        (1, 45, 2),
         (0, 0, 1),
         (256, 1, 41),
-        (256, 16_384, 557),
-        (64, NONE, 135_274_571),
+        (256, 16_384, 299),
+        (64, NONE, 67_637_291),
         (NONE, 0, 676_372_803),
-        (NONE, NONE, 811_647_363),
+        (NONE, NONE, 744_010_083),
     ];
     for (places, nodes, blocks) in known {
         assert_eq!(
@@ -250,7 +250,7 @@ fn saves_refused() {
     }
     let short_work = |call: &mut Call| call.work.clear();
     let unsound = |call: &mut Call| call.pool[0] = 2;
-    let short_pool = |call: &mut Call| call.pool.truncate(3);
+    let short_pool = |call: &mut Call| call.pool.truncate(1);
     let other_table = |call: &mut Call| call.state.frames.truncate(12 * 63);
     let bad_state = |call: &mut Call| call.state.deques.push(0);
     let changes: [(&dyn Fn(&mut Call), u32); 5] = [
@@ -272,7 +272,7 @@ fn loaded() {
     let after = both(&loading(smallest_image()));
     assert_eq!(after.result[0], 0);
     assert_eq!(after.state, smallest_parts());
-    assert_eq!(after.pool, [1, NONE, NONE, 7, 8, 8, 8, 8, 8, 8, 8]);
+    assert_eq!(after.pool, [1, 7, 8, 8, 8]);
     assert_eq!(after.work, [0, 9, 9]);
 }
 
@@ -281,7 +281,7 @@ fn blocks_not_called_for() {
     for length in [0, 1, 511, 512, 513, 4_096, 5_631, 5_633, 6_144] {
         assert_eq!(refused(changed(|image| image.resize(length, 0))), 17);
     }
-    for nodes in [25, 26, 57, 16_384, 1 << 30, (1 << 30) + 1, NONE] {
+    for nodes in [50, 51, 57, 16_384, 1 << 30, 1 << 31, (1 << 31) + 1, NONE] {
         assert_eq!(refused(with_word(2, nodes)), 17, "{nodes}");
     }
     // 11 blocks hold 63 to 68 places and a node
@@ -302,11 +302,11 @@ fn blocks_not_called_for() {
     }
     // one block, if the number of words were taken modulo 2^32
     let one = |word, value| changed(|image| set_word(image, word, value))[..512].to_vec();
-    for less in [325, 324, 320, 300] {
-        assert_eq!(refused(one(2, (1 << 30) - less)), 17);
+    for less in [649, 648, 640, 600] {
+        assert_eq!(refused(one(2, (1 << 31) - less)), 17);
     }
-    // 20 times it and 22 are 2 and 26 modulo 2^32
-    for places in [(1 << 30) - 1, 0xCCCC_CCCD] {
+    // 20 times it and 20 are 28 and 24 modulo 2^32
+    for places in [0x9999_999A, 0xCCCC_CCCD] {
         assert_eq!(refused(one(9, places)), 17);
     }
 }
@@ -359,9 +359,9 @@ fn lengths_that_no_table_has() {
         }
     }
     // no frame lives, no place is free: every node is
-    let mut words = vec![769, 1, 2, 0, NONE, 5, 6, 7, 8, 0];
+    let mut words = vec![1_025, 1, 2, 0, NONE, 5, 6, 7, 8, 0];
     words.extend([0; 8]);
-    words.extend([0, 1, 0, 0, 0, NONE, 0, 0]);
+    words.extend([0, 1, 0, NONE]);
     for lent in [0, 1, 64] {
         assert_eq!(refused_into(lent, image_of(&words)), 6);
     }
@@ -388,15 +388,15 @@ fn wrong_checks() {
     assert_eq!(refused(changed(|image| image[0] ^= 2)), 18);
     assert_eq!(refused(changed(|image| image[5_631] ^= 128)), 18);
     assert_eq!(refused(changed(|image| image[508..512].reverse())), 18);
-    assert_eq!(refused(with_word(1_302, 1)), 18);
+    assert_eq!(refused(with_word(1_300, 1)), 18);
     assert_eq!(refused(with_word(1_396, 1 << 31)), 18);
-    assert_eq!(refused(changed(|image| set_word(image, 2, 24))), 18);
-    assert_eq!(refused(changed(|image| set_word(image, 2, 25))), 17);
+    assert_eq!(refused(changed(|image| set_word(image, 2, 49))), 18);
+    assert_eq!(refused(changed(|image| set_word(image, 2, 50))), 17);
     assert_eq!(refused(changed(|image| set_word(image, 9, 68))), 18);
-    let mut call = loading(with_word(0, 768));
+    let mut call = loading(with_word(0, 1_024));
     call.work.clear();
     assert_eq!(both(&call).result[0], 5);
-    assert_eq!(both(&loading(with_word(0, 768))).result[0], 6);
+    assert_eq!(both(&loading(with_word(0, 1_024))).result[0], 6);
     call.entry = Entry::Load {
         image: changed(|image| image[0] ^= 2),
     };
@@ -407,18 +407,18 @@ fn wrong_checks() {
 #[test]
 fn unsound() {
     let unsound = [
-        (0, 777),
+        (0, 1_033),
         (1, 0),
         (5, 1),
         (RECORDS, 2),
         (RECORDS + 11, 0),
         (NODE_WORDS, 2),
-        (NODE_WORDS + 1, 0),
+        (NODE_WORDS, 0),
     ];
     for (word, value) in unsound {
         let after = both(&loading(with_word(word, value)));
         assert_eq!((word, after.result[0]), (word, 6));
-        assert_eq!(after.pool, [0, 0, 0, 0, 0, 0, 0, 0, 8, 8, 8]);
+        assert_eq!(after.pool, [0, 0, 0, 0, 8]);
         assert_eq!(after.work, [0, 9, 9]);
         assert_eq!(after.state, zeros(vec![0; 12 * 64]));
     }
@@ -427,13 +427,13 @@ fn unsound() {
     assert_eq!(refused(with_word(2, 0)), 18);
     assert_eq!(refused(vec![0; 5_632]), 17);
     let mut zeros = vec![0; 18];
-    zeros[0] = 768;
+    zeros[0] = 1_024;
     assert_eq!(refused(image_of(&zeros)), 6);
 }
 
 #[test]
 fn pools_too_short() {
-    for words in 0..4 {
+    for words in 0..2 {
         let mut call = loading(smallest_image());
         call.pool.truncate(words);
         let after = both(&call);
@@ -458,21 +458,28 @@ fn parts_of_another_length() {
 /// workers, though length and checks are right.
 #[test]
 fn forms_from_before() {
-    for version in [0, 1, 2] {
+    for version in [0, 1, 2, 3] {
         let words = smallest_before(version);
-        assert_eq!(words.len(), [913, 977, 1_301][version as usize]);
+        assert_eq!(words.len(), [913, 977, 1_301, 1_302][version as usize]);
         for workers in [0, 1, 2, 8, 9, 255] {
             let mut words = words.clone();
             words[0] = workers + 256 * version;
             assert_eq!(refused(image_of(&words)), 17);
         }
-        // the present form's first word: a length of 0 or 1, and 8 to 11 blocks are not 1; with one, 6
         let mut words = words;
-        words[0] = 769;
+        words[0] = 1_025;
+        if version == 3 {
+            // as many blocks, and a rest that is not zero; without it the leaf has none as its value
+            assert_eq!(refused(image_of(&words)), 18);
+            words.truncate(1_300);
+            assert_eq!(both(&loading(image_of(&words))).pool, [1, NONE, 8, 8, 8]);
+            continue;
+        }
+        // the present form's first word: a length of 0 or 1, and 8 to 11 blocks are not 1; with one, 6
         let places = [0, 0, 1][version as usize];
         assert_eq!(words[9], places);
         assert_eq!(refused(image_of(&words)), 17);
-        words.truncate(18 + 20 * places as usize + 4);
+        words.truncate(18 + 20 * places as usize + 2);
         assert_eq!(refused_into(places as usize, image_of(&words)), 6);
         assert_eq!(refused(image_of(&words)), 6);
     }
@@ -484,7 +491,7 @@ fn with_first(first: u32) -> u32 {
 }
 
 /// Words of forms from before and to come, and some that are none.
-const NO_FORM: [u32; 16] = [
+const NO_FORM: [u32; 19] = [
     0,
     1,
     8,
@@ -494,8 +501,11 @@ const NO_FORM: [u32; 16] = [
     513,
     520,
     767,
-    1_024,
-    1_025,
+    768,
+    769,
+    776,
+    1_023,
+    1_280,
     1_281,
     65_536,
     66_049,
@@ -505,11 +515,11 @@ const NO_FORM: [u32; 16] = [
 
 #[test]
 fn first_words() {
-    for first in 769..=776 {
+    for first in 1_025..=1_032 {
         assert_eq!((first, with_first(first)), (first, 0));
     }
     for workers in [0, 9, 10, 16, 17, 129, 255] {
-        assert_eq!((workers, with_first(768 + workers)), (workers, 6));
+        assert_eq!((workers, with_first(1_024 + workers)), (workers, 6));
     }
     for first in NO_FORM {
         assert_eq!((first, with_first(first)), (first, 17));
@@ -625,7 +635,7 @@ fn totals() {
     ended[4] = 0;
     ended[10] = 0;
     ended[RECORDS..RECORDS + 12].copy_from_slice(&[0, 1, 0, 0, 0, 0, 0, 0, 0, 0, 0, 0]);
-    ended[NODE_WORDS..].copy_from_slice(&[0, NONE, 0, 0]);
+    ended[NODE_WORDS..].copy_from_slice(&[0, NONE]);
     read_and_saved(&ended);
     for word in 5..9 {
         for value in [0, 1, 65_536, 1 << 31, NONE] {

@@ -18,7 +18,7 @@ const BEFORE: [u64; 4] = [7, 8, 9, 10];
 fn asking(places: usize, entries: &[[u32; 4]]) -> Call {
     Call {
         state: Parts::garbage(places, &Random::new(7)),
-        pool: vec![7; 4 * NODES + 1],
+        pool: vec![7; 2 * NODES + 1],
         work: vec![7; NODES + 1],
         entry: Entry::Report(Reporting {
             workers: WORKERS,

@@ -330,15 +330,15 @@ fn images() {
             let image = image_of(&before);
             let load = Call {
                 state: Parts::garbage(other, &Random::new(9)),
-                pool: vec![3; 4 * 61 + 3],
+                pool: vec![3; 2 * 61 + 1],
                 work: vec![7; 61],
                 entry: Entry::Load { image },
             };
             let after = both(&load);
             assert_eq!(after.result, [6, 0], "{load}");
             assert_eq!(after.state, zeros(vec![0; 12 * other]));
-            assert!(after.pool[..244].iter().all(|&word| word == 0));
-            assert_eq!(after.pool[244..], [3; 3]);
+            assert!(after.pool[..122].iter().all(|&word| word == 0));
+            assert_eq!(after.pool[122..], [3]);
             assert_eq!(
                 (after.work[..60].iter().max(), after.work[60]),
                 (Some(&0), 7)
