@@ -150,6 +150,11 @@ impl Case {
         }
     }
 
+    /// The same in a pool of so many nodes.
+    pub fn in_pool(workload: Workload, n: usize, nodes: usize) -> Self {
+        Case::new(workload, n, WORKERS, nodes, RECORDS)
+    }
+
     /// Writes alone in a pool without a free node: one that takes a node is refused.
     pub fn full_pool(n: usize) -> Self {
         let nodes = WORKERS * tree_nodes(n);

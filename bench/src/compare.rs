@@ -6,7 +6,7 @@ use crate::images;
 use crate::job::FULL_CALLS;
 use crate::kind::{Kind, CONTROLS, FOLDS};
 use crate::measure::{answers, step_answers};
-use crate::peer::{Peer, PEERS};
+use crate::peer::{compared, Peer};
 use crate::reports;
 use crate::runs;
 use crate::steps;
@@ -18,7 +18,7 @@ fn assert_same_answers(case: &Case, what: &str) {
         expected.chunks(2).all(|pair| pair[0] > 100),
         "{what}: a record is refused"
     );
-    for peer in PEERS {
+    for peer in compared() {
         let given = answers(peer, case);
         let same = expected.len() == given.len()
             && expected
@@ -40,7 +40,7 @@ fn agree(peer: Peer, expected: &[u32], given: &[u32]) -> bool {
 /// Single steps answer as the tape does.
 fn assert_same_steps(case: &Case, what: &str) {
     assert_same_answers(case, what);
-    for peer in PEERS {
+    for peer in compared() {
         let same = step_answers(peer, case).as_flattened() == answers(peer, case);
         assert!(
             same,
@@ -91,13 +91,15 @@ fn assert_waits(workload: Workload, n: usize) {
     );
 }
 
-/// Library and plain Rust fill the pools alike, and the write after a full pool's is the only one that both refuse, by 16.
+/// Library and plain Rust, on nodes of two and of four words, fill the pools alike, and the write after a full pool's is the only one that they refuse, by 16.
 fn assert_filled() {
     for filling in FILLINGS {
         let case = Filled::new(filling).as_tape();
         let given = answers(Peer::Library, &case);
         let what = format!("pool {}", filling.name());
-        assert_eq!(given, answers(Peer::Plain, &case), "{what}: plain");
+        for peer in [Peer::Plain, Peer::FourWords] {
+            assert_eq!(given, answers(peer, &case), "{what}: {}", peer.name());
+        }
         let mut refused = given.chunks(2).filter(|pair| pair[0] < 100);
         assert_eq!(
             refused.next(),
@@ -119,8 +121,8 @@ fn assert_full_steps() {
             _ => pair[0] > 100,
         };
         assert!(given.chunks(2).all(expected), "{what}: other answers");
-        assert_eq!(given, answers(Peer::Plain, &case), "{what}: plain");
-        for peer in [Peer::Library, Peer::Plain] {
+        for peer in [Peer::Library, Peer::Plain, Peer::FourWords] {
+            assert_eq!(given, answers(peer, &case), "{what}: {}", peer.name());
             let steps = step_answers(peer, &case);
             assert_eq!(given, steps.as_flattened(), "{what}: single steps");
         }
@@ -149,7 +151,7 @@ const RUNS: u64 = 300;
 /// Every workload at every size, the kinds of records, the single steps, the filled pools, the images, the reports, and the totals and pairs of
 /// random runs.
 pub fn all(workloads: &[Workload], sizes: &[usize]) {
-    runs::compare(&PEERS, RUNS);
+    runs::compare(&compared().collect::<Vec<_>>(), RUNS);
     FOLDS.into_iter().chain(CONTROLS).for_each(assert_kind);
     images::compare();
     reports::compare();

@@ -8,6 +8,7 @@ use crate::filled::{self, FilledCost, FullStepCost};
 use crate::images::{self, ImageCost};
 use crate::kind;
 use crate::kinds::{self, KindCost};
+use crate::layouts::{self, LayoutCost};
 use crate::peer::PEERS;
 use crate::pictures;
 use crate::places::{self, PlacesCost, SearchCost};
@@ -30,6 +31,9 @@ pub struct Figures {
     pub facts: String,
     pub stack: Option<Stack>,
     pub costs: Vec<Cost>,
+    /// Nodes of two words and of four, and the caches that were simulated.
+    pub layouts: Vec<LayoutCost>,
+    pub caches: String,
     pub times: Vec<Time>,
     /// One frame, growing pool.
     pub over_nodes: Vec<CheckCost>,
@@ -112,6 +116,8 @@ fn measure() -> Figures {
     let costs = records::count(&PEERS, &WORKLOADS, &GROWTH, PLACES);
     let kinds = kinds::count(&kind::all(), PLACES);
     let reports = reports::count(&costs);
+    eprintln!("bench: instructions and cache misses of both layouts");
+    let layouts = layouts::count();
     eprintln!("bench: instructions of records, by the table's places");
     let places = places::count(&costs, &kinds);
     let searches = places::count_searches();
@@ -137,6 +143,8 @@ fn measure() -> Figures {
         places,
         searches,
         costs,
+        layouts,
+        caches: layouts::caches(),
         times,
         over_nodes: all_sizes(checks::over_nodes),
         sharing: all_sizes(checks::sharing),

@@ -6,6 +6,7 @@ use crate::full::Figures;
 use crate::images::ImageCost;
 use crate::kind::{Kind, FOLDS};
 use crate::kinds::{self, KindCost};
+use crate::layouts::{self, LayoutCost};
 use crate::peer::Peer;
 use crate::places::PlacesCost;
 use crate::records::{self, Cost};
@@ -88,6 +89,9 @@ pub fn list(figures: &Figures, checks: &[f64]) -> String {
         copying_goal(costs),
         folds_goal(kinds),
         more_goal(kinds),
+        layout_goal(&figures.layouts),
+        misses_goal(&figures.layouts),
+        layout_plain_goal(&figures.layouts),
         places_goal(&figures.places),
         report_goal(&figures.reports),
         plain_report_goal(&figures.reports),
@@ -163,6 +167,54 @@ fn more_goal(costs: &[KindCost]) -> Goal {
         what: "spawns and returns without live siblings elsewhere, after folds too: at most 15 instructions more than before R-5",
         met: more.into_iter().all(|(_, more)| more.is_some_and(|more| more <= MORE_LIMIT)),
         figures: figures.join("; "),
+    }
+}
+
+/// The new layout's peers, each against plain Rust of the old one.
+const OVER_FOUR_WORDS: [(&str, Peer); 2] = [
+    ("library / four words", Peer::Library),
+    ("plain / four words", Peer::Plain),
+];
+
+/// two words against four.
+fn layout_goal(costs: &[LayoutCost]) -> Goal {
+    let row = layouts::find(costs, Workload::Mix).instructions;
+    let ratios =
+        OVER_FOUR_WORDS.map(|(name, peer)| (name, LayoutCost::ratio(row, peer, Peer::FourWords)));
+    Goal {
+        what: "mix with 16,384 nodes, n = 256: no more instructions per further record on nodes of two words than on nodes of four",
+        met: ratios.into_iter().all(|(_, ratio)| ratio <= 1.0),
+        figures: ratios.map(|(name, ratio)| format!("{name}: {ratio:.3}")).join(", "),
+    }
+}
+
+/// The same for the misses of the first data cache, of this machine and of a small one.
+fn misses_goal(costs: &[LayoutCost]) -> Goal {
+    let cost = layouts::find(costs, Workload::Mix);
+    let rows = [("D1", cost.machine[0]), ("small D1", cost.small[0])];
+    let ratios = rows.map(|(cache, row)| {
+        OVER_FOUR_WORDS.map(|(name, peer)| {
+            let ratio = LayoutCost::ratio(row, peer, Peer::FourWords);
+            (format!("{cache}, {name}: {ratio:.3}"), ratio)
+        })
+    });
+    let ratios = ratios.as_flattened();
+    let figures: Vec<&str> = ratios.iter().map(|(figure, _)| figure.as_str()).collect();
+    Goal {
+        what: "mix with 16,384 nodes, n = 256: fewer data-cache misses per further record on nodes of two words than on nodes of four",
+        met: ratios.iter().all(|&(_, ratio)| ratio < 1.0),
+        figures: figures.join(", "),
+    }
+}
+
+/// The library against plain Rust of the same layout.
+fn layout_plain_goal(costs: &[LayoutCost]) -> Goal {
+    let row = layouts::find(costs, Workload::Mix).instructions;
+    let ratio = LayoutCost::ratio(row, Peer::Library, Peer::Plain);
+    Goal {
+        what: "mix with 16,384 nodes, n = 256: no more instructions per further record than plain Rust of the same layout",
+        met: ratio <= 1.0,
+        figures: format!("library / plain: {ratio:.3}"),
     }
 }
 

@@ -8,6 +8,7 @@ use crate::peer::{Images, Peer, Run};
 use host_tests::image::{self, Size, BLOCK_BYTES};
 use host_tests::parts::Parts;
 use host_tests::plain;
+use splitter::NODE_WORDS;
 
 /// Live frames of the states that are saved, and the writes of each.
 pub const FRAMES: usize = 8;
@@ -226,7 +227,7 @@ pub fn images(run: &mut dyn Run) -> &mut dyn Images {
 
 /// The image by `tests/host/src/image.rs`, of plain.rs's state.
 fn by_document(case: &Case) -> Vec<u8> {
-    let (mut pool, mut work) = (vec![0; 4 * case.nodes], vec![0; case.nodes]);
+    let (mut pool, mut work) = (vec![0; NODE_WORDS * case.nodes], vec![0; case.nodes]);
     let table = vec![plain::Frame::default(); case.places];
     let (mut state, started) = plain::start(case.workers as u32, &case.values, table, &mut pool);
     let mut answers = vec![0; case.prelude.len() / 4];

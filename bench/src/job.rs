@@ -10,6 +10,10 @@ pub enum Job {
     Records(Workload, usize, usize),
     /// The same without the records that are counted.
     Rest(Workload, usize, usize),
+    /// A workload's tape in a pool of so many nodes; n before them.
+    Pool(Workload, usize, usize),
+    /// An empty tape there.
+    PoolRest(Workload, usize, usize),
     /// An empty tape on a state made for the check.
     Check(Standing),
     /// A workload's records, each in a call of its own; n and the nodes of the pool.
@@ -81,6 +85,8 @@ impl Job {
             Job::Rest(workload, n, places) => {
                 Job::Records(workload, n, places).case().rest(workload)
             }
+            Job::Pool(workload, n, nodes) => Case::in_pool(workload, n, nodes),
+            Job::PoolRest(workload, n, nodes) => Case::in_pool(workload, n, nodes).rest(workload),
             Job::Check(standing) | Job::Image(_, standing) => Case::standing(standing),
             Job::Steps(workload, n, nodes) => Case::steps(workload, n, nodes),
             Job::Filled(filling) => Filled::new(filling).case(),
@@ -101,14 +107,9 @@ impl Job {
             Job::Rest(workload, n, places) => with_rest(Job::Records(workload, n, places)),
             Job::Check(standing) => standing_words("check", standing),
             Job::Image(call, standing) => standing_words(call.name(), standing),
-            Job::Steps(workload, n, nodes) => {
-                let numbers = [n, nodes].map(|number| number.to_string());
-                [
-                    vec!["steps".into(), workload.name().into()],
-                    numbers.to_vec(),
-                ]
-                .concat()
-            }
+            Job::Pool(workload, n, nodes) => pool_words("pool", workload, [n, nodes]),
+            Job::PoolRest(workload, n, nodes) => with_rest(Job::Pool(workload, n, nodes)),
+            Job::Steps(workload, n, nodes) => pool_words("steps", workload, [n, nodes]),
             Job::Filled(filling) => vec!["filled".into(), filling.name().into()],
             Job::FullSteps(step) => vec!["full_steps".into(), step.name().into()],
             Job::FullTape(step) => vec!["full_tape".into(), step.name().into()],
@@ -145,6 +146,16 @@ impl Job {
                 number(n)?,
                 number(nodes)?,
             )),
+            ["pool", workload, n, nodes] => Some(Job::Pool(
+                Workload::named(workload)?,
+                number(n)?,
+                number(nodes)?,
+            )),
+            ["pool", workload, n, nodes, "rest"] => Some(Job::PoolRest(
+                Workload::named(workload)?,
+                number(n)?,
+                number(nodes)?,
+            )),
             ["filled", filling] => Some(Job::Filled(Filling::named(filling)?)),
             ["full_steps", step] => Some(Job::FullSteps(FullStep::named(step)?)),
             ["full_tape", step] => Some(Job::FullTape(FullStep::named(step)?)),
@@ -173,6 +184,11 @@ impl Job {
 
 fn with_rest(job: Job) -> Vec<String> {
     [job.words(), vec!["rest".into()]].concat()
+}
+
+fn pool_words(name: &str, workload: Workload, numbers: [usize; 2]) -> Vec<String> {
+    let numbers = numbers.map(|number| number.to_string());
+    [vec![name.into(), workload.name().into()], numbers.to_vec()].concat()
 }
 
 fn standing_words(name: &str, s: Standing) -> Vec<String> {

@@ -15,6 +15,7 @@ mod images;
 pub mod job;
 mod kind;
 mod kinds;
+mod layouts;
 mod library;
 mod machine;
 pub mod measure;

@@ -7,12 +7,15 @@ use crate::plain_image::{self, Sum};
 use crate::tape::record;
 use crate::values::Values;
 use crate::work::Work;
-use host_tests::plain;
+use host_tests::plain::{self, OldNode};
+use splitter::NODE_WORDS;
 
 #[derive(Clone, Copy, PartialEq, Eq, Debug)]
 pub enum Peer {
     Library,
     Plain,
+    /// Plain on nodes of four words, those from before R-8.
+    FourWords,
     /// Plain, but for images: their checks are summed byte by byte, after the words are stored.
     Bytewise,
     Copying,
@@ -24,6 +27,11 @@ pub enum Peer {
 pub const PEERS: [Peer; 3] = [Peer::Library, Peer::Plain, Peer::Copying];
 #[cfg(feature = "im")]
 pub const PEERS: [Peer; 4] = [Peer::Library, Peer::Plain, Peer::Copying, Peer::Im];
+
+/// All that are fed the same tapes before anything is measured.
+pub fn compared() -> impl Iterator<Item = Peer> {
+    PEERS.into_iter().chain([Peer::FourWords])
+}
 
 /// A run in progress.
 pub trait Run {
@@ -80,6 +88,7 @@ impl Peer {
         match self {
             Peer::Library => "library",
             Peer::Plain => "plain",
+            Peer::FourWords => "four words",
             Peer::Bytewise => "bytewise",
             Peer::Copying => "copying",
             #[cfg(feature = "im")]
@@ -88,13 +97,16 @@ impl Peer {
     }
 
     pub fn named(name: &str) -> Option<Self> {
-        let mut all = PEERS.into_iter().chain([Peer::Bytewise]);
+        let mut all = compared().chain([Peer::Bytewise]);
         all.find(|peer| peer.name() == name)
     }
 
     /// It keeps nodes: its tape call has a soundness check in it, and its writes answer the free nodes.
     pub fn has_nodes(self) -> bool {
-        matches!(self, Peer::Library | Peer::Plain | Peer::Bytewise)
+        matches!(
+            self,
+            Peer::Library | Peer::Plain | Peer::FourWords | Peer::Bytewise
+        )
     }
 
     /// A run that has had the case's prelude, all of it accepted.
@@ -137,6 +149,7 @@ impl Peer {
             )),
             Peer::Plain => Box::new(Plain::start(case, Sum::ByWords)),
             Peer::Bytewise => Box::new(Plain::start(case, Sum::ByBytes)),
+            Peer::FourWords => Box::new(FourWords::start(case)),
             Peer::Copying => Box::new(Machine::<Vec<u32>>::start(
                 case.workers,
                 &case.values,
@@ -212,7 +225,7 @@ struct Plain {
 
 impl Plain {
     fn start(case: &Case, sum: Sum) -> Self {
-        let mut pool = vec![0; 4 * case.nodes];
+        let mut pool = vec![0; NODE_WORDS * case.nodes];
         let table = vec![plain::Frame::default(); case.places];
         let (state, refusal) = plain::start(case.workers as u32, &case.values, table, &mut pool);
         assert_eq!(refusal, 0, "plain: the start is refused");
@@ -281,6 +294,42 @@ impl Images for Plain {
     }
 }
 
+/// The words of a node before R-8.
+const FOUR_WORDS: usize = size_of::<OldNode>() / size_of::<u32>();
+
+/// The same engine on such nodes.
+struct FourWords {
+    state: plain::State,
+    pool: Vec<u32>,
+    work: Work,
+}
+
+impl FourWords {
+    fn start(case: &Case) -> Self {
+        let mut pool = vec![0; FOUR_WORDS * case.nodes];
+        let table = vec![plain::Frame::default(); case.places];
+        let workers = case.workers as u32;
+        let (state, refusal) = plain::start_of::<OldNode>(workers, &case.values, table, &mut pool);
+        assert_eq!(refusal, 0, "four words: the start is refused");
+        FourWords {
+            state,
+            pool,
+            work: Work::of(case.nodes),
+        }
+    }
+}
+
+impl Run for FourWords {
+    fn tape(&mut self, tape: &[u8], answers: &mut [u32]) -> u32 {
+        let FourWords { state, pool, work } = self;
+        plain::tape_of::<OldNode>(state, pool, work.words(), tape, answers)
+    }
+
+    fn totals(&mut self) -> Option<[u32; 4]> {
+        (!self.state.main_lives()).then(|| self.state.totals.words())
+    }
+}
+
 /// The same algorithm's report, with the memory that it is lent.
 struct PlainReport {
     workers: u32,
@@ -298,7 +347,7 @@ impl PlainReport {
             workers: workers as u32,
             values: values.to_vec(),
             table: vec![plain::Frame::default(); places],
-            pool: vec![0; 4 * nodes],
+            pool: vec![0; NODE_WORDS * nodes],
             work: Work::of(nodes),
             clocks: vec![0; 2 * places],
             words: [0; 4],

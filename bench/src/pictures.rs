@@ -11,7 +11,7 @@ use crate::svg::Pen;
 fn peer_pen(peer: Peer) -> Pen {
     let colour = match peer {
         Peer::Library => "#0072b2",
-        Peer::Plain | Peer::Bytewise => "#d55e00",
+        Peer::Plain | Peer::FourWords | Peer::Bytewise => "#d55e00",
         Peer::Copying => "#009e73",
         #[cfg(feature = "im")]
         Peer::Im => "#aa4499",

@@ -1,4 +1,4 @@
-//! R-1's saving and reading, as change them, in fast plain Rust, over the state of plain.rs: words are moved a run at a time,
+//! R-1's saving and reading, as change them, in fast plain Rust, over the state of plain.rs: words are moved a run at a time,
 //! those of a whole block by arrays of fixed length, and a check is summed in one of two ways. `tests/host/src/image.rs` says the same
 //! without a thought of speed; the bench compares the two.
 
@@ -6,9 +6,10 @@ use host_tests::image::{self, Size, DATA_BYTES};
 use host_tests::plain::{
     of_record, record, sound, Frame, Head, Refusal, State, View, FRAME_WORDS, NUMBERS_WORDS,
 };
+use splitter::NODE_WORDS;
 
 /// Added to the workers in the first word; only this form is read.
-const VERSION: u32 = 3 * 256;
+const VERSION: u32 = 4 * 256;
 /// The image is not just as many whole blocks as its first block calls for, has no whole block, or a first word of another form.
 const NOT_ITS_BLOCKS: u32 = 17;
 /// A check is wrong or the rest of the last block is not zero.
@@ -99,7 +100,10 @@ fn take<const CHECKED: bool>(
     }
     read(state, pool, size, image);
     if CHECKED && sound(state, pool, work).is_none() {
-        pool.as_chunks_mut::<4>().0.fill([0; 4]);
+        pool.as_chunks_mut::<NODE_WORDS>()
+            .0
+            .as_flattened_mut()
+            .fill(0);
         state.frames.fill(Frame::default());
         return Err(Refusal::Unsound as u32);
     }
@@ -209,7 +213,7 @@ fn write<S: Fn(&[u32], &mut [Place]) -> u32>(
         }
         writer.put(words[..frames.len()].as_flattened());
     }
-    writer.put(&pool[..4 * state.nodes as usize]);
+    writer.put(&pool[..NODE_WORDS * state.nodes as usize]);
     writer.end();
 }
 
@@ -318,7 +322,7 @@ fn read(state: &mut State, pool: &mut [u32], size: Size, image: &[u8]) {
             *frame = of_record(words);
         }
     }
-    if let Some(front) = pool.get_mut(..4 * size.nodes as usize) {
+    if let Some(front) = pool.get_mut(..NODE_WORDS * size.nodes as usize) {
         reader.take(front);
     }
 }

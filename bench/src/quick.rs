@@ -7,6 +7,7 @@ use crate::filled;
 use crate::images;
 use crate::kind;
 use crate::kinds;
+use crate::layouts;
 use crate::peer::Peer;
 use crate::places;
 use crate::records::{self, Cost};
@@ -24,6 +25,11 @@ pub fn run() {
         "{}",
         tables::instructions(&costs, &WORKLOADS, &PEERS, Cost::marginal).markdown()
     );
+    println!(
+        "Nodes of two words and of four, n = 256 and 16,384 nodes:\n\n{}",
+        layouts::caches()
+    );
+    println!("{}", tables::layouts(&layouts::count()).markdown());
     println!("The same in a report:\n");
     println!("{}", tables::reports(&reports::count(&costs)).markdown());
     println!("Instructions of folds, spawns and returns:\n");

@@ -1,8 +1,8 @@
 //! docs/BENCH.md, from the figures alone.
 
 use crate::case::{
-    LONG_WORKLOADS, MAX_LIVE, PLACES, POOL_VIEWS, SHARED_WRITES, SINGLE_STEPS, SINGLE_WORKERS,
-    WAITING, WORKERS, WORKLOADS,
+    LONG_WORKLOADS, MAX_LIVE, MAX_NODES, PLACES, POOL_VIEWS, SHARED_WRITES, SINGLE_STEPS,
+    SINGLE_WORKERS, WAITING, WORKERS, WORKLOADS,
 };
 use crate::checks::CheckCost;
 use crate::contents;
@@ -13,10 +13,11 @@ use crate::images;
 use crate::job::FULL_CALLS;
 use crate::kind::{BELOW, CHILDREN, LINE};
 use crate::kinds;
+use crate::layouts;
 use crate::peer::PEERS;
 use crate::records::Cost;
 use crate::sizing;
-use crate::table::Table;
+use crate::table::{grouped, Table};
 use crate::tables;
 use crate::timing::{Time, ROUNDS};
 
@@ -37,7 +38,8 @@ All are fed the same tapes and give the same answer words, which the bench compa
   soundness check in each call. A write alters the nodes that one holder has where they are and copies the rest of the path from the
   first node with more (R-2); a return waits for the frame's children, and the last child's end ends the waiting frames above it in a
   loop (R-3). An only child's view joins its parent's; where siblings live, the table is searched for the one that names the ended
-  frame, and the next frame is found by going down the eldest children (R-5).
+  frame, and the next frame is found by going down the eldest children (R-5). Its nodes have two words (R-8).
+- four words: plain, compiled for nodes of four words, those from before R-8; only in \"Half the pool\".
 - copying: a machine in Rust that keeps a `Vec<u32>` of values for each live frame; spawn copies it into the buffer of its frame's
   place, which later frames in this place use again. Its live frames are linked in R-5's order, both ways, so that no sibling is
   searched for.
@@ -74,6 +76,7 @@ pub fn text(figures: &Figures) -> String {
         how(),
         section("What the tapes hold (n = 16)", "", contents::table(16)),
         records(figures),
+        layouts(figures),
         reports(figures),
         kinds(figures),
         places(figures),
@@ -148,6 +151,34 @@ fn records(figures: &Figures) -> String {
         "Instructions per record, with the check",
         ratio,
         tables::instructions(costs, &LONG_WORKLOADS, &PEERS, Cost::with_check),
+    )
+}
+
+fn layouts(figures: &Figures) -> String {
+    let intro = format!(
+        "\
+Nodes of two words against nodes of four: the tapes from above with n = {n} in a pool of {nodes} nodes. Library and plain have nodes of two
+words, {two} bytes of pool, \"four words\" those from before R-8, {four} bytes, copying none. The library of before R-8 is no part of the
+repository, so the old layout is plain Rust's: the same engine, with the layout as a type parameter (`tests/host/src/plain/layout.rs`).
+Figures are per further record, as above; those of the check are of a call with an empty tape after the mix's prelude.
+
+Misses are those of callgrind's cache simulation, data reads and writes together: D1, the first cache; LL, the last one. The caches are
+simulated from the program's beginning, so that a call finds in them what was left there. A record's 8 bytes and its two answer words are
+in the figures of every peer: 0.25 lines of 64 bytes per record, 0.5 of 32. Unlike instructions, misses depend on where the memory lies: from
+build to build some of these figures have differed by half.
+
+{caches}
+The first are those that callgrind takes unless it is told otherwise: this machine's, as it reads them.",
+        n = layouts::N,
+        nodes = grouped(MAX_NODES as u64),
+        two = grouped(8 * MAX_NODES as u64),
+        four = grouped(16 * MAX_NODES as u64),
+        caches = figures.caches,
+    );
+    section(
+        "Half the pool (R-8)",
+        &intro,
+        tables::layouts(&figures.layouts),
     )
 }
 
@@ -301,7 +332,7 @@ and they wait as returning: it is one call, and frees all nodes."
 fn saving(figures: &Figures) -> String {
     let intro = format!(
         "\
-R-1's calls, `splitter_save` and `splitter_load`, with images of R-6's form and R-4's sums. n is 16 with 1,024 nodes and 256 with 16,384,
+R-1's calls, `splitter_save` and `splitter_load`, with images of R-8's form and R-4's sums. n is 16 with 1,024 nodes and 256 with 16,384,
 both in tables of 64 and of 256 places; one worker, {frames} live frames as for the soundness check, {writes} writes each. Before anything is counted the bench compares: each peer saves
 the very bytes that `tests/host/src/image.rs` writes and leaves those past them alone; a run that was only started reads the image and
 saves it again.
@@ -313,7 +344,7 @@ saves it again.
   pass, after all words are stored.
 - copy: `copy_from_slice` of the image's bytes, and no check of any kind.
 - before: the library before R-4, commit {before}. These figures are constants of the bench (`bench/src/images.rs`), counted once by it, per
-  block of the image as it was then (R-5 and R-6 make it longer).
+  block of the image as it was then (R-5 and R-6 make it longer, R-8 shorter).
 
 Save and reading are accepted and have the soundness check in them. \"Less the check\" is the image alone, with the checks of its blocks.
 Of the library it is the call less its call with an empty tape on the same state, as its soundness check is one function. That of plain

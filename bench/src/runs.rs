@@ -120,7 +120,7 @@ mod tests {
     /// Without the library.
     #[test]
     fn plain_and_copying_agree() {
-        compare(&[Peer::Plain, Peer::Copying], 3_000);
+        compare(&[Peer::Plain, Peer::FourWords, Peer::Copying], 3_000);
     }
 
     /// The runs reach what R-5 is about: waiting returns that end several frames, resumptions, both refusals of a fold.

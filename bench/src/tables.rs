@@ -6,6 +6,7 @@ use crate::filled::{self, FilledCost, FullStepCost};
 use crate::filling::Filling;
 use crate::images::{CallCosts, ImageCost};
 use crate::kinds::{KindCost, KIND_PEERS};
+use crate::layouts::{LayoutCost, LAYOUT_PEERS};
 use crate::peer::{Peer, PEERS};
 use crate::places::{per_place, PlacesCost, SearchCost, SEARCH_TABLES};
 use crate::records::{self, Cost};
@@ -307,6 +308,49 @@ pub fn kinds(costs: &[KindCost]) -> Table {
             shown(cost.more()),
         ];
         table.row([&[cost.kind.name().to_string()], &figures[..], &others].concat());
+    }
+    table
+}
+
+/// Nodes of two words against nodes of four: a row for each figure of each workload, then those of the check.
+pub fn layouts(costs: &[LayoutCost]) -> Table {
+    let ratios = [
+        (Peer::Library, Peer::Plain),
+        (Peer::Library, Peer::FourWords),
+        (Peer::Plain, Peer::FourWords),
+    ];
+    let first = ["records", "figure"].map(String::from);
+    let peers = LAYOUT_PEERS.map(|peer| peer.name().to_string());
+    let names = ratios.map(|(one, other)| format!("{} / {}", one.name(), other.name()));
+    let mut table = Table::new([&first[..], &peers, &names].concat());
+    for cost in costs {
+        let rows = [
+            ("instructions", cost.instructions),
+            ("D1 misses", cost.machine[0]),
+            ("LL misses", cost.machine[1]),
+            ("D1 misses, small caches", cost.small[0]),
+            ("LL misses, small caches", cost.small[1]),
+        ];
+        let name = cost
+            .workload
+            .map_or("check, per call", |workload| workload.name());
+        for (figure, row) in rows {
+            let shown = |count: f64| match (cost.workload, figure) {
+                (None, _) => grouped(count.round() as u64),
+                (_, "instructions") => format!("{count:.1}"),
+                _ => format!("{count:.3}"),
+            };
+            let ratio = |(one, other)| {
+                let ratio = LayoutCost::ratio(row, one, other);
+                if ratio.is_finite() {
+                    format!("{ratio:.2}")
+                } else {
+                    "-".into()
+                }
+            };
+            let first = [name, figure].map(String::from);
+            table.row([&first[..], &row.map(shown), &ratios.map(ratio)].concat());
+        }
     }
     table
 }

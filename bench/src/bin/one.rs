@@ -11,6 +11,7 @@ use std::process::ExitCode;
 const USAGE: &str = "\
 one PEER WORKLOAD N PLACES [rest]
 one PEER check N NODES PLACES FRAMES WRITES LINES
+one PEER pool WORKLOAD N NODES [rest]
 one PEER steps WORKLOAD N NODES
 one PEER filled FILLING
 one PEER full_steps|full_tape STEP
