@@ -1,7 +1,7 @@
 #!/usr/bin/env python3
 """Runs what docs/FORMATS.md shows: its tape writer, its image reader, its tables of lines, nodes, sizes and clocks.
 
-Needs target/bin/splitrun (or SPLITRUN), target/staticlib/libsplitter.a and gcc; without them the tests that need them are skipped."""
+Needs target/bin/splitrun (or SPLITRUN), target/staticlib/libsplitter.a (or that in SPLITTER_LIB_DIR) and gcc; without them the tests that need them are skipped."""
 import os
 import re
 import shutil
@@ -14,11 +14,11 @@ from pathlib import Path
 
 ROOT = Path(__file__).resolve().parent.parent
 SPLITRUN = Path(os.environ.get("SPLITRUN", ROOT / "target/bin/splitrun"))
-ARCHIVE = ROOT / "target/staticlib/libsplitter.a"
+ARCHIVE = Path(os.environ.get("SPLITTER_LIB_DIR", ROOT / "target/staticlib")) / "libsplitter.a"
 TEXT = (ROOT / "docs/FORMATS.md").read_text()
 WRITER, READER = re.findall(r"```python\n(.*?)```", TEXT, re.S)
 WRITE_8 = struct.pack("<BBHI", 6, 0, 0, 8)
-NODES, PLACES = [1, 10, 24, 25, 72, 1024, 2048, 16384], [1, 64, 256]
+NODES, PLACES = [1, 10, 49, 50, 72, 1024, 2048, 16384], [1, 64, 256]
 
 # The example's first five records with a table of 64 places, then a save into the file argv[1]. It prints the nodes after the start, answers, sizes.
 PROGRAM = """
@@ -26,17 +26,17 @@ PROGRAM = """
 #include "splitter.h"
 static struct splitter_state state;
 static struct splitter_frame table[64];
-static uint32_t pool[80], work[20];
+static uint32_t pool[40], work[20];
 static const uint32_t values[5] = {10, 20, 30, 40, 50}, nodes[] = {%s}, places[] = {%s};
 static uint8_t image[SPLITTER_IMAGE_BYTES(64, 20)];
-static const struct splitter_lent lent = {&state, table, 64, pool, 80, work, 20};
+static const struct splitter_lent lent = {&state, table, 64, pool, 40, work, 20};
 static void show(uint64_t answer) {
     printf("%%u %%u\\n", splitter_answer_kind(answer), splitter_answer_number(answer));
 }
 int main(int argc, char **argv) {
     FILE *file = argc == 2 ? fopen(argv[1], "wb") : NULL;
     if (file == NULL || splitter_lent_start(&lent, 2, values, 5) != 0) { return 1; }
-    for (unsigned i = 0; i < 80; i += 4) { printf("%%u %%u %%u %%u\\n", pool[i], pool[i + 1], pool[i + 2], pool[i + 3]); }
+    for (unsigned i = 0; i < 40; i += 2) { printf("%%u %%u\\n", pool[i], pool[i + 1]); }
     show(splitter_lent_step(&lent, 257, 0, 0, 0));
     show(splitter_lent_step(&lent, 1, 256, 0, 0));
     show(splitter_lent_step(&lent, 5, 0, 65536, 0));
@@ -61,10 +61,10 @@ REPORTS = """
 #include "splitter.h"
 static struct splitter_state state;
 static struct splitter_frame table[64];
-static uint32_t pool[80], work[20], answers[18];
+static uint32_t pool[40], work[20], answers[18];
 static uint64_t clocks[SPLITTER_CLOCKS_WORDS(64)];
 static const uint32_t values[5] = {10, 20, 30, 40, 50};
-static const struct splitter_lent lent = {&state, table, 64, pool, 80, work, 20};
+static const struct splitter_lent lent = {&state, table, 64, pool, 40, work, 20};
 int main(void) {
     uint8_t data[100];
     if (fread(data, 1, sizeof data, stdin) != sizeof data) { return 1; }
@@ -120,7 +120,7 @@ def whole_nodes(rows):
     for row in rows:
         first, _, last = row[0].partition(" to ")
         for i in range(int(last or first) - int(first) + 1):
-            spans = [cell.partition(" to ") for cell in row[1:5]]
+            spans = [cell.partition(" to ") for cell in row[1:3]]
             step = [(number(end) - number(start)) // max(1, int(last or first) - int(first)) if end else 0 for start, _, end in spans]
             yield [number(start) + by * i for (start, _, _), by in zip(spans, step)]
 
@@ -171,6 +171,11 @@ class Images(unittest.TestCase):
         wanted = [" ".join(map(str, node)) for node in whole_nodes(table("After a start with 5 splitters"))]
         self.assertEqual(self.said[:20], wanted)
 
+    def test_links_in_the_table(self):
+        rows = [row for row in table("After a start with 5 splitters") if row[3]]
+        self.assertEqual([number(row[2]) for row in rows], [number(row[3]) + 65536 * number(row[4]) for row in rows])
+        self.assertEqual(len(rows), 6)
+
     def test_answers(self):
         self.assertEqual(self.said[20:30], ["7 0", "8 0", "15 0", "20 0", "12 0", "101 1", "103 0", "106 5", "105 50", "104 1"])
 
@@ -196,7 +201,7 @@ class Images(unittest.TestCase):
 
     def test_the_reader_refuses_other_forms(self):
         block = self.image.read_bytes()[:512]
-        for first in (2, 256 + 2, 512 + 2, 1024 + 2):
+        for first in (2, 256 + 2, 512 + 2, 768 + 2, 1280 + 2):
             words = [first, *struct.unpack("<126I", block[4:508])]
             said = self.read(struct.pack("<128I", *words, sum(words) % 2**32))
             self.assertEqual((said.returncode, said.stdout), (1, b""))

@@ -1,6 +1,7 @@
 """Quick tests of tape.py: python3 tools/test_tape.py
 
-SPLITRUN=PATH names the program (default target/bin/splitrun); tests that need it are skipped without it."""
+SPLITRUN=PATH names the program (default target/bin/splitrun), SPLITTER_LIB_DIR=FOLDER the library's archive (default target/staticlib); tests that
+need them are skipped without them. IMAGES=N compares so many changed images with the library, and as many with a node on two levels."""
 import os
 import random
 import re
@@ -26,6 +27,9 @@ STDIN = Path(os.environ.get("SPLITRUN_STDIN", ROOT / "crates/splitrun/stdin"))
 EXAMPLES = sorted((HERE / "examples").glob("*.tape"))
 NOTHING = "reduced 0 4294967295 1 0"  # the totals where nothing was folded
 DOCUMENT01 = f"2 5 20|101 1|103 0|106 5|105 50|104 1|10 0|102 2|105 99|102 3|free 20|{NOTHING}".split("|")
+ARCHIVE = Path(os.environ.get("SPLITTER_LIB_DIR", ROOT / "target/staticlib")) / "libsplitter.a"
+IMAGES = int(os.environ.get("IMAGES", 1000))
+needs_archive = unittest.skipUnless(ARCHIVE.exists(), f"no {ARCHIVE}")
 needs_splitrun = unittest.skipUnless(os.path.exists(SPLITRUN), f"no splitrun at {SPLITRUN}")
 
 
@@ -972,21 +976,26 @@ class Pictures(unittest.TestCase):
 NONE = 0xFFFFFFFF
 
 
+def packed(left, right=0xFFFF):
+    """An inner node's second word; without a right link, 65,535."""
+    return left + 65536 * right
+
+
 def start_words(workers, values, nodes, places=64):
-    """Document 01's start, in the order of document 02's image: for 5 splitters T(n) is 5 + 3 + 2 + 1."""
+    """Document 01's start, in the order of document 02's image, with R-8's nodes: for 5 splitters T(n) is 5 + 3 + 2 + 1."""
     widths = [len(values)]
     while widths[-1] > 1:
         widths.append((widths[-1] + 1) // 2)
     tree, below = [], 0
     for width, under in zip(widths[::-1], widths[-2::-1]):
         below += width
-        tree += [(1, below + 2 * g, below + 2 * g + 1 if 2 * g + 1 < under else NONE, 0) for g in range(width)]
-    tree += [(1, NONE, NONE, value) for value in values]
+        tree += [(1, packed(below + 2 * g, below + 2 * g + 1 if 2 * g + 1 < under else 0xFFFF)) for g in range(width)]
+    tree += [(1, value) for value in values]
     used = len(tree)
-    tree += [(0, at + 1 if at + 1 < nodes else NONE, 0, 0) for at in range(used, nodes)]
+    tree += [(0, at + 1 if at + 1 < nodes else NONE) for at in range(used, nodes)]
     main, free = (1, NONE, 0, 0, 0, 0, 0, *machine.IDENTITY, NONE), (0,) * 10
     frames = [main] + [(0, at + 1 if at + 1 < places else NONE, *free) for at in range(1, places)]
-    numbers = [workers + 768, len(values), nodes, used if used < nodes else NONE, 1 if places > 1 else NONE, 0, 0, 0, 0, places]
+    numbers = [workers + 1024, len(values), nodes, used if used < nodes else NONE, 1 if places > 1 else NONE, 0, 0, 0, 0, places]
     return numbers + [1] + [0] * (8 * (1 + places) - 1) + [word for record in frames + tree for word in record]
 
 
@@ -1006,11 +1015,21 @@ def changed(changes, words=FIVE):
     return [changes.get(at, word) for at, word in enumerate(words)]
 
 
+def four_words(words):
+    """The nodes of FIVE's tree, 0 to 5 inner ones, 6 to 10 leaves, as they were before R-8: holders, left, right, value."""
+    unpacked = []
+    for number in range(len(words) // 2):
+        holders, word = words[2 * number : 2 * number + 2]
+        left, right = (NONE if half == 0xFFFF else half for half in (word % 65536, word // 65536))
+        unpacked += [holders, left, right, 0] if number < 6 else [holders, NONE, NONE, word] if number < 11 else [holders, word, 0, 0]
+    return unpacked
+
+
 def older(words, version):
-    """The image of version 0, 1 or 2: 256 times that added to the first word, five numbers, from 2 on nine, six, seven or twelve words to a
-    record."""
-    records = [word for at, word in enumerate(words[RECORDS:POOL]) if at % 12 < (6, 7, 12)[version]]
-    return [words[0] - 768 + 256 * version] + words[1 : (5, 5, 9)[version]] + words[DEQUES:RECORDS] + records + words[POOL:]
+    """The image of version 0 to 3: 256 times that added to the first word; five numbers, in version 2 nine, then ten; six, seven, twelve and
+    twelve words to a record; four words to a node."""
+    records = [word for at, word in enumerate(words[RECORDS:POOL]) if at % 12 < (6, 7, 12, 12)[version]]
+    return [words[0] - 1024 + 256 * version] + words[1 : (5, 5, 9, 10)[version]] + words[DEQUES:RECORDS] + records + four_words(words[POOL:])
 
 
 def stolen(returning=0):
@@ -1049,16 +1068,16 @@ class Images(unittest.TestCase):
             data[offset] = 3
             self.assertEqual(image.check(data), 3 << 8 * (offset % 4))
         self.assertEqual(image.check(bytes([255]) * 508), 2**32 - 127)
-        self.assertEqual([image.called_for(64, n) for n in (0, 24, 25, 56, 57, 16384)], [11, 11, 12, 12, 13, 527])
-        self.assertEqual([image.called_for(k, 26) for k in (0, 1, 64, 256, 257, NONE)], [1, 2, 12, 42, 42, 676372804])
-        self.assertEqual((image.called_for(1, 1), image.called_for(256, 16384) * 512), (1, 285184))
+        self.assertEqual([image.called_for(64, n) for n in (0, 49, 50, 113, 114, 16384)], [11, 11, 12, 12, 13, 269])
+        self.assertEqual([image.called_for(k, 52) for k in (0, 1, 64, 256, 257, NONE)], [1, 2, 12, 42, 42, 676372804])
+        self.assertEqual((image.called_for(1, 1), image.called_for(256, 16384) * 512), (1, 153088))
 
     def test_a_good_image(self):
         text = self.told(
             image_bytes(FIVE),
             True,
             "x: 5632 bytes, 11 blocks\n",
-            "form     version 3: 12 words to a frame record\n",
+            "form     version 4: 12 words to a frame record, 2 to a node\n",
             "2 workers, 5 splitters, 20 nodes, 64 frame places, first free node 11, first free frame place 1\n",
             "worker 0: 0\n         worker 1: idle\n",
             "place 0: Main, depth 0, 0 outstanding, on worker 0, root 0\n",
@@ -1093,32 +1112,35 @@ class Images(unittest.TestCase):
         for places in (0, 257, 300, 5000):
             words = start_words(2, [10, 20, 30, 40, 50], 20, max(places, 1))
             if not places:
-                words = words[:18] + words[-80:]
+                words = words[:18] + words[-40:]
                 words[9] = 0
             text = self.told(image_bytes(words), False, f"{places} frame places, ", "by 6: state, frame table", sentence.format(places))
             self.assertNotIn("\ndeques", text)
             damaged = bytearray(image_bytes(words))
             damaged[60] ^= 1
             self.told(bytes(damaged), False, "by 18", "with right checks 6: " + sentence.format(places))
-        for places in (0, 1, 57, 65, 256, 257, 2**30, NONE):
+        for places in (0, 1, 60, 67, 256, 257, 2**30, NONE):
             self.told(image_bytes(changed({9: places})), False, f"{places} places and 20 nodes call for", "by 17")
         # as many blocks are called for: the words after the nodes are those of the true ones
         self.told(image_bytes(changed({9: 63})), False, "by 18", "with right checks 6: not: ")
 
     def test_forms(self):
-        """Each first word from 768 to 1023 has a form, and no other; images from before are refused by 17."""
+        """Each first word from 1024 to 1279 has a form, and no other; images from before are refused by 17."""
         for workers in (*range(12), 127, 254, 255):
-            self.told(image_bytes(changed({0: 768 + workers})), 1 <= workers <= 8, f"{workers} workers, ", "version 3")
-        for first in (0, 2, 255, 256, 258, 511, 512 + 2, 767, 1024 + 2, 65536 + 770, NONE):
-            reason = f"the first word is {first}, and only 768 to 1023 have a form that is read"
+            self.told(image_bytes(changed({0: 1024 + workers})), 1 <= workers <= 8, f"{workers} workers, ", "version 4")
+        for first in (0, 2, 255, 256, 258, 511, 512 + 2, 767, 768 + 2, 1023, 1280 + 2, 65536 + 1026, NONE):
+            reason = f"the first word is {first}, and only 1024 to 1279 have a form that is read"
             text = self.told(image_bytes(changed({0: first})), False, "by 17", reason)
             self.assertNotIn("numbers", text)
-        for version, said in ((0, "x: 4096 bytes, 8 blocks"), (1, "x: 4608 bytes, 9 blocks"), (2, "x: 5632 bytes, 11 blocks")):
+        sizes = ("4096 bytes, 8 blocks", "4608 bytes, 9 blocks", "5632 bytes, 11 blocks", "5632 bytes, 11 blocks")
+        for version, (size, request) in enumerate(zip(sizes, ("R-3", "R-5", "R-6", "R-8"))):
             for words in (FIVE, stolen()):
-                before = f"form     version {version}: from before R-6, no longer read\n"
-                self.told(image_bytes(older(words, version)), False, said, before, "by 17", f"the first word is {2 + 256 * version}, and")
-        # a version 2 image taken for version 3: its tenth word is worker 0's deque length
-        self.told(image_bytes(changed({0: 770}, older(FIVE, 2))), False, "by 17", "1 places and 20 nodes call for 1 blocks, 512 bytes; the file has 5632")
+                before = f"form     version {version}: from before {request}, no longer read\n"
+                self.told(image_bytes(older(words, version)), False, f"x: {size}", before, "by 17", f"the first word is {2 + 256 * version}, and")
+        # a version 2 image taken for version 4: its tenth word is worker 0's deque length
+        self.told(image_bytes(changed({0: 1026}, older(FIVE, 2))), False, "by 17", "1 places and 20 nodes call for 1 blocks, 512 bytes; the file has 5632")
+        # a version 3 image taken for version 4: as many blocks, and the words of the second half of its nodes stand in the rest
+        self.told(image_bytes(changed({0: 1026}, older(FIVE, 3))), False, "by 18", "with right checks 6: not: ")
 
     def test_folds_and_totals(self):
         self.told(image_bytes(stolen()), True, "root 0; folded: sum 30, minimum 5, affine map x to 100 x + 12\n")
@@ -1157,7 +1179,7 @@ class Images(unittest.TestCase):
                   "place 1: child of 0, depth 1, 0 outstanding, on worker 0, root 0; folded", "free: 2 to 63\n")  # fmt: skip
         over = changed({DEQUES: 0, 4: 0, 5: 190, 6: 16, 7: 3, 8: 2})
         over[RECORDS : RECORDS + 12] = [0, 1] + [0] * 10
-        over[3], over[POOL:] = 0, [w for at in range(20) for w in (0, at + 1 if at < 19 else NONE, 0, 0)]
+        over[3], over[POOL:] = 0, [w for at in range(20) for w in (0, at + 1 if at < 19 else NONE)]
         self.told(image_bytes(over), True, "worker 0: idle\n", "free: 0 to 63\n", "0 nodes in use, 20 free\n",
                   "         totals: sum 190, minimum 16, affine map x to 3 x + 2\n")  # fmt: skip
 
@@ -1186,10 +1208,10 @@ class Images(unittest.TestCase):
             whole = (data + bytes(600))[:length]
             self.told(whole, False, "by 17", f"64 places and 20 nodes call for 11 blocks, 5632 bytes; the file has {length}\n")
         large = image_bytes(start_words(1, [1], 200))
-        self.told(large[:-512], False, "183 of 200 nodes are in the file", "by 17")
+        self.told(large[:-512], False, "176 of 200 nodes are in the file", "by 17")
 
     def test_a_node_count_that_is_not_true(self):
-        for nodes in (26, 43, 16384, 2**30 + 20, NONE):
+        for nodes in (50, 93, 16384, 2**31 + 20, NONE):
             self.told(image_bytes(changed({2: nodes})), False, f"64 places and {nodes} nodes call for", "by 17")
         for nodes in (0, 1, 10, 11, 12, 19):
             self.told(image_bytes(changed({2: nodes})), False, "by 18", "with right checks 6: not: ")
@@ -1197,9 +1219,9 @@ class Images(unittest.TestCase):
         self.told(image_bytes(changed({2: 21})), False, "by 6", others, "1 neither in use nor on the free chain")
 
     def test_each_sentence(self):
-        node = lambda number, word: POOL + 4 * number + word  # noqa: E731
+        node = lambda number, word: POOL + 2 * number + word  # noqa: E731
         one = {
-            "Workers are 1 to 8.": {0: 768 + 9},
+            "Workers are 1 to 8.": {0: 1024 + 9},
             "n is 1 to 256.": {1: 257},
             "The recorded node count is T(n) to 16,384.": {1: 11},
             "Live and suspended are 0 or 1, and": {RECORDS: 2},
@@ -1213,7 +1235,8 @@ class Images(unittest.TestCase):
             "A worker that does not exist has an empty": {DEQUES + 2 * 65: 1},
             "Deque places past a deque's frames are zero.": {DEQUES + 64: 1},
             "Each frame in a deque is a child of the one above it.": {DEQUES: 2},
-            "Walking from each live frame gives a tree": {node(0, 3): 7},
+            "Walking from each live frame gives a tree": {node(0, 1): packed(1, 20)},
+            "No node is reached on two levels.": {node(0, 1): packed(1, 3)},
             "Nodes reached have right holders.": {node(6, 0): 2},
             "All other nodes are free and lie once": {node(19, 1): 11},
             "The totals are zero while Main lives.": {8: 1},
@@ -1230,6 +1253,27 @@ class Images(unittest.TestCase):
         self.told(image_bytes(chained), False, top)
         asked = {*one, "A frame that is not a top has only the child below it, if any."}
         self.assertEqual(len(asked), len(soundness.SENTENCES))
+
+    def test_nodes(self):
+        """Levels tell what a node's second word is."""
+        node = lambda number, word: POOL + 2 * number + word  # noqa: E731
+        shape = "not: Walking from each live frame gives a tree of the shape above, in which a node may stand in several places. (frame place 0: "
+        self.told(image_bytes(changed({node(5, 1): packed(10, 6)})), False, f"{shape}node 5 has a right link, and nothing stands there)")
+        self.told(image_bytes(changed({node(3, 1): packed(6)})), False, f"{shape}a link to none on level 0, where a node must stand)")
+        self.told(image_bytes(changed({node(0, 1): packed(0xFFFF, 2)})), False, f"{shape}a link to none on level 2, where a node must stand)")
+        self.told(image_bytes(changed({node(4, 1): packed(8, 0xFFFE)})), False, f"{shape}a link to 65534 on level 0, where a node must stand)")
+        for word in (0, 20, 0xFFFF, packed(3, 4), packed(0xFFFF), NONE):  # a leaf's word is a value, whatever links it would be
+            self.told(image_bytes(changed({node(8, 1): word})), True, "11 nodes in use, 9 free\n")
+        # a node that stands in two places of its level: both splitters of node 3 in node 6; node 7 is free
+        twice = changed({node(3, 1): packed(6, 6), node(6, 0): 2, node(7, 0): 0, node(7, 1): 11, 3: 7})
+        self.told(image_bytes(twice), True, "10 nodes in use, 10 free\n")
+        self.told(image_bytes(changed({node(12, 0): 1})), False, "not: All other nodes are free and lie once on the free chain. (free node 12 has holders: 1)")
+        self.told(image_bytes(changed({node(19, 1): 0xFFFF})), False, "(the free chain: a link to 65535, which does not exist)")
+        # three splitters, whose third stands on levels 1 and 0 in node 5: its value, as links, names itself. Nothing else is wrong
+        words = start_words(1, [10, 20, packed(5)], 7)
+        levels = changed({POOL + 1: packed(1, 5), POOL + 4: 0, POOL + 5: 6, 3: 2, POOL + 10: 2}, words)
+        text = self.told(image_bytes(levels), False, "by 6", "not: No node is reached on two levels. (node 5 is reached on levels 0 and 1)\n")
+        self.assertEqual(text.count("not: "), 1)
 
     def test_no_image_is_too_bad_to_be_told(self):
         chance = random.Random(7)
@@ -1266,6 +1310,114 @@ class Images(unittest.TestCase):
         texts.append(image.described("evening.image", bytes(data))[0])
         for line in "".join(texts).splitlines():
             self.assertIn(f"    {line}\n", page)
+
+
+def asked(letter, data):
+    return struct.pack("<I", 1 + len(data)) + letter + data
+
+
+def words_in(data):
+    """The words of an image, without its checks."""
+    return [word for at in range(0, len(data), 512) for word in struct.unpack_from("<127I", data, at)]
+
+
+def mutated(chance, words):
+    """An image's words with some of its nodes' or its state's changed."""
+    words, nodes, first = list(words), words[2], pool_at(words[9])
+    node = lambda: chance.randrange(nodes)  # noqa: E731
+    half = lambda: chance.choice((node(), node(), 0xFFFF, nodes, chance.randrange(65536)))  # noqa: E731
+    for _ in range(chance.choice((1, 1, 1, 2, 5))):
+        at = first + 2 * node()
+        word = chance.randrange(8)
+        if word < 2:
+            words[at + 1] = words[at + 1] >> 16 << 16 | half() if word else words[at + 1] & 65535 | half() << 16
+        elif word < 4:
+            words[at + 1] = chance.choice((node(), NONE, packed(half(), half())))
+        elif word < 5:
+            words[at] = chance.choice((0, words[at] + 1, max(0, words[at] - 1), NONE))
+        elif word < 6:
+            words[3] = chance.choice((node(), NONE, nodes))
+        elif word < 7:
+            other = first + 2 * node()
+            words[at : at + 2], words[other : other + 2] = words[other : other + 2], words[at : at + 2]
+        else:
+            words[chance.randrange(1, first)] = chance.choice((0, 1, 2, node(), 63, 64, NONE))
+    return words
+
+
+def put_right(words):
+    """The words with the holders counted anew and all other nodes on the free chain, so that only the trees' shape may be wrong."""
+    words, first = list(words), pool_at(words[9])
+    state = soundness.State([words[0] % 256] + words[1:])
+    held = {number: 0 for number in state.reached}
+    for number in [frame.root for frame in state.live.values()] + [n for k in state.reached if any(state.levels[k]) for n in soundness.links(state.pool[k][1])]:
+        held[number] = held.get(number, 0) + 1
+    free = [number for number in range(words[2]) if number not in state.reached]
+    words[3] = free[0] if free else NONE
+    for number, after in zip(free, free[1:] + [NONE]):
+        words[first + 2 * number : first + 2 * number + 2] = [0, after]
+    for number in state.reached:
+        words[first + 2 * number] = held[number]
+    return words
+
+
+@needs_archive
+class WithTheLibrary(unittest.TestCase):
+    @classmethod
+    def setUpClass(cls):
+        cls.scratch = tempfile.TemporaryDirectory()
+        cls.program = Path(cls.scratch.name) / "load"
+        flags = ["-std=c99", "-O2", f"-I{ROOT / 'host/include'}"]
+        subprocess.run(["gcc", *flags, "-o", cls.program, ROOT / "tools/lib/load.c", ARCHIVE], check=True)
+
+    @classmethod
+    def tearDownClass(cls):
+        cls.scratch.cleanup()
+
+    def told(self, requests):
+        return subprocess.run([self.program], input=b"".join(requests), capture_output=True, check=True).stdout
+
+    def saved(self):
+        """Images that the library saved in the middle of runs."""
+        chance, inputs = random.Random(8), []
+        for seed in range(150):
+            data = script.encode(random_script(seed))
+            workers, nodes, values, tail = script.split_input(data)
+            if not machine.whole_refusal(workers, values, nodes, b""):
+                inputs.append(data[: 8 + 4 * len(values)] + tail[: 8 * chance.randint(0, len(tail) // 8)])
+        out, images = self.told(asked(b"s", data) for data in inputs), []
+        while out:
+            length = struct.unpack_from("<I", out)[0]
+            images.append(out[4 : 4 + length])
+            out = out[4 + length :]
+        self.assertEqual(len(images), len(inputs))
+        return images
+
+    def test_the_verdict_is_the_library_s(self):
+        chance, saved = random.Random(9), self.saved()
+        given = saved + [image_bytes(words) for words in (FIVE, stolen(), stolen(1), siblings(), *(older(FIVE, version) for version in range(4)))]
+        for turn in range(IMAGES):
+            words = mutated(chance, words_in(chance.choice(saved)))
+            given.append(image_bytes(put_right(words) if turn % 2 and soundness.State([words[0] % 256] + words[1:]).has_trees() else words))
+        levels = 0
+        # few nodes, and values that are links: a node may come to stand on two levels, and nothing else be wrong
+        for _ in range(IMAGES):
+            n = chance.choice((2, 3, 4, 5))
+            nodes = machine.tree_nodes(n) + chance.randint(0, 2)
+            words = start_words(1, [packed(chance.randrange(nodes), chance.choice((0xFFFF, chance.randrange(nodes)))) for _ in range(n)], nodes, 1)
+            for _ in range(chance.choice((1, 1, 2))):
+                at, link = pool_at(1) + 2 * chance.randrange(machine.tree_nodes(n)) + 1, chance.randrange(nodes)
+                words[at] = chance.choice((packed(link, words[at] >> 16), packed(words[at] & 65535, link)))
+            given.append(image_bytes(put_right(words)))
+        results = self.told(asked(b"l", data) for data in given)
+        verdicts = {0: 0, 6: 0, 17: 0, 18: 0}
+        for at, data in enumerate(given):
+            found = image.refusals(image.Image(data))
+            number = found[0][0] if found else 0
+            self.assertEqual(struct.unpack_from("<I", results, 4 * at)[0], number, image.described(str(at), data)[0])
+            verdicts[number] += 1
+            levels += [reason.startswith("not: No node is reached on two levels") for _, reason in found] == [True]
+        self.assertTrue(min(verdicts[0], verdicts[6]) > IMAGES // 2 and levels > IMAGES // 10, (verdicts, levels))
 
 
 @needs_splitrun

@@ -1,4 +1,4 @@
-"""A saved image (document 02, R-1, R-3, R-5 and R-6) in words: what it holds, which blocks are damaged, and why a reading would refuse it."""
+"""A saved image (document 02, R-1, R-3, R-5, R-6 and R-8) in words: what it holds, which blocks are damaged, and why a reading would refuse it."""
 import struct
 
 from . import soundness
@@ -8,7 +8,8 @@ from .soundness import FRAME_WORDS, MOST_PLACES, NODE_WORDS, NONE, PLACES, link,
 
 BLOCK, DATA = 512, 508
 NODES = 2  # the word of the recorded nodes
-VERSION = 3  # the only one that is read; the first word is the workers and 256 times it
+VERSION = 4  # the only one that is read; the first word is the workers and 256 times it
+ENDED = ("R-3", "R-5", "R-6", "R-8")  # the request of document 02 that ended each version before
 LARGEST = 1 << 24  # no file of more bytes is looked at
 REFUSED = {
     17: "the image is not just as many whole blocks as its first block calls for, has no whole block or no readable form",
@@ -53,7 +54,7 @@ class Image:
         if not self.blocks:
             return f"{len(self.data)} bytes are no whole block"
         if not self.readable:
-            return f"the first word is {self.words[0]}, and only 768 to 1023 have a form that is read"
+            return f"the first word is {self.words[0]}, and only {256 * VERSION} to {256 * VERSION + 255} have a form that is read"
         called = called_for(self.places, self.nodes)
         if len(self.data) == called * BLOCK:
             return None
@@ -88,10 +89,10 @@ def labelled(label, lines):
 
 def form_lines(image):
     if image.version < VERSION:
-        return [f"version {image.version}: from before R-6, no longer read"]
+        return [f"version {image.version}: from before {ENDED[image.version]}, no longer read"]
     if not image.readable:
         return [f"first word {image.words[0]}: of no form that is read"]
-    return [f"version {image.version}: {FRAME_WORDS} words to a frame record"]
+    return [f"version {image.version}: {FRAME_WORDS} words to a frame record, {NODE_WORDS} to a node"]
 
 
 def number_lines(words):

@@ -1,12 +1,12 @@
-"""Document 01's "Soundness", sentence by sentence, and document 02's, R-1, R-3, R-5 and R-6, over the words of an image: numbers, deques,
+"""Document 01's "Soundness", sentence by sentence, and document 02's, R-1, R-3, R-5, R-6 and R-8, over the words of an image: numbers, deques,
 frame records and the pool's nodes."""
 from collections import Counter
 
 from .machine import height, tree_nodes
 
-NONE = 0xFFFFFFFF
+NONE, HALF_NONE = 0xFFFFFFFF, 0xFFFF  # of a word, and of a link in 16 bits
 WORKERS, MOST_PLACES, MOST_NODES = 8, 256, 16384
-NUMBERS, FRAME_WORDS, NODE_WORDS = 10, 12, 4
+NUMBERS, FRAME_WORDS, NODE_WORDS = 10, 12, 2
 PLACES = 9  # the word of the frame table's recorded length
 
 
@@ -33,6 +33,11 @@ def link(word):
     return "none" if word == NONE else str(word)
 
 
+def links(word):
+    """Left and right of an inner node's second word: left plus 65,536 times right, 65,535 for none."""
+    return tuple(NONE if half == HALF_NONE else half for half in (word % 65536, word // 65536))
+
+
 class Frame:
     """A frame place's record."""
 
@@ -56,32 +61,32 @@ class State:
         self.pool = pieces(words[pool : pool + NODE_WORDS * self.nodes], NODE_WORDS)
         self.live = {place: frame for place, frame in enumerate(self.frames) if frame.live}
         self.children = {place: [p for p, f in self.live.items() if f.parent == place] for place in self.live}
-        self.reached, self.shape = set(), None
+        self.levels, self.shape = {}, None  # of each node reached, the levels on which it is
         if self.has_trees():
             for place, frame in self.live.items():
                 fault = self.walk(frame.root, height(self.n), 0)
                 if fault and not self.shape:
                     self.shape = f"frame place {place}: {fault}"
+        self.reached = set(self.levels)
 
     def has_trees(self):
         """Whether numbers are right, so that there is a shape to ask for."""
         return 1 <= self.n <= 256 and tree_nodes(self.n) <= self.nodes <= min(MOST_NODES, len(self.pool))
 
     def walk(self, number, level, group):
-        """Walks to all positions below one; what is first found wrong with the shape, or None."""
+        """Walks to all positions below one; what is first found wrong with the shape, or None. The level tells what the second word is: a
+        leaf's is its value, whatever it is."""
         if number >= self.nodes:
             return f"a link to {link(number)} on level {level}, where a node must stand"
-        self.reached.add(number)
-        _, left, right, value = self.pool[number]
+        self.levels.setdefault(number, set()).add(level)
         if level == 0:
-            links = [word for word in (left, right) if word != NONE]
-            return f"node {number} is a leaf with a link to {links[0]}" if links else None
+            return None
+        left, right = links(self.pool[number][1])
         faults = [self.walk(left, level - 1, 2 * group)]
         if 2 * group + 1 < (self.n + 2 ** (level - 1) - 1) >> (level - 1):
             faults.append(self.walk(right, level - 1, 2 * group + 1))
         elif right != NONE:
             faults.append(f"node {number} has a right link, and nothing stands there")
-        faults.append(f"node {number} is an inner node with the value {value}" if value else None)
         return first(fault for fault in faults if fault)
 
 
@@ -205,14 +210,20 @@ def shape(s):
     return s.shape
 
 
+def one_level(s):
+    twice = ((number, sorted(levels)) for number, levels in sorted(s.levels.items()) if len(levels) > 1)
+    return first(f"node {number} is reached on levels {' and '.join(map(str, levels))}" for number, levels in twice)
+
+
 def holders(s):
+    """Nodes on a level above the leaves' have links."""
     if not s.has_trees():
         return None
-    links = Counter(frame.root for frame in s.live.values())
+    held = Counter(frame.root for frame in s.live.values())
     for number in s.reached:
-        links.update(s.pool[number][1:3])
-    wrong = (number for number in sorted(s.reached) if s.pool[number][0] != links[number])
-    return first(f"node {number}: holders are {s.pool[number][0]}, links to it {links[number]}" for number in wrong)
+        held.update(links(s.pool[number][1]) if any(s.levels[number]) else ())
+    wrong = (number for number in sorted(s.reached) if s.pool[number][0] != held[number])
+    return first(f"node {number}: holders are {s.pool[number][0]}, links to it {held[number]}" for number in wrong)
 
 
 def others_free(s):
@@ -224,8 +235,8 @@ def others_free(s):
         return f"the free chain: {fault}"
     for number in sorted(others ^ set(met)):
         return f"node {number} is " + ("reached and on the free chain" if number in s.reached else "not reached and not on the free chain")
-    dirty = (n for n in met if s.pool[n][0] or s.pool[n][2] or s.pool[n][3])
-    return first(f"free node {number} holds {s.pool[number]}" for number in dirty)
+    held = (number for number in met if s.pool[number][0])
+    return first(f"free node {number} has holders: {s.pool[number][0]}" for number in held)
 
 
 def totals(s):
@@ -261,8 +272,8 @@ def places_free(s):
     return first(f"free frame place {place} has a word that is not zero" for place in dirty)
 
 
-# Document 01's words; document 02's, R-1, for the flags, R-3 for the returning word, R-5 for totals and links, R-6 for the places of a deque.
-# That the recorded length is 1 to 256 is asked before there is a state to look at.
+# Document 01's words; document 02's, R-1, for the flags, R-3 for the returning word, R-5 for totals and links, R-6 for the places of a deque,
+# R-8 for the levels. That the recorded length is 1 to 256 is asked before there is a state to look at.
 SENTENCES = (
     ("Workers are 1 to 8.", workers),
     ("n is 1 to 256.", splitters),
@@ -280,6 +291,7 @@ SENTENCES = (
     ("Each frame in a deque is a child of the one above it.", in_order),
     ("A frame that is not a top has only the child below it, if any.", not_a_top),
     ("Walking from each live frame gives a tree of the shape above, in which a node may stand in several places.", shape),
+    ("No node is reached on two levels.", one_level),
     ("Nodes reached have right holders.", holders),
     ("All other nodes are free and lie once on the free chain.", others_free),
     ("The totals are zero while Main lives.", totals),
