@@ -1,6 +1,6 @@
 -- Links in 16 bits: what a word of two links holds, half by half, and back.
 use mathlib.Core.Path.{_≡_, refl, sym, ap, _∙_, subst}
-use mathlib.Core.Logic.{_≢_}
+use mathlib.Core.Logic.{_≢_, _⊎_, inl, inr}
 use Prim.Native.Nat.{ℕ, _+_, _-_, _*_, _/_, _%_, _≤_, _<_}
 use native.Mathlib.Omega.{arith}
 use native.Mathlib.Decide.{ℕ-discrete}
@@ -38,6 +38,15 @@ linkIn-half-none = refl
 
 pub half-lt : (i : ℕ) → i < 65535 → half i < 65536
 half-lt i b = rw (half-node i (λ n. omega arith)) (omega arith)
+
+-- a right link: a node, or none
+pub link-half-lt : (r : ℕ) → (r < 65535) ⊎ (r ≡ none) → half r < 65536
+link-half-lt r (inl b) = half-lt r b
+link-half-lt r (inr e) = omega (arith, ap half e, half-none)
+
+pub linkIn-link : (r : ℕ) → (r < 65535) ⊎ (r ≡ none) → linkIn (half r) ≡ r
+linkIn-link r (inl b) = linkIn-half r b
+linkIn-link r (inr e) = ap (λ k. linkIn (half k)) e ∙ sym e
 
 -- a half that is one of N nodes is that node
 pub linkIn-is : {N : ℕ} (h i : ℕ) → linkIn h ≡ i → i < N → N ≤ none → h ≡ i

@@ -1,19 +1,18 @@
 -- Two-word nodes that unpack to four-word nodes, node for node, and one lemma for each kind of store that keeps that.
-use mathlib.Core.Path.{_≡_, refl, sym, ap, _∙_, subst}
-use mathlib.Core.Logic.{_≢_, _⊎_, inl, inr}
+use mathlib.Core.Path.{_≡_, sym, ap, _∙_, subst}
+use mathlib.Core.Logic.{_≢_, _⊎_, inl}
 use mathlib.Core.List.{List}
 use Prim.Native.Nat.{ℕ, zero, suc, _+_, _*_, _≤_, _<_, _/_, _%_}
 use native.Mathlib.Omega.{arith}
 use native.Mathlib.Decide.{ℕ-discrete}
-use native.Mathlib.Nat.{mod-eq-of-lt}
 use lib.ListN.{length, drop, set, length-set}
 use lib.Seq.{getD-set-same, getD-set-other, drop-set-lt}
-use borrow.Author.Tests.{ne-eqb}
-use Rattle.words.specs.Basics.{none, plus, times}
+use Rattle.words.specs.Basics.{none}
 use Rattle.pool.specs.Pool as Four
 use Rattle.pool.specs.Pool.{side}
 use Rattle.pool.specs.Theory.Nodes.{SameNode, length-setNode, setNode-is, setNode-other, length-setRefcount, setRefcount-is, setRefcount-other, setRefcount-content, length-setValue, setValue-is, setValue-refcount, setValue-left, setValue-right, setValue-other, length-setLink, setLink-left, setLink-right, setLink-refcount, setLink-other}
 use Rattle.packed.specs.Pool.{refcount, content, half, linkIn, links, left, right, setNode, setRefcount, setContent, setValue, setLink}
+use Rattle.packed.specs.Theory.Halves.{half-lt, linkIn-half, link-half-lt, linkIn-link, links-low, links-high-half}
 
 -- document 02, R-8: "unpacking the new pool gives the old one node for node": N nodes of two words in ws₂, of four in ws₄; tail is the words of
 -- ws₂ past the nodes
@@ -26,40 +25,15 @@ pub record Unpacks (N : ℕ) (tail ws₂ ws₄ : List ℕ) : Type 0 where
   pub leaf : (i : ℕ) → i < N → 0 < Four.refcount ws₄ i → Four.left ws₄ i ≡ none → content ws₂ i ≡ Four.value ws₄ i
   pub free : (i : ℕ) → i < N → Four.refcount ws₄ i ≡ 0 → content ws₂ i ≡ Four.left ws₄ i
 
--- ---- halves
-
-half-none : half none ≡ 65535
-half-none = refl
-
-half-some : (l : ℕ) → l < 65535 → half l ≡ l
-half-some l b = rw (ne-eqb l none (omega arith))
-
-links-is : (l r : ℕ) → half l < 65536 → half r < 65536 → links l r ≡ half l + 65536 * half r
-unfolding links
-links-is l r a b = (let e : times 65536 (half r) ≡ 65536 * half r = mod-eq-of-lt (omega arith) in ap (plus (half l)) e ∙ mod-eq-of-lt (omega arith))
+-- ---- the links in a word
 
 pub left-of : (ws : List ℕ) (i l r : ℕ) → content ws i ≡ links l r → l < 65535 → half r < 65536 → left ws i ≡ l
 unfolding left
-left-of ws i l r e a b =
-    let h : half l ≡ l = half-some l a in
-    let m : content ws i % 65536 ≡ l = omega (arith, e, h, links-is l r (omega arith) b) in
-    ap linkIn m ∙ rw (ne-eqb l 65535 (omega arith))
-
--- a right link: a node, or none
-half-lt : (r : ℕ) → (r < 65535) ⊎ (r ≡ none) → half r < 65536
-half-lt r (inl b) = omega (arith, half-some r b)
-half-lt r (inr e) = omega (arith, ap half e, half-none)
-
-linkIn-half : (r : ℕ) → (r < 65535) ⊎ (r ≡ none) → linkIn (half r) ≡ r
-linkIn-half r (inl b) = ap linkIn (half-some r b) ∙ rw (ne-eqb r 65535 (omega arith))
-linkIn-half r (inr e) = ap linkIn (ap half e ∙ half-none) ∙ sym e
+left-of ws i l r e a b = ap (λ w. linkIn (w % 65536)) e ∙ ap linkIn (links-low l r (half-lt l a) b) ∙ linkIn-half l a
 
 pub right-of : (ws : List ℕ) (i l r : ℕ) → content ws i ≡ links l r → l < 65535 → (r < 65535) ⊎ (r ≡ none) → right ws i ≡ r
 unfolding right
-right-of ws i l r e a b =
-    let h : half l ≡ l = half-some l a in
-    let m : content ws i / 65536 % 65536 ≡ half r = omega (arith, e, h, half-lt r b, links-is l r (omega arith) (half-lt r b)) in
-    ap linkIn m ∙ linkIn-half r b
+right-of ws i l r e a b = ap (λ w. linkIn (w / 65536 % 65536)) e ∙ ap linkIn (links-high-half l r (half-lt l a) (link-half-lt r b)) ∙ linkIn-link r b
 
 -- ---- two words: what is read after a store
 
@@ -171,7 +145,7 @@ module _ (ws₂ ws₄ : List ℕ) (i : ℕ) (room₂ : 2 * i + 2 ≤ length ws�
       let e = both-content ws₂ i c (links l r) room₂ in
       record {
         counts = both-refcount ws₂ i c (links l r) room₂ ∙ sym (F .refcount-is);
-        inner = λ _ _. (left-of _ i l r e bl (half-lt r br) ∙ sym (F .left-is), right-of _ i l r e bl br ∙ sym (F .right-is));
+        inner = λ _ _. (left-of _ i l r e bl (link-half-lt r br) ∙ sym (F .left-is), right-of _ i l r e bl br ∙ sym (F .right-is));
         leaf = λ _ t. absurd (omega (arith, F .left-is));
         free = λ t. absurd (omega (arith, F .refcount-is));
       }
@@ -275,7 +249,7 @@ module _ {N : ℕ} {tail ws₂ ws₄ : List ℕ} (U : Unpacks N tail ws₂ ws₄
       (λ j o. record { same-refcount = setLink-refcount ws₄ i d c j; content = setLink-other ws₄ i d c j o })
       (record {
         counts = second-refcount ws₂ i 0 w i ∙ U .counts i b ∙ sym (setLink-refcount ws₄ i d c i);
-        inner = λ _ _. (left-of _ i l r f bl (half-lt r br) ∙ sym il, right-of _ i l r f bl br ∙ sym ir);
+        inner = λ _ _. (left-of _ i l r f bl (link-half-lt r br) ∙ sym il, right-of _ i l r f bl br ∙ sym ir);
         leaf = λ _ t. absurd (omega (arith, il));
         free = λ t. absurd (omega (arith, setLink-refcount ws₄ i d c i));
       })

@@ -53,6 +53,26 @@ pub record PoolSound (N H n : ℕ) (ws : List ℕ) (free : ℕ) (fs E : List ℕ
 
 -- ---- one level of a tree
 
+-- the nodes of a tree, counted
+module _ (n : ℕ) (ws : List ℕ) where
+  pub nodes-leaf : (g c i : ℕ) → count i (nodesOf n ws 0 g c) ≡ δ i c
+  unfolding nodesOf
+  nodes-leaf g c i = omega (arith, count-cons i c [], count-nil i)
+
+  pub nodes-two : (l g c i : ℕ) → (2 * g + 1) * 2 ^ l < n
+      → count i (nodesOf n ws (suc l) g c) ≡ δ i c + count i (nodesOf n ws l (2 * g) (left ws c)) + count i (nodesOf n ws l (2 * g + 1) (right ws c))
+  unfolding nodesOf
+  nodes-two l g c i h =
+      let A = nodesOf n ws l (2 * g) (left ws c) in
+      let B = nodesOf n ws l (2 * g + 1) (right ws c) in
+      rw (ltb-of h) (omega (arith, count-cons i c (A ++ B), count-append i A B))
+
+  pub nodes-one : (l g c i : ℕ) → n ≤ (2 * g + 1) * 2 ^ l → count i (nodesOf n ws (suc l) g c) ≡ δ i c + count i (nodesOf n ws l (2 * g) (left ws c))
+  unfolding nodesOf
+  nodes-one l g c i h =
+      let A = nodesOf n ws l (2 * g) (left ws c) in
+      rw (nltb-of h) (omega (arith, count-cons i c (A ++ []), count-append i A [], count-nil i))
+
 module _ (n N : ℕ) (ws : List ℕ) where
   pub tree-in : (l g i : ℕ) → TreeAt n N ws l g i → i < N
   unfolding TreeAt
@@ -80,56 +100,38 @@ module _ (n N : ℕ) (ws : List ℕ) where
   unfolding TreeAt
   tree-leaf g i t = (t .1, t .2)
 
-  nodes-leaf : (g c i : ℕ) → count i (nodesOf n ws 0 g c) ≡ δ i c
-  unfolding nodesOf
-  nodes-leaf g c i = omega (arith, count-cons i c [], count-nil i)
-
-  nodes-two : (l g c i : ℕ) → (2 * g + 1) * 2 ^ l < n
-      → count i (nodesOf n ws (suc l) g c) ≡ δ i c + count i (nodesOf n ws l (2 * g) (left ws c)) + count i (nodesOf n ws l (2 * g + 1) (right ws c))
-  unfolding nodesOf
-  nodes-two l g c i h =
-      let A = nodesOf n ws l (2 * g) (left ws c) in
-      let B = nodesOf n ws l (2 * g + 1) (right ws c) in
-      rw (ltb-of h) (omega (arith, count-cons i c (A ++ B), count-append i A B))
-
-  nodes-one : (l g c i : ℕ) → n ≤ (2 * g + 1) * 2 ^ l → count i (nodesOf n ws (suc l) g c) ≡ δ i c + count i (nodesOf n ws l (2 * g) (left ws c))
-  unfolding nodesOf
-  nodes-one l g c i h =
-      let A = nodesOf n ws l (2 * g) (left ws c) in
-      rw (nltb-of h) (omega (arith, count-cons i c (A ++ []), count-append i A [], count-nil i))
-
   -- what holds of a tree that has i, if it holds where i is its root, and goes up from the left tree and from the right tree
   pub tree-cases : (P : ℕ → ℕ → ℕ → Type 0) (i : ℕ) → ((l g : ℕ) → P l g i)
       → ((l g c : ℕ) → TreeAt n N ws (suc l) g c → P l (2 * g) (left ws c) → P (suc l) g c)
       → ((l g c : ℕ) → TreeAt n N ws (suc l) g c → (2 * g + 1) * 2 ^ l < n → P l (2 * g + 1) (right ws c) → P (suc l) g c)
       → (l g c : ℕ) → TreeAt n N ws l g c → 0 < count i (nodesOf n ws l g c) → P l g c
-  tree-cases P i root onLeft onRight zero g c t o = subst (λ q. P zero g q) (δ-eq i c (omega (arith, nodes-leaf g c i))) (root zero g)
+  tree-cases P i root onLeft onRight zero g c t o = subst (λ q. P zero g q) (δ-eq i c (omega (arith, nodes-leaf n ws g c i))) (root zero g)
   tree-cases P i root onLeft onRight (suc l) g c t o = elim (ℕ-discrete i c) [
     | yes e ↦ subst (λ q. P (suc l) g q) e (root (suc l) g)
     | no e ↦ elim (ℕ-discrete (count i (nodesOf n ws l (2 * g) (left ws c))) 0) [
       | no a ↦ onLeft l g c t (tree-cases P i root onLeft onRight l (2 * g) (left ws c) (tree-left l g c t) (omega arith))
       | yes a ↦ elim (decLt ((2 * g + 1) * 2 ^ l) n) [
-        | yes h ↦ onRight l g c t h (tree-cases P i root onLeft onRight l (2 * g + 1) (right ws c) (tree-right l g c t h) (omega (arith, nodes-two l g c i h, δ-other i c e)))
-        | no h ↦ absurd (omega (arith, nodes-one l g c i (omega arith), δ-other i c e))
+        | yes h ↦ onRight l g c t h (tree-cases P i root onLeft onRight l (2 * g + 1) (right ws c) (tree-right l g c t h) (omega (arith, nodes-two n ws l g c i h, δ-other i c e)))
+        | no h ↦ absurd (omega (arith, nodes-one n ws l g c i (omega arith), δ-other i c e))
       ]
     ]
   ]
 
   pub count-root : (l g c : ℕ) → 0 < count c (nodesOf n ws l g c)
-  count-root zero g c = omega (arith, nodes-leaf g c c, δ-same c)
+  count-root zero g c = omega (arith, nodes-leaf n ws g c c, δ-same c)
   count-root (suc l) g c = elim (decLt ((2 * g + 1) * 2 ^ l) n) [
-    | yes h ↦ omega (arith, nodes-two l g c c h, δ-same c)
-    | no h ↦ omega (arith, nodes-one l g c c (omega arith), δ-same c)
+    | yes h ↦ omega (arith, nodes-two n ws l g c c h, δ-same c)
+    | no h ↦ omega (arith, nodes-one n ws l g c c (omega arith), δ-same c)
   ]
 
   pub count-left : (l g c i : ℕ) → 0 < count i (nodesOf n ws l (2 * g) (left ws c)) → 0 < count i (nodesOf n ws (suc l) g c)
   count-left l g c i o = elim (decLt ((2 * g + 1) * 2 ^ l) n) [
-    | yes h ↦ omega (arith, nodes-two l g c i h)
-    | no h ↦ omega (arith, nodes-one l g c i (omega arith))
+    | yes h ↦ omega (arith, nodes-two n ws l g c i h)
+    | no h ↦ omega (arith, nodes-one n ws l g c i (omega arith))
   ]
 
   pub count-right : (l g c i : ℕ) → (2 * g + 1) * 2 ^ l < n → 0 < count i (nodesOf n ws l (2 * g + 1) (right ws c)) → 0 < count i (nodesOf n ws (suc l) g c)
-  count-right l g c i h o = omega (arith, nodes-two l g c i h)
+  count-right l g c i h o = omega (arith, nodes-two n ws l g c i h)
 
   -- a node of a tree has a place in it
   pub place : (l g c i : ℕ) → g * 2 ^ l < n → TreeAt n N ws l g c → 0 < count i (nodesOf n ws l g c) → (k : ℕ) × (d : ℕ) × (k ≤ l) × (d * 2 ^ k < n) × TreeAt n N ws k d i

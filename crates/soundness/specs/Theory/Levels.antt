@@ -2,7 +2,7 @@
 use mathlib.Core.Path.{_≡_, refl, sym, ap, ap₂, _∙_, subst}
 use mathlib.Core.Logic.{_≢_, inl, inr}
 use mathlib.Core.Bool.{true, false, cond}
-use mathlib.Core.List.{List, [], _∷_, _++_}
+use mathlib.Core.List.{List, [], _∷_}
 use Prim.Native.Nat.{ℕ, zero, suc, _+_, _*_, _≤_, _<_, _^_}
 use native.Mathlib.Omega.{arith}
 use native.Mathlib.Decide.{ℕ-discrete, decLt}
@@ -13,7 +13,7 @@ use Rattle.words.specs.Counting.{δ-same, δ-other, δ-eq, δ₀, δ₀-zero, �
 use Rattle.words.specs.Tallies.{howMany-pos, some-at, some-of}
 use Rattle.sizes.specs.Sizes.{height}
 use Rattle.pool.specs.Pool as Four
-use Rattle.pool.specs.Theory.Trees.{nodesOf, reachedNodes, reachedLink, visits}
+use Rattle.pool.specs.Theory.Trees.{nodesOf, reachedNodes, reachedLink, visits, nodes-leaf, nodes-two, nodes-one}
 use Rattle.packed.specs.Pool.{left, right}
 use Rattle.soundness.specs.PackedTrees.{nodesOn, reachedOn, isOn, isInner, levelsOf, holders}
 
@@ -123,28 +123,10 @@ module _ (n : ℕ) (ws₂ ws₄ : List ℕ) where
   abbrev pub SameLinks : ℕ → Type 0
   SameLinks j = (left ws₂ j ≡ Four.left ws₄ j) × (right ws₂ j ≡ Four.right ws₄ j)
 
-  nodes-leaf : (g c i : ℕ) → count i (nodesOf n ws₄ 0 g c) ≡ δ i c
-  unfolding nodesOf
-  nodes-leaf g c i = omega (arith, count-cons i c [], count-nil i)
-
-  nodes-two : (l g c i : ℕ) → (2 * g + 1) * 2 ^ l < n
-      → count i (nodesOf n ws₄ (suc l) g c) ≡ δ i c + count i (nodesOf n ws₄ l (2 * g) (Four.left ws₄ c)) + count i (nodesOf n ws₄ l (2 * g + 1) (Four.right ws₄ c))
-  unfolding nodesOf
-  nodes-two l g c i h =
-      let A = nodesOf n ws₄ l (2 * g) (Four.left ws₄ c) in
-      let B = nodesOf n ws₄ l (2 * g + 1) (Four.right ws₄ c) in
-      rw (ltb-of h) (omega (arith, count-cons i c (A ++ B), count-append i A B))
-
-  nodes-one : (l g c i : ℕ) → n ≤ (2 * g + 1) * 2 ^ l → count i (nodesOf n ws₄ (suc l) g c) ≡ δ i c + count i (nodesOf n ws₄ l (2 * g) (Four.left ws₄ c))
-  unfolding nodesOf
-  nodes-one l g c i h =
-      let A = nodesOf n ws₄ l (2 * g) (Four.left ws₄ c) in
-      rw (nltb-of h) (omega (arith, count-cons i c (A ++ []), count-append i A [], count-nil i))
-
   -- the nodes of a tree are those of its levels
   nodes-levels : (l g c i : ℕ) → ((k j : ℕ) → 0 < count j (nodesOn n ws₂ (suc k) l g c) → SameLinks j)
       → count i (nodesOf n ws₄ l g c) ≡ sum (suc l) (λ k. count i (nodesOn n ws₂ k l g c))
-  nodes-levels zero g c i S = omega (arith, nodes-leaf g c i, on-here n ws₂ 0 g c i)
+  nodes-levels zero g c i S = omega (arith, nodes-leaf n ws₄ g c i, on-here n ws₂ 0 g c i)
   nodes-levels (suc l) g c i S =
       let e = S l c (omega (arith, on-here n ws₂ (suc l) g c c, δ-same c)) in
       let f : ℕ → ℕ = (λ k. count i (nodesOn n ws₂ k (suc l) g c)) in
@@ -155,7 +137,7 @@ module _ (n : ℕ) (ws₂ ws₄ : List ℕ) where
       elim (decLt ((2 * g + 1) * 2 ^ l) n) [
         | yes h ↦ omega (
           arith,
-          nodes-two l g c i h,
+          nodes-two n ws₄ l g c i h,
           A,
           A',
           nodes-levels l (2 * g + 1) (right ws₂ c) i (λ k j p. S k j (on-right n ws₂ (suc k) l g c j h p)),
@@ -164,7 +146,7 @@ module _ (n : ℕ) (ws₂ ws₄ : List ℕ) where
           sum-add (suc l) a b,
           on-here n ws₂ (suc l) g c i,
         )
-        | no h ↦ omega (arith, nodes-one l g c i (omega arith), A, A', sum-cong (suc l) f a (λ k q. on-one n ws₂ k l g c i (omega arith) (omega arith)), on-here n ws₂ (suc l) g c i)
+        | no h ↦ omega (arith, nodes-one n ws₄ l g c i (omega arith), A, A', sum-cong (suc l) f a (λ k q. on-one n ws₂ k l g c i (omega arith) (omega arith)), on-here n ws₂ (suc l) g c i)
       ]
 
   visits-levels : (rs : List ℕ) (i : ℕ) → ((k j : ℕ) → 0 < count j (reachedOn n ws₂ rs (suc k)) → SameLinks j)
