@@ -19,3 +19,5 @@ pub mod Start
 pub mod Words
 -- Halves: links in 16 bits, packed into a word and taken out of it.
 pub mod Halves
+-- Pack: R-9, what a changed-over pool unpacks to
+pub mod Pack

@@ -8,6 +8,7 @@ mod tree;
 
 pub use node::NODE_WORDS;
 pub use node::NONE;
+pub use node::links_of;
 pub use node::next_of;
 pub use refs::Freed;
 pub use refs::release;
