@@ -321,9 +321,9 @@ abbrev pub oneByOne : (ℕ → List ℕ) → ℕ → List Step → List HostCall
 oneByOne works i [] = []
 oneByOne works i (s ∷ ss) = callOf s (works i) ∷ oneByOne works (suc i) ss
 
--- the one-worker run's calls
-abbrev pub oneWorkerCalls : Layout → Start → List Call → (ℕ → List ℕ) → List Call
-oneWorkerCalls L b calls works = map call (oneByOne works 0 (oneWorkerSteps (traceOf L b calls)))
+-- the one-worker run's calls, for a run with this trace
+abbrev pub oneWorkerCalls : List Entry → (ℕ → List ℕ) → List Call
+oneWorkerCalls trace works = map call (oneByOne works 0 (oneWorkerSteps trace))
 
 -- "The one-worker run starts with one worker, the same initial values and a pool of as many whole nodes", over any parts that fit; R-6: "The one-worker
 -- run has as many places": the table of these parts has, whatever it holds. Each step "with a work slice that is long enough"
@@ -344,22 +344,22 @@ abbrev pub totalWords : List Folded → List ℕ
 totalWords fs =
     totalSum (valuesInto 0 fs) .value ∷ totalMin (valuesInto 1 fs) .value ∷ totalAffine (valuesInto 2 fs) .multiplier ∷ totalAffine (valuesInto 2 fs) .addend ∷ []
 
--- b₁ is the one-worker run's start, cs₁ are its calls
-pub record OneWorker (L : Layout) (b : Start) (calls : List Call) (b₁ : Start) (cs₁ : List Call) : Type 0 where
+-- r is the run, and `trace` what its frames did and read; b₁ is the one-worker run's start, cs₁ are its calls
+pub record OneWorker (L : Layout) (trace : List Entry) (r : Run) (b₁ : Start) (cs₁ : List Call) : Type 0 where
   pub starts : startResult L b₁ .result ≡ 0
   -- each step of the list is fed to the machine, and none is refused
-  pub all-entered : recordsIn (runFrom L b₁ cs₁ .past .exchanges) ≡ map Valid (oneWorkerSteps (traceOf L b calls))
+  pub all-entered : recordsIn (runFrom L b₁ cs₁ .past .exchanges) ≡ map Valid (oneWorkerSteps trace)
   pub none-refused : allAccepted (answersIn (runFrom L b₁ cs₁ .past .exchanges))
-  pub same-frames : (p : Name) → IsFrame (traceOf L b₁ cs₁) p ↔ IsFrame (traceOf L b calls) p
-  pub same-steps : (p : Name) → stepsOf p (traceOf L b₁ cs₁) ≡ stepsOf p (traceOf L b calls)
-  pub same-reads : (p : Name) → readsOf p (traceOf L b₁ cs₁) ≡ readsOf p (traceOf L b calls)
+  pub same-frames : (p : Name) → IsFrame (traceOf L b₁ cs₁) p ↔ IsFrame trace p
+  pub same-steps : (p : Name) → stepsOf p (traceOf L b₁ cs₁) ≡ stepsOf p trace
+  pub same-reads : (p : Name) → readsOf p (traceOf L b₁ cs₁) ≡ readsOf p trace
   -- unless the last reading was refused
-  pub all-free : runFrom L b calls .stateless ≡ false → AllFree L (runFrom L b calls .now)
+  pub all-free : r .stateless ≡ false → AllFree L (r .now)
   pub all-free-alone : AllFree L (runFrom L b₁ cs₁ .now)
   -- R-5: "in the order of Main's child-first list, as in the one-worker run"
-  pub totals : runFrom L b calls .stateless ≡ false → totalsOf (runFrom L b calls .now .state) ≡ totalWords (mainFolds (traceOf L b calls))
-  pub totals-alone : totalsOf (runFrom L b₁ cs₁ .now .state) ≡ totalWords (mainFolds (traceOf L b calls))
+  pub totals : r .stateless ≡ false → totalsOf (r .now .state) ≡ totalWords (mainFolds trace)
+  pub totals-alone : totalsOf (runFrom L b₁ cs₁ .now .state) ≡ totalWords (mainFolds trace)
 
 -- for each lent parts that fit, with a table of as many places, each pool "of as many whole nodes" and each choice of long enough work slices
 abbrev pub Demand3 : Layout → Start → List Call → State → List ℕ → (ℕ → List ℕ) → Type 0
-Demand3 L b calls parts ws works = OneWorker L b calls (aloneStart b parts ws) (oneWorkerCalls L b calls works)
+Demand3 L b calls parts ws works = OneWorker L (traceOf L b calls) (runFrom L b calls) (aloneStart b parts ws) (oneWorkerCalls (traceOf L b calls) works)

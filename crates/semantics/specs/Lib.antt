@@ -14,4 +14,7 @@ pub mod Demands
 pub mod ReportDemands
 -- R-8
 pub mod Matching
+-- R-9
+pub mod Convert
+pub mod ConvertDemands
 pub mod Theory

@@ -10,6 +10,7 @@ use Rattle.soundness.specs.Numbers.{numberCount}
 use Rattle.semantics.specs.Entries.{State, StartResult, OutsideResult, TapeResult}
 use Rattle.semantics.specs.Images.{SaveResult, LoadResult}
 use Rattle.semantics.specs.Report.{Lent, ReportResult}
+use Rattle.semantics.specs.Convert.{ConvertResult}
 
 -- the state in three lent parts
 abbrev pub parts : List ℕ → List ℕ → List Frame → State
@@ -64,3 +65,9 @@ pub record IsReport (o : ReportResult) (ns ds : List ℕ) (fs : List Frame) (ws 
   pub state : parts ns ds fs ≡ o .state
   pub pool : ws ≡ o .pool
   pub lent : lent ks rs cs qs ≡ o .lent
+
+-- the pool ws, the work slice ks and the result r are those of a change-over's result o; the state with its table is lent to be read only
+pub record IsConvert (o : ConvertResult) (ws ks : List ℕ) (r : ℕ) : Type 0 where
+  pub result : r ≡ o .result
+  pub pool : ws ≡ o .pool
+  pub work : ks ≡ o .work

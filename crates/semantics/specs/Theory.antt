@@ -139,3 +139,18 @@ pub mod MatchingCalls
 -- saves and readings; R-7's reports
 pub mod MatchingImages
 pub mod MatchingReports
+-- ---- R-9: the change-over
+-- its ways out, and what an accepted one leaves
+pub mod Converts
+-- runs with one: demands 2 and 3
+pub mod ChangedRuns
+-- a sound state has the same plain machine before and after
+pub mod SameMachine
+-- one that is made again
+pub mod ConvertTwice
+-- a run in the new layout and one in the old, with the same calls
+pub mod AlikeRuns
+-- the run that goes on is as one begun in the new layout
+pub mod AsIfBegun
+-- an image that the old library saved is refused
+pub mod OldImages

@@ -166,7 +166,7 @@ unfolding foldingCalls
 folding-totals = demand3-folding .totals refl ∙ ap totalWords folding-order
 
 pub folding-totals-alone :
-    totalsOf (runFrom twoWords (aloneStart foldingStart anyParts (anyPool 1)) (oneWorkerCalls twoWords foldingStart foldingCalls (λ j. replicate 1 0)) .now .state) ≡ 30 ∷ 4 ∷ 30030 ∷ 21208 ∷ []
+    totalsOf (runFrom twoWords (aloneStart foldingStart anyParts (anyPool 1)) (oneWorkerCalls (traceOf twoWords foldingStart foldingCalls) (λ j. replicate 1 0)) .now .state) ≡ 30 ∷ 4 ∷ 30030 ∷ 21208 ∷ []
 folding-totals-alone = demand3-folding .totals-alone ∙ ap totalWords folding-order
 
 -- ---- R-6

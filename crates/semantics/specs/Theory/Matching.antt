@@ -67,23 +67,26 @@ module _ (s : State) where
 
   -- ---- a sound old pool, to which the new one unpacks
 
-  module _ (ws₂ ws₄ : List ℕ) (tail : List ℕ) (e : isSound fourWords s ws₄ ≡ true) (U : Unpacks N tail ws₂ ws₄) where
+  module _ (ws₄ : List ℕ) (e : isSound fourWords s ws₄ ≡ true) where
     S₄ : SoundFacts fourWords (numbersOf s) (totalsOf s) (s .deques) (s .frames) ws₄
     S₄ = sound-facts fourWords (numbersOf s) (totalsOf s) (s .deques) (s .frames) ws₄ e
 
-    live₄ : Live N (height n) n (linkLevel (height n) ws₄) (linkSize (height n) ws₄) ws₄ first (freeNodes N ws₄ first) rs
+    pub live₄ : Live N (height n) n (linkLevel (height n) ws₄) (linkSize (height n) ws₄) ws₄ first (freeNodes N ws₄ first) rs
     live₄ = sound-live N (height n) n (omega (arith, S₄ .numbers .nodes-le)) (S₄ .numbers .splitters-positive) (height-covers n) (pool-fact n N ws₄ first rs (S₄ .numbers .room) (S₄ .pool))
 
+  module _ (ws₂ ws₄ : List ℕ) (tail : List ℕ) (e : isSound fourWords s ws₄ ≡ true) (U : Unpacks N tail ws₂ ws₄) where
     pub unpacks-match : SoundMatch s ws₂ ws₄
-    unpacks-match = record {
-      matches = unpacked-live n N (S₄ .numbers .splitters-positive) (S₄ .numbers .nodes-le) live₄ U;
-      two-sound = other-sound fourWords twoWords ws₄ ws₂ e (omega (arith, U .long)) (four-packed n N (S₄ .numbers .splitters-positive) (S₄ .numbers .nodes-le) first rs U (S₄ .pool) .0);
-      four-sound = e;
-    }
+    unpacks-match =
+        let S = S₄ ws₄ e in
+        record {
+          matches = unpacked-live n N (S .numbers .splitters-positive) (S .numbers .nodes-le) (live₄ ws₄ e) U;
+          two-sound = other-sound fourWords twoWords ws₄ ws₂ e (omega (arith, U .long)) (four-packed n N (S .numbers .splitters-positive) (S .numbers .nodes-le) first rs U (S .pool) .0);
+          four-sound = e;
+        }
 
     -- with as many free nodes
     pub same-free : chainFree twoWords s ws₂ ≡ chainFree fourWords s ws₄
-    same-free = ap length (four-packed n N (S₄ .numbers .splitters-positive) (S₄ .numbers .nodes-le) first rs U (S₄ .pool) .1)
+    same-free = (let S = S₄ ws₄ e in ap length (four-packed n N (S .numbers .splitters-positive) (S .numbers .nodes-le) first rs U (S .pool) .1))
 
   -- ---- a sound new pool, and the old ones that match
 

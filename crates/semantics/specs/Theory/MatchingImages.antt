@@ -20,8 +20,9 @@ use Rattle.semantics.specs.declared.Refusal.the-variants.{Work}
 use Rattle.semantics.specs.Entries.{State, fits, numbersOf, totalsOf, coreOf, isSound, chainFree}
 use Rattle.semantics.specs.Images.{savedImage, savedBytes, saveWith, saveOn, LoadResult, stateIn, poolWith, recordsZero, nodesZero, loadRefused, loadWith, loadOn}
 use Rattle.semantics.specs.Calls.{StateAndPool}
+use Rattle.semantics.specs.Demands.{StateWords}
 use Rattle.semantics.specs.Promises.{Fits}
-use Rattle.semantics.specs.Matching.{SoundMatch, AsManyNodes, SameSave, SavesMatch, SameLoad, LoadsMatch}
+use Rattle.semantics.specs.Matching.{SoundMatch, AsManyNodes, SameSave, SavesMatch, SameLoad, SavedAs, LoadsMatch}
 use Rattle.semantics.specs.Theory.Fitting.{totals-long, state-back}
 use Rattle.semantics.specs.Theory.Pools.{PoolLaws, SameNodes}
 use Rattle.semantics.specs.Theory.FourPools.{four-pools}
@@ -160,15 +161,17 @@ module _ (s : State) (ws₂ ws₄ : List ℕ) (S : SoundMatch s ws₂ ws₄) (F 
         rw (l, lt-leb (4 * K) (length lent₄) short₄) (read-both lent₂ lent₄ false (no-room twoWords s lent₂ short₂) (no-room fourWords s lent₄ short₄) (λ z. absurd (true≢false (sym z))))
   ]
 
+-- what the image says that an accepted save of a state of words has written
+pub image-says : (L : Layout) (pools : PoolLaws L) (s : State) (ws image : List ℕ) → StateWords s ws → SavedAs L s ws image → Says L (pools .version-le) image (s .numbers) (s .deques) (s .frames) ws
+image-says L pools s ws image words I =
+    let h : StateAndPool = record { state = s; pool = ws } in
+    let T = save-taken L h (I .work) (I .target) (I .accepted) in
+    let e : image ≡ savedImage L s ws = I .written ∙ accepted-save L pools h (I .work) (I .target) (I .accepted) .image in
+    subst (λ (b : List ℕ). Says L (pools .version-le) b (s .numbers) (s .deques) (s .frames) ws) (sym e) (state-says L pools s ws words (T .parts) (T .still))
+
 pub loads-match : (s : State) (ws₂ ws₄ image₂ image₄ : List ℕ) (parts : State) (lent₂ lent₄ work : List ℕ) → LoadsMatch s ws₂ ws₄ image₂ image₄ parts lent₂ lent₄ work
 loads-match s ws₂ ws₄ image₂ image₄ parts lent₂ lent₄ work S words₂ words₄ I₂ I₄ m =
-    let h₂ : StateAndPool = record { state = s; pool = ws₂ } in
-    let h₄ : StateAndPool = record { state = s; pool = ws₄ } in
-    let F = save-taken twoWords h₂ (I₂ .work) (I₂ .target) (I₂ .accepted) .parts in
-    let e₂ : image₂ ≡ savedImage twoWords s ws₂ = I₂ .written ∙ accepted-save twoWords two-pools h₂ (I₂ .work) (I₂ .target) (I₂ .accepted) .image in
-    let e₄ : image₄ ≡ savedImage fourWords s ws₄ = I₄ .written ∙ accepted-save fourWords four-pools h₄ (I₄ .work) (I₄ .target) (I₄ .accepted) .image in
-    let Y₂ = state-says twoWords two-pools s ws₂ words₂ F (S .two-sound) in
-    let Y₄ = state-says fourWords four-pools s ws₄ words₄ F (S .four-sound) in
-    let r₂ = load-is twoWords s two-pools ws₂ (savedImage twoWords s ws₂) Y₂ (sound-room twoWords s ws₂ (S .two-sound)) parts lent₂ work in
-    let r₄ = load-is fourWords s four-pools ws₄ (savedImage fourWords s ws₄) Y₄ (sound-room fourWords s ws₄ (S .four-sound)) parts lent₄ work in
-    rw (e₂, e₄, r₂, r₄) (read-same s ws₂ ws₄ S F parts lent₂ lent₄ work m)
+    let F = save-taken twoWords (record { state = s; pool = ws₂ }) (I₂ .work) (I₂ .target) (I₂ .accepted) .parts in
+    let r₂ = load-is twoWords s two-pools ws₂ image₂ (image-says twoWords two-pools s ws₂ image₂ words₂ I₂) (sound-room twoWords s ws₂ (S .two-sound)) parts lent₂ work in
+    let r₄ = load-is fourWords s four-pools ws₄ image₄ (image-says fourWords four-pools s ws₄ image₄ words₄ I₄) (sound-room fourWords s ws₄ (S .four-sound)) parts lent₄ work in
+    rw (r₂, r₄) (read-same s ws₂ ws₄ S F parts lent₂ lent₄ work m)

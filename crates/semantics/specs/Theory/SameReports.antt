@@ -58,7 +58,7 @@ module _ (layout : Layout) (pools : PoolLaws layout) where
     n = span-there layout pools b bytes l R e
 
     taken : startResult layout b₁ .result ≡ 0
-    taken = ap (λ (o : StartResult). o .result) (fit-started layout parts 1 (b .values) ws (parts-fit layout pools b₁ bytes₁ l₁ (A .fits)) (alone-fit layout (parts .frames) ws (A .same-places) (A .as-many) (R .fit)))
+    taken = ap (λ (o : StartResult). o .result) (fit-started layout parts 1 (b .values) ws (parts-fit layout pools b₁ bytes₁ l₁ (A .fits)) (alone-fit layout layout (parts .frames) ws (A .same-places) (A .as-many) (R .fit)))
 
     R₁ : Ran layout pools b₁ bytes₁ l₁
     R₁ = ran-at layout pools b₁ bytes₁ l₁ (A .fits) taken (A .fit-tape) (A .long)

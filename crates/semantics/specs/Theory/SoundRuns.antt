@@ -30,7 +30,7 @@ use Rattle.semantics.specs.Theory.SoundSteps.{Carried, is-sound, sound-c
 use Rattle.semantics.specs.Theory.Elsewhere.{carried-elsewhere}
 use Rattle.semantics.specs.Theory.Fitting.{fits-true, true-fits, state-back, totals-long}
 use Rattle.semantics.specs.Theory.Runs.{Laws, KeptBy, core-fits, call-follows}
-use Rattle.semantics.specs.Theory.Images.{sound-numbers, sound-room, save-taken, accepted-save, LoadTaken, SaysCore, saved-says, load-takes, pool-with, front-same, loaded-state, loaded-front, loaded-beyond}
+use Rattle.semantics.specs.Theory.Images.{unfit, refused-calls, sound-numbers, sound-room, save-taken, accepted-save, LoadTaken, SaysCore, saved-says, load-takes, pool-with, front-same, loaded-state, loaded-front, loaded-beyond}
 use Rattle.semantics.specs.Theory.WholeRuns.{kept-begun, kept-calls, fed-sound, answers-by}
 use Rattle.soundness.specs.Layout.{Layout}
 use Rattle.semantics.specs.Theory.Pools.{PoolLaws}
@@ -158,6 +158,13 @@ module _ (layout : Layout) (pools : PoolLaws layout) where
   -- a step or a tape keeps soundness, whatever it hands in
   pub sound-call : (h : StateAndPool) (k : HostCall) → fits (h .state) ≡ true → isSound layout (h .state) (h .pool) ≡ true → isSound layout (afterCall layout h k .state) (afterCall layout h k .pool) ≡ true
   sound-call h k fit e = fed-sound layout pools fromSound (CarriedBy layout pools) (laws layout pools) (plainAt layout h) (numbersOf (h .state) .nodes) (call-follows layout pools fromSound (CarriedBy layout pools) (laws layout pools) (plainAt layout h) h k (follows-sound h fit e) .fed)
+
+  -- and the recorded nodes
+  pub call-nodes : (h : StateAndPool) (k : HostCall) → isSound layout (h .state) (h .pool) ≡ true → numbersOf (afterCall layout h k .state) .nodes ≡ numbersOf (h .state) .nodes
+  call-nodes h k e = elim (decided (fits (h .state))) [
+    | inl f ↦ call-follows layout pools fromSound (CarriedBy layout pools) (laws layout pools) (plainAt layout h) h k (follows-sound h f e) .nodes
+    | inr f ↦ ap (λ (g : StateAndPool). numbersOf (g .state) .nodes) (refused-calls layout h k (unfit f) .0)
+  ]
 
   -- ---- a saved state reads back
 

@@ -22,7 +22,7 @@ use Rattle.model.specs.History.{nodesInUse}
 use Rattle.model.specs.Machine.{Name, Frame, Machine, live, deque, histories, inUse, start}
 use Rattle.model.specs.Machine.{freeNodes as plainFree}
 use Rattle.model.specs.Steps.{writeEvent, written, afterWrite, step, answer}
-use Rattle.model.specs.Run.{run, trace, answers, Returned, IsFrame, stepsOf, readsOf, oneWorkerSteps}
+use Rattle.model.specs.Run.{Entry, run, trace, answers, Returned, IsFrame, stepsOf, readsOf, oneWorkerSteps}
 use Rattle.model.specs.Views.{Views, viewsAtStart, viewsAfter, runViews, mainFolds}
 use Rattle.model.specs.Views.{totalsOf as plainTotals}
 use Rattle.model.specs.Demand3.{Demand3 as PlainDemand3, oneWorkerOf, traceOf as plainTrace}
@@ -40,8 +40,8 @@ use Rattle.semantics.specs.Answers.{answerWords}
 use Rattle.frames.specs.declared.Frame.{Frame as FrameRecord}
 use Rattle.semantics.specs.Core.{Core, actingIn, stepOn}
 use Rattle.semantics.specs.Entries.{State, StartResult, fits, isSound, numbersOf, totalsOf, chainFree, recordOn, wholeNodes}
-use Rattle.semantics.specs.Calls.{Start, startResult, HostCall, outside, StateAndPool, afterStart, afterCall, Exchange, exchangesOf, recordsIn, answersIn, restIn, poolsAt, coreIn, Past, Run, Call, call, begun, runAfter, runOf}
-use Rattle.semantics.specs.Demands.{Plain, plainAfter, viewsBy, plainAnswer, fromStart, answersBy, machineBy, plainStart, plainBegun, runFrom, Demand2, plainNow, Counted, RestIsCounted, WritesAgain, StartWords, AllCallWords, traceOf, MainReturned, callOf, oneByOne, oneWorkerCalls, aloneStart, allAccepted, AllFree, totalWords, Demand3}
+use Rattle.semantics.specs.Calls.{Start, startResult, HostCall, outside, StateAndPool, afterStart, afterCall, Exchange, exchangesOf, recordsIn, answersIn, restIn, poolsAt, coreIn, Past, Run, Call, call, begun, runAfter, runOf, traceFrom}
+use Rattle.semantics.specs.Demands.{Plain, plainAfter, viewsBy, plainAnswer, fromStart, answersBy, machineBy, plainStart, plainBegun, runFrom, Demand2, plainNow, Counted, RestIsCounted, WritesAgain, StartWords, AllCallWords, traceOf, MainReturned, callOf, oneByOne, oneWorkerCalls, allAccepted, AllFree, totalWords, OneWorker, Demand3}
 use Rattle.semantics.specs.Promises.{Fits}
 use Rattle.semantics.specs.Theory.Relation.{Trees, TreeLaws, Relates, Links, SamePlaces, rootOf, rootsOf}
 use Rattle.semantics.specs.Theory.RelationFacts.{trees-perm}
@@ -53,7 +53,7 @@ use Rattle.semantics.specs.Theory.Simulation.{simulates, numbers-kept}
 use Rattle.semantics.specs.Theory.ToSound.{all-free}
 use Rattle.semantics.specs.Theory.Fitting.{true-fits}
 use Rattle.semantics.specs.Theory.SoundSteps.{Carried, is-sound, own-rest}
-use Rattle.semantics.specs.Theory.Elsewhere.{withPool, relates-elsewhere}
+use Rattle.semantics.specs.Theory.Elsewhere.{withPool, SameReads, relates-in}
 use Rattle.semantics.specs.Theory.NumberWords.{totals-in}
 use Rattle.semantics.specs.Theory.Starts.{Fit, alone-fit, fit-started, started-fit}
 use Rattle.semantics.specs.Theory.StartRelates.{firstCore, start-relates}
@@ -163,6 +163,21 @@ module _ (layout : Layout) (pools : PoolLaws layout) where
 abbrev pub stepped : Plain → Step → Plain
 stepped P st = record { machine = step (P .machine) st; views = viewsAfter (P .machine) (P .views) st }
 
+module _ (L L′ : Layout) (pools : PoolLaws L) (pools′ : PoolLaws L′) where
+  -- another pool, of this or of the other layout, in which the frames read the same
+  pub follows-in : (P : Plain) (c : Core) (ws' : List ℕ) (F : Follows L pools P c) → let M = P .machine in let Fs = rootsOf (c .frames) (F .related .at) (live M) in
+      pools′ .GoodTrees (M .nodes) (M .splitters) ws' (c .head .numbers .«free_node») (c .head .«free_count») Fs → SameReads L L′ (M .splitters) (c .pool) ws' Fs → Follows L′ pools′ P (withPool c ws')
+  unfolding relates-in
+  follows-in P c ws' F T S =
+      let E = F .viewed in
+      record {
+        related = relates-in L L′ ws' (F .related) T S;
+        links = F .links;
+        viewed = record { ordered = E .ordered; views = E .views; siblings = E .siblings; none-yet = E .none-yet; totals = E .totals };
+        inv = F .inv;
+        nodes = F .nodes;
+      }
+
 module _ (layout : Layout) (pools : PoolLaws layout) where
   -- it is answered as the plain machine answers; R-7: and the frames keep their places
   pub record FollowsOn (P : Plain) (c : Core) (st : Step) (F : Follows layout pools P c) : Type 0 where
@@ -187,19 +202,12 @@ module _ (layout : Layout) (pools : PoolLaws layout) where
 
   -- the same nodes in another pool
   pub follows-elsewhere : (P : Plain) (c : Core) (ws' : List ℕ) → Follows layout pools P c → SameNodes layout (c .head .numbers .nodes) (c .pool) ws' → Follows layout pools P (withPool c ws')
-  unfolding relates-elsewhere
   follows-elsewhere P c ws' F S =
       let M = P .machine in
-      let E = F .viewed in
-      record {
-        related = relates-elsewhere layout ws' (pools .good-trees (M .nodes) (M .splitters) (omega (arith, F .nodes, F .related .numbers .nodes-le))) (F .related) (subst (λ N. SameNodes layout N (c .pool) ws') (F .nodes) S);
-        links = F .links;
-        viewed = record { ordered = E .ordered; views = E .views; siblings = E .siblings; none-yet = E .none-yet; totals = E .totals };
-        inv = F .inv;
-        nodes = F .nodes;
-      }
+      let T = pools .good-trees (M .nodes) (M .splitters) (omega (arith, F .nodes, F .related .numbers .nodes-le)) (c .pool) ws' _ _ _ (F .related .trees) (subst (λ N. SameNodes layout N (c .pool) ws') (F .nodes) S) in
+      follows-in layout layout pools pools P c ws' F (T .0) (T .1)
 
-  laws : Laws layout pools fromStart (Follows layout pools)
+  pub laws : Laws layout pools fromStart (Follows layout pools)
   laws = record { carried = carried layout pools; keeps = keeps; alike = alike; elsewhere = follows-elsewhere }
     where
       keeps : (P : Plain) (c : Core) (d : Decoded) → Follows layout pools P c → Follows layout pools (record { machine = plainAfter (P .machine) d; views = viewsBy P d }) (recordOn layout c d .core)
@@ -235,7 +243,7 @@ module _ (layout : Layout) where
 
 module _ (layout : Layout) (pools : PoolLaws layout) where
   -- the run from an accepted start
-  run-kept : (b : Start) (calls : List Call) → startResult layout b .result ≡ 0 → StartWords b → AllCallWords calls → RunKept layout pools fromStart (Follows layout pools) (laws layout pools) (plainBegun layout b) (wholeNodes layout (b .pool)) (runFrom layout b calls)
+  pub run-kept : (b : Start) (calls : List Call) → startResult layout b .result ≡ 0 → StartWords b → AllCallWords calls → RunKept layout pools fromStart (Follows layout pools) (laws layout pools) (plainBegun layout b) (wholeNodes layout (b .pool)) (runFrom layout b calls)
   run-kept b calls e w all-words =
       let A = started-fit layout (b .parts) (b .workers) (b .values) (b .pool) e in
       let K = begins layout pools b (A .lengths) (A .fit) in
@@ -327,128 +335,131 @@ module _ (layout : Layout) (pools : PoolLaws layout) where
       ∙ ap (λ z. z ++ map Valid ss) done
       ∙ append-assoc (recordsIn (r .past .exchanges)) (Valid s ∷ []) (map Valid ss)
 
-  module _ (b : Start) (calls : List Call) (parts : State) (ws : List ℕ) (works : ℕ → List ℕ)
-      (taken : startResult layout b .result ≡ 0) (words : StartWords b) (all-words : AllCallWords calls) (returned : MainReturned layout b calls) (parts-fit : fits parts ≡ true)
-      (same-places : length (parts .frames) ≡ length (b .parts .frames)) (as-many : wholeNodes layout ws ≡ wholeNodes layout (b .pool)) (long : (j : ℕ) → wholeNodes layout (b .pool) ≤ length (works j)) where
-    N : ℕ
-    N = wholeNodes layout (b .pool)
+  -- a run in this layout that has followed the plain machine of a start with N nodes and these places, and in which Main has returned; and a start of one worker
+  -- with the same values, as many nodes and as many places
+  module _ (workers : ℕ) (values : List ℕ) (N places : ℕ) (r : Run)
+      (R : RunKept layout pools fromStart (Follows layout pools) (laws layout pools) (record { machine = start workers values N places; views = viewsAtStart }) N r)
+      (returned : In (102, 3) (answersIn (r .past .exchanges))) (parts : State) (ws : List ℕ) (works : ℕ → List ℕ) (parts-fit : fits parts ≡ true)
+      (fit₁ : Fit layout 1 values (parts .frames) ws) (same-places : length (parts .frames) ≡ places) (as-many : wholeNodes layout ws ≡ N) (long : (j : ℕ) → N ≤ length (works j)) where
+    abbrev P : Plain
+    P = record { machine = start workers values N places; views = viewsAtStart }
 
-    abbrev places : ℕ
-    places = length (b .parts .frames)
+    -- what the run has fed, and what its frames did
+    abbrev ds : List Decoded
+    ds = recordsIn (r .past .exchanges)
+
+    abbrev trace₀ : List Entry
+    trace₀ = traceFrom (start workers values N places) (r .past .exchanges)
+
+    -- the plain machine that has followed it
+    abbrev last : Plain
+    last = machineBy fromStart P ds (r .past .pools)
 
     b₁ : Start
-    b₁ = aloneStart b parts ws
+    b₁ = record { parts = parts; workers = 1; values = values; pool = ws }
 
     calls₁ : List Call
-    calls₁ = oneWorkerCalls layout b calls works
+    calls₁ = oneWorkerCalls trace₀ works
 
-    -- the two runs
-    K : KeptBy (Follows layout pools) (afterStart layout b) (plainBegun layout b)
-    K = let A = started-fit layout (b .parts) (b .workers) (b .values) (b .pool) taken in begins layout pools b (A .lengths) (A .fit)
-
-    fit₁ : Fit layout 1 (b .values) (parts .frames) ws
-    fit₁ = alone-fit layout (parts .frames) ws same-places as-many (started-fit layout (b .parts) (b .workers) (b .values) (b .pool) taken .fit)
-
+    -- the one-worker run
     K₁ : KeptBy (Follows layout pools) (afterStart layout b₁) (plainBegun layout b₁)
     unfolding b₁
-    K₁ = begins layout pools (aloneStart b parts ws) (true-fits parts parts-fit) fit₁
-
-    R : RunKept layout pools fromStart (Follows layout pools) (laws layout pools) (plainBegun layout b) (wholeNodes layout (b .pool)) (runFrom layout b calls)
-    R = run-kept layout pools b calls taken words all-words
+    K₁ = begins layout pools (record { parts = parts; workers = 1; values = values; pool = ws }) (true-fits parts parts-fit) fit₁
 
     R₁ : Fed fromStart (Follows layout pools) (plainBegun layout b₁) (runFrom layout b₁ calls₁ .now) (runFrom layout b₁ calls₁ .past .exchanges) (runFrom layout b₁ calls₁ .past .pools)
     unfolding calls₁
-    R₁ = fed-calls layout pools fromStart (Follows layout pools) (laws layout pools) (plainBegun layout b₁) (wholeNodes layout (b₁ .pool)) (oneByOne works 0 (oneWorkerSteps (traceOf layout b calls))) (begun (afterStart layout b₁)) (record { long = refl; kept = K₁; same = refl })
+    R₁ = fed-calls layout pools fromStart (Follows layout pools) (laws layout pools) (plainBegun layout b₁) (wholeNodes layout (b₁ .pool)) (oneByOne works 0 (oneWorkerSteps trace₀)) (begun (afterStart layout b₁)) (record { long = refl; kept = K₁; same = refl })
 
     -- on the plain machine
     ss : List Step
-    ss = valids (recordsIn (runFrom layout b calls .past .exchanges))
+    ss = valids ds
 
-    plain-returned : Returned (plainStart layout b) ss
+    plain-returned : Returned (start workers values N places) ss
     unfolding ss
-    plain-returned = returned-plain (recordsIn (runFrom layout b calls .past .exchanges)) (runFrom layout b calls .past .pools) (plainBegun layout b) (R .long) (subst (λ z. In (102, 3) z) (R .same) returned)
+    plain-returned = returned-plain ds (r .past .pools) P (R .long) (subst (λ z. In (102, 3) z) (R .same) returned)
 
-    D : PlainDemand3 (b .workers) (b .values) N places ss
-    unfolding N
-    D = plain-demand3 (b .workers) (b .values) (wholeNodes layout (b .pool)) places ss plain-returned
+    D : PlainDemand3 workers values N places ss
+    D = plain-demand3 workers values N places ss plain-returned
 
-    trace-is : traceOf layout b calls ≡ plainTrace (b .workers) (b .values) N places ss
-    unfolding ss N
-    trace-is = trace-same (plainBegun layout b) (runFrom layout b calls .past .exchanges) (runFrom layout b calls .past .pools) (R .long) (R .same)
+    trace-is : trace₀ ≡ plainTrace workers values N places ss
+    unfolding ss
+    trace-is = trace-same P (r .past .exchanges) (r .past .pools) (R .long) (R .same)
 
-    -- the one-worker run
+    -- the steps of the one-worker run
     ones : List Step
-    ones = oneWorkerSteps (traceOf layout b calls)
+    ones = oneWorkerSteps trace₀
 
-    ones-are : ones ≡ oneWorkerOf (b .workers) (b .values) N places ss
+    ones-are : ones ≡ oneWorkerOf workers values N places ss
     unfolding ones
     ones-are = ap oneWorkerSteps trace-is
 
-    start-is : plainStart layout b₁ ≡ start 1 (b .values) N places
-    unfolding N b₁
-    start-is = ap₂ (λ (n k : ℕ). start 1 (b .values) n k) as-many same-places
+    start-is : plainStart layout b₁ ≡ start 1 values N places
+    unfolding b₁
+    start-is = ap₂ (λ (n k : ℕ). start 1 values n k) as-many same-places
 
     fed : recordsIn (runFrom layout b₁ calls₁ .past .exchanges) ≡ map Valid ones
     unfolding ones calls₁ b₁
-    fed = all-fed works (oneWorkerSteps (traceOf layout b calls)) (plainBegun layout b₁) (begun (afterStart layout b₁)) 0 K₁ (λ j. subst (λ q. q ≤ length (works j)) (sym as-many) (long j))
+    fed = all-fed works (oneWorkerSteps trace₀) (plainBegun layout b₁) (begun (afterStart layout b₁)) 0 K₁ (λ j. subst (λ q. q ≤ length (works j)) (sym as-many) (long j))
 
-    steps₁-are : valids (recordsIn (runFrom layout b₁ calls₁ .past .exchanges)) ≡ oneWorkerOf (b .workers) (b .values) N places ss
+    steps₁-are : valids (recordsIn (runFrom layout b₁ calls₁ .past .exchanges)) ≡ oneWorkerOf workers values N places ss
     steps₁-are = ap valids fed ∙ valids-valid ones ∙ ones-are
 
-    trace₁-is : traceOf layout b₁ calls₁ ≡ plainTrace 1 (b .values) N places (oneWorkerOf (b .workers) (b .values) N places ss)
+    trace₁-is : traceOf layout b₁ calls₁ ≡ plainTrace 1 values N places (oneWorkerOf workers values N places ss)
     trace₁-is = trace-same (plainBegun layout b₁) (runFrom layout b₁ calls₁ .past .exchanges) (runFrom layout b₁ calls₁ .past .pools) (R₁ .long) (R₁ .same) ∙ ap₂ trace start-is steps₁-are
 
-    answers₁-are : answersIn (runFrom layout b₁ calls₁ .past .exchanges) ≡ answers (start 1 (b .values) N places) (oneWorkerOf (b .workers) (b .values) N places ss)
+    answers₁-are : answersIn (runFrom layout b₁ calls₁ .past .exchanges) ≡ answers (start 1 values N places) (oneWorkerOf workers values N places ss)
     answers₁-are =
         let ks = runFrom layout b₁ calls₁ .past .pools in
         R₁ .same ∙ ap (λ z. answersBy fromStart (plainBegun layout b₁) z ks) fed ∙ answers-plain ones ks (plainBegun layout b₁) (R₁ .long ∙ ap length fed) ∙ ap₂ answers start-is ones-are
 
-    over : live (followed layout b calls .machine) ≡ []
+    over : live (last .machine) ≡ []
     unfolding ss
-    over =
-        ap live (machine-plain (recordsIn (runFrom layout b calls .past .exchanges)) (runFrom layout b calls .past .pools) (plainBegun layout b) (R .long))
-        ∙ returned-ends (plainStart layout b) ss (tree-start (b .workers) (b .values) (wholeNodes layout (b .pool)) places) plain-returned
+    over = ap live (machine-plain ds (r .past .pools) P (R .long)) ∙ returned-ends (start workers values N places) ss (tree-start workers values N places) plain-returned
 
     over₁ : live (followed layout b₁ calls₁ .machine) ≡ []
     over₁ =
         ap live (machine-plain (recordsIn (runFrom layout b₁ calls₁ .past .exchanges)) (runFrom layout b₁ calls₁ .past .pools) (plainBegun layout b₁) (R₁ .long))
         ∙ ap₂ (λ M z. live (run M z)) start-is steps₁-are
-        ∙ returned-ends (start 1 (b .values) N places) (oneWorkerOf (b .workers) (b .values) N places ss) (tree-start 1 (b .values) N places) (D .returns)
+        ∙ returned-ends (start 1 values N places) (oneWorkerOf workers values N places ss) (tree-start 1 values N places) (D .returns)
 
-    free-at-end : (h : StateAndPool) (P : Plain) → KeptBy (Follows layout pools) h P → live (P .machine) ≡ [] → AllFree layout h
-    free-at-end h P E e = subst (AllFree layout) (sym (E .held)) (all-free layout pools (P .machine) (E .core) (carried layout pools P (E .core) (E .follows) .related) e)
+    free-at-end : (h : StateAndPool) (Q : Plain) → KeptBy (Follows layout pools) h Q → live (Q .machine) ≡ [] → AllFree layout h
+    free-at-end h Q E e = subst (AllFree layout) (sym (E .held)) (all-free layout pools (Q .machine) (E .core) (carried layout pools Q (E .core) (E .follows) .related) e)
 
     -- R-5: "Once Main has returned, each total is .."
-    totals-at-end : (h : StateAndPool) (P : Plain) → KeptBy (Follows layout pools) h P → live (P .machine) ≡ [] → totalsOf (h .state) ≡ totalWords (P .views .totals)
-    totals-at-end h P E e = ap (λ (g : StateAndPool). totalsOf (g .state)) (E .held) ∙ totals-in (E .core .head .numbers) (E .core .totals) (E .follows .related .totals .long) ∙ E .follows .viewed .totals e ∙ view-totals (P .views .totals)
+    totals-at-end : (h : StateAndPool) (Q : Plain) → KeptBy (Follows layout pools) h Q → live (Q .machine) ≡ [] → totalsOf (h .state) ≡ totalWords (Q .views .totals)
+    totals-at-end h Q E e = ap (λ (g : StateAndPool). totalsOf (g .state)) (E .held) ∙ totals-in (E .core .head .numbers) (E .core .totals) (E .follows .related .totals .long) ∙ E .follows .viewed .totals e ∙ view-totals (Q .views .totals)
 
-    folds-are : plainTotals (b .workers) (b .values) N places ss ≡ mainFolds (traceOf layout b calls)
-    unfolding N
-    folds-are = totals-are (b .workers) (b .values) N places ss plain-returned ∙ ap mainFolds (sym trace-is)
+    folds-are : plainTotals workers values N places ss ≡ mainFolds trace₀
+    folds-are = totals-are workers values N places ss plain-returned ∙ ap mainFolds (sym trace-is)
 
-    last-folds : followed layout b calls .views .totals ≡ mainFolds (traceOf layout b calls)
-    unfolding ss N
-    last-folds = ap (λ (W : Views). W .totals) (views-plain (recordsIn (runFrom layout b calls .past .exchanges)) (runFrom layout b calls .past .pools) (plainBegun layout b) (R .long)) ∙ folds-are
+    last-folds : last .views .totals ≡ mainFolds trace₀
+    unfolding ss
+    last-folds = ap (λ (W : Views). W .totals) (views-plain ds (r .past .pools) P (R .long)) ∙ folds-are
 
-    last₁-folds : followed layout b₁ calls₁ .views .totals ≡ mainFolds (traceOf layout b calls)
-    unfolding N
+    last₁-folds : followed layout b₁ calls₁ .views .totals ≡ mainFolds trace₀
     last₁-folds =
         ap (λ (W : Views). W .totals) (views-plain (recordsIn (runFrom layout b₁ calls₁ .past .exchanges)) (runFrom layout b₁ calls₁ .past .pools) (plainBegun layout b₁) (R₁ .long))
         ∙ ap₂ (λ (M : Machine) (z : List Step). runViews M viewsAtStart z .totals) start-is steps₁-are
-        ∙ sym (totals-same (b .workers) (b .values) N places ss plain-returned)
+        ∙ sym (totals-same workers values N places ss plain-returned)
         ∙ folds-are
 
-    pub demand3 : Demand3 layout b calls parts ws works
+    pub one-worker : OneWorker layout trace₀ r (record { parts = parts; workers = 1; values = values; pool = ws }) (oneWorkerCalls trace₀ works)
     unfolding ones calls₁ b₁
-    demand3 = record {
-      starts = ap (λ (o : StartResult). o .result) (fit-started layout parts 1 (b .values) ws (true-fits parts parts-fit) fit₁);
+    one-worker = record {
+      starts = ap (λ (o : StartResult). o .result) (fit-started layout parts 1 values ws (true-fits parts parts-fit) fit₁);
       all-entered = fed;
-      none-refused = subst allAccepted (sym answers₁-are) (all-accepted (start 1 (b .values) N places) (oneWorkerOf (b .workers) (b .values) N places ss) (D .none-refused));
-      same-frames = λ p. subst (λ z. IsFrame z p ↔ IsFrame (traceOf layout b calls) p) (sym trace₁-is) (subst (λ z. IsFrame (plainTrace 1 (b .values) N places (oneWorkerOf (b .workers) (b .values) N places ss)) p ↔ IsFrame z p) (sym trace-is) (D .same-frames p));
+      none-refused = subst allAccepted (sym answers₁-are) (all-accepted (start 1 values N places) (oneWorkerOf workers values N places ss) (D .none-refused));
+      same-frames = λ p. subst (λ z. IsFrame z p ↔ IsFrame trace₀ p) (sym trace₁-is) (subst (λ z. IsFrame (plainTrace 1 values N places (oneWorkerOf workers values N places ss)) p ↔ IsFrame z p) (sym trace-is) (D .same-frames p));
       same-steps = λ p. ap (stepsOf p) trace₁-is ∙ D .same-steps p ∙ ap (stepsOf p) (sym trace-is);
       same-reads = λ p. ap (readsOf p) trace₁-is ∙ D .same-reads p ∙ ap (readsOf p) (sym trace-is);
-      all-free = λ e. free-at-end (runFrom layout b calls .now) (followed layout b calls) (R .standing e .0 .fed .kept) over;
+      all-free = λ e. free-at-end (r .now) last (R .standing e .0 .fed .kept) over;
       all-free-alone = free-at-end (runFrom layout b₁ calls₁ .now) (followed layout b₁ calls₁) (R₁ .kept) over₁;
-      totals = λ e. totals-at-end (runFrom layout b calls .now) (followed layout b calls) (R .standing e .0 .fed .kept) over ∙ ap totalWords last-folds;
+      totals = λ e. totals-at-end (r .now) last (R .standing e .0 .fed .kept) over ∙ ap totalWords last-folds;
       totals-alone = totals-at-end (runFrom layout b₁ calls₁ .now) (followed layout b₁ calls₁) (R₁ .kept) over₁ ∙ ap totalWords last₁-folds;
     }
+
+  pub demand3 : (b : Start) (calls : List Call) (parts : State) (ws : List ℕ) (works : ℕ → List ℕ) → startResult layout b .result ≡ 0 → StartWords b → AllCallWords calls → MainReturned layout b calls → fits parts ≡ true
+      → length (parts .frames) ≡ length (b .parts .frames) → wholeNodes layout ws ≡ wholeNodes layout (b .pool) → ((j : ℕ) → wholeNodes layout (b .pool) ≤ length (works j)) → Demand3 layout b calls parts ws works
+  demand3 b calls parts ws works taken words all-words returned parts-fit same-places as-many long =
+      one-worker (b .workers) (b .values) (wholeNodes layout (b .pool)) (length (b .parts .frames)) (runFrom layout b calls) (run-kept layout pools b calls taken words all-words) returned parts ws works parts-fit
+      (alone-fit layout layout (parts .frames) ws same-places as-many (started-fit layout (b .parts) (b .workers) (b .values) (b .pool) taken .fit)) same-places as-many long

@@ -32,10 +32,10 @@ module _ (layout : Layout) where
     pub enough : treeNodes (length vs) ≤ wholeNodes layout ws
     pub nodes-le : wholeNodes layout ws ≤ 16384
 
-  -- with one worker, as many places and as many whole nodes
-  pub alone-fit : {workers : ℕ} {vs : List ℕ} {fs : List Frame} {ws : List ℕ} (fs′ : List Frame) (ws′ : List ℕ) → length fs′ ≡ length fs → wholeNodes layout ws′ ≡ wholeNodes layout ws → Fit workers vs fs ws → Fit 1 vs fs′ ws′
-  alone-fit fs′ ws′ same-places as-many F =
-      record { values-positive = F .values-positive; values-le = F .values-le; workers-positive = omega arith; workers-le = omega arith; places-positive = omega (arith, F .places-positive, same-places); places-le = omega (arith, F .places-le, same-places); enough = omega (arith, F .enough, as-many); nodes-le = omega (arith, F .nodes-le, as-many) }
+-- with one worker, as many places and as many whole nodes; R-9: of whatever layouts
+pub alone-fit : (L L′ : Layout) {workers : ℕ} {vs : List ℕ} {fs : List Frame} {ws : List ℕ} (fs′ : List Frame) (ws′ : List ℕ) → length fs′ ≡ length fs → wholeNodes L′ ws′ ≡ wholeNodes L ws → Fit L workers vs fs ws → Fit L′ 1 vs fs′ ws′
+alone-fit L L′ fs′ ws′ same-places as-many F =
+    record { values-positive = F .values-positive; values-le = F .values-le; workers-positive = omega arith; workers-le = omega arith; places-positive = omega (arith, F .places-positive, same-places); places-le = omega (arith, F .places-le, same-places); enough = omega (arith, F .enough, as-many); nodes-le = omega (arith, F .nodes-le, as-many) }
 
 pub in-range : (x m : ℕ) → eqb x 0 || ltb m x ≡ false → (1 ≤ x) × (x ≤ m)
 in-range x m e =

@@ -228,3 +228,8 @@ two-pools = record {
   words-write = words-write;
   words-start = words-initPool;
 }
+
+-- R-9: what unpacks to the four-word pool of a run from a start is such a pool
+pub good-unpacking : {N n : ℕ} {ws : List ℕ} {free k : ℕ} {Fs : List Frame} → Good₂ N n ws free k Fs → two-pools .GoodTrees N n ws free k Fs
+unfolding two-pools
+good-unpacking T = T
