@@ -62,7 +62,7 @@ pub fn check_tables(
     check_frames(numbers.workers, numbers.free_place, deques, frames)
 }
 
-// What is left to check after the tables: the totals and the pool. It and check_tables have two callers each, so that the compiler keeps them apart: the
+// What is left to check after the tables: the totals and the pool. It has two callers, and check_tables three, so that the compiler keeps them apart: the
 // tallies of the one do not lie on the stack below the walks of the other.
 pub fn check_rest(
     numbers: &[u32],

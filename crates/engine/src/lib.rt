@@ -20,6 +20,14 @@ pub use entries::save;
 pub use entries::start;
 pub use entries::tape;
 
+// what the change-over (crate conversion) checks too
+pub use checking::check_tables;
+pub use checking::totals_right;
+pub use entries::fit;
+pub use entries::unfit;
+pub use numbers::numbers_in;
+pub use tapes::check_number;
+
 // What a step leaves of the numbers that change, and its two answer words.
 pub struct Out {
     // the first free node

@@ -19,8 +19,9 @@ use Rattle.frames.specs.declared.Frame.{Frame}
 use Rattle.frame_check.specs.declared.FramesChecked.{FramesChecked}
 use Rattle.soundness.specs.declared.Numbers.{Numbers}
 use Rattle.packed_check.specs.declared.PoolChecked.{PoolChecked}
-use Rattle.engine.proofs.Checks.{tables-unsound, totals-unsound, pool-asks, pool-unsound, all-sound}
+use Rattle.engine.proofs.Checks.{pool-answers, tables-unsound, totals-unsound, pool-asks, pool-unsound, all-sound}
 use Rattle.soundness.specs.declared.Checked.{Checked}
+use Rattle.soundness.specs.Layout.{twoWords}
 
 module _
     (numbers : List ℕ) (deques : List ℕ) (frames : List Frame) (pool : List ℕ) (work : List ℕ) (tables′ : FramesChecked) (numbers-fits : length numbers < 2 ^ 64) (deques-fits : length deques < 2 ^ 64) (frames-fits : length frames < 2 ^ 64) (pool-fits : length pool < 2 ^ 64) (work-fits : length work < 2 ^ 64) (ok : Fits (parts numbers deques frames) × (numbersIn numbers .nodes ≤ length work) × (tables′ ≡ tablesChecked (numbersIn numbers) deques frames pool)) where
@@ -37,7 +38,7 @@ module _
         (work-3 : List ℕ) (done-3 : work-3 ≡ cleared (n .nodes) work) (same-work-3 : length work-3 ≡ length work) where
       -- a way out: what the function ensures
       pub out-4 : IsCheck (parts numbers deques frames) pool work work-3 (Checked.Unsound)
-      out-4 = tables-unsound numbers deques frames pool work n n-is (subst (λ (k′ : Numbers). k′ .nodes ≤ length work) (sym n-is) (ok .1)) tables′ (ok .2 ∙ ap (λ (k′ : Numbers). tablesChecked k′ deques frames pool) (sym n-is)) case-2 work-3 done-3
+      out-4 = tables-unsound twoWords numbers deques frames pool work n n-is (subst (λ (k′ : Numbers). k′ .nodes ≤ length work) (sym n-is) (ok .1)) tables′ (ok .2 ∙ ap (λ (k′ : Numbers). tablesChecked k′ deques frames pool) (sym n-is)) case-2 work-3 done-3
 
     module _
         (end : ℕ) (end-fits : end < 2 ^ 32) (case-2 : tables′ ≡ FramesChecked.Good end) where
@@ -54,13 +55,13 @@ module _
             (work-7 : List ℕ) (done-7 : work-7 ≡ cleared (n .nodes) work) (same-work-7 : length work-7 ≡ length work) where
           -- a way out: what the function ensures
           pub out-8 : IsCheck (parts numbers deques frames) pool work work-7 (Checked.Unsound)
-          out-8 = totals-unsound numbers deques frames pool work n n-is (subst (λ (k′ : Numbers). k′ .nodes ≤ length work) (sym n-is) (ok .1)) tables′ (ok .2 ∙ ap (λ (k′ : Numbers). tablesChecked k′ deques frames pool) (sym n-is)) end case-2 r-5 r-5-is test-6 work-7 done-7
+          out-8 = totals-unsound twoWords numbers deques frames pool work n n-is (subst (λ (k′ : Numbers). k′ .nodes ≤ length work) (sym n-is) (ok .1)) tables′ (ok .2 ∙ ap (λ (k′ : Numbers). tablesChecked k′ deques frames pool) (sym n-is)) end case-2 r-5 r-5-is test-6 work-7 done-7
 
         module _
             (test-6 : r-5 ≡ true) where
           -- pool_check::check_pool asks
           pub needs-9 : (length frames ≤ maxPlaces) × DeadFrom frames end
-          needs-9 = pool-asks numbers deques frames pool work n n-is (subst (λ (k′ : Numbers). k′ .nodes ≤ length work) (sym n-is) (ok .1)) tables′ (ok .2 ∙ ap (λ (k′ : Numbers). tablesChecked k′ deques frames pool) (sym n-is)) end case-2
+          needs-9 = pool-asks twoWords numbers deques frames pool work n n-is (subst (λ (k′ : Numbers). k′ .nodes ≤ length work) (sym n-is) (ok .1)) tables′ (ok .2 ∙ ap (λ (k′ : Numbers). tablesChecked k′ deques frames pool) (sym n-is)) end case-2
 
           module _
               -- pool_check::check_pool((n .splitters), (n .nodes), (n .«free_node»), end, frames, pool, work)
@@ -69,10 +70,12 @@ module _
                 (case-10 : answer ≡ PoolChecked.Bad) where
               -- a way out: what the function ensures
               pub out-11 : IsCheck (parts numbers deques frames) pool work work-9 (Checked.Unsound)
-              out-11 = pool-unsound numbers deques frames pool work n n-is (subst (λ (k′ : Numbers). k′ .nodes ≤ length work) (sym n-is) (ok .1)) tables′ (ok .2 ∙ ap (λ (k′ : Numbers). tablesChecked k′ deques frames pool) (sym n-is)) end case-2 r-5 r-5-is test-6 answer work-9 answer-is case-10
+              unfolding poolChecked
+              out-11 = pool-unsound twoWords numbers deques frames pool work n n-is (subst (λ (k′ : Numbers). k′ .nodes ≤ length work) (sym n-is) (ok .1)) tables′ (ok .2 ∙ ap (λ (k′ : Numbers). tablesChecked k′ deques frames pool) (sym n-is)) end case-2 r-5 r-5-is test-6 pool-answers answer work-9 (answer-is .0) (answer-is .1) case-10
 
             module _
                 (free : ℕ) (free-fits : free < 2 ^ 32) (case-10 : answer ≡ PoolChecked.Good free) where
               -- a way out: what the function ensures
               pub out-12 : IsCheck (parts numbers deques frames) pool work work-9 (Checked.Sound free)
-              out-12 = all-sound numbers deques frames pool work n n-is (subst (λ (k′ : Numbers). k′ .nodes ≤ length work) (sym n-is) (ok .1)) tables′ (ok .2 ∙ ap (λ (k′ : Numbers). tablesChecked k′ deques frames pool) (sym n-is)) end case-2 r-5 r-5-is test-6 answer work-9 answer-is free case-10
+              unfolding poolChecked
+              out-12 = all-sound twoWords numbers deques frames pool work n n-is (subst (λ (k′ : Numbers). k′ .nodes ≤ length work) (sym n-is) (ok .1)) tables′ (ok .2 ∙ ap (λ (k′ : Numbers). tablesChecked k′ deques frames pool) (sym n-is)) end case-2 r-5 r-5-is test-6 pool-answers answer work-9 (answer-is .0) (answer-is .1) free case-10

@@ -27,8 +27,9 @@ use Rattle.soundness.specs.declared.Numbers.{Numbers}
 use Rattle.frame_check.specs.declared.FramesChecked.{FramesChecked}
 use Rattle.packed_check.specs.declared.PoolChecked.{PoolChecked}
 use Rattle.soundness.specs.declared.Checked.{Checked}
-use Rattle.engine.proofs.Checks.{no-room, tables-unsound, pool-asks, totals-unsound, pool-unsound, all-sound}
+use Rattle.engine.proofs.Checks.{no-room}
 use Rattle.engine.specs.Promises.{tablesChecked}
+use Rattle.soundness.specs.Layout.{twoWords}
 
 module _
     (numbers : List ℕ) (deques : List ℕ) (frames : List Frame) (pool : List ℕ) (work : List ℕ) (numbers-fits : length numbers < 2 ^ 64) (deques-fits : length deques < 2 ^ 64) (frames-fits : length frames < 2 ^ 64) (pool-fits : length pool < 2 ^ 64) (work-fits : length work < 2 ^ 64) (ok : Fits (parts numbers deques frames)) where
@@ -43,7 +44,7 @@ module _
         (test-2 : (length work) < (n .nodes)) where
       -- a way out: what the function ensures
       pub out-3 : IsCheck (parts numbers deques frames) pool work work (Checked.NoRoom)
-      out-3 = no-room numbers deques frames pool work n n-is test-2
+      out-3 = no-room twoWords numbers deques frames pool work n n-is test-2
 
     module _
         (test-2 : (n .nodes) ≤ (length work)) where

@@ -27,17 +27,17 @@ module _
       (test-2 : r-1 ≡ false) where
     -- a way out: what the function ensures
     pub out-3 : (FramesChecked.Bad) ≡ tablesChecked numbers deques frames pool
-    out-3 = tables-no numbers deques frames pool r-1 r-1-is test-2
+    out-3 = tables-no twoWords numbers deques frames pool r-1 r-1-is test-2
 
   module _
       (test-2 : r-1 ≡ true) where
     -- frame_check::check_frames asks
     pub needs-4 : (length deques ≡ dequeWords) × (length frames ≤ maxPlaces)
-    needs-4 = (ok, few-places numbers deques frames pool r-1 r-1-is test-2)
+    needs-4 = (ok, few-places twoWords numbers deques frames pool r-1 r-1-is test-2)
 
     module _
         -- frame_check::check_frames((numbers .workers), (numbers .«free_place»), deques, frames)
         (r-4 : FramesChecked) (r-4-is : r-4 ≡ cond (framesSound (numbers .workers) (numbers .«free_place») deques frames) (Good (liveEnd frames)) Bad) where
       -- a way out: what the function ensures
       pub out-5 : r-4 ≡ tablesChecked numbers deques frames pool
-      out-5 = tables-yes numbers deques frames pool r-1 r-1-is test-2 r-4 r-4-is
+      out-5 = tables-yes twoWords numbers deques frames pool r-1 r-1-is test-2 r-4 r-4-is
