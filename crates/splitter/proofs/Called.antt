@@ -5,3 +5,4 @@ pub mod load
 pub mod record_of
 pub mod result_words
 pub mod report
+pub mod convert

@@ -6,11 +6,13 @@ ghost use Rattle.sizes.specs.Sizes.{treeNodes};
 ghost use Rattle.model.specs.Record.{recordOf, decodeAt};
 ghost use Rattle.semantics.specs.Entries.{startOn, outsideOn, tapeOn};
 ghost use Rattle.image.specs.Image.{imageBytes};
+ghost use Rattle.semantics.specs.Convert.{convertOn};
 ghost use Rattle.semantics.specs.Images.{saveOn, loadOn};
-ghost use Rattle.semantics.specs.Promises.{parts, lent, IsStart, IsOutside, IsTape, IsSave, IsLoad, IsReport};
+ghost use Rattle.semantics.specs.Promises.{parts, lent, IsStart, IsOutside, IsTape, IsSave, IsLoad, IsReport, IsConvert};
 ghost use Rattle.semantics.specs.Report.{reportOn};
 ghost use Rattle.splitter.specs.OneRecord.{bytesOf, resultWords};
 ghost use Rattle.soundness.specs.Layout.{twoWords};
+use conversion::convert;
 use engine::load;
 use engine::save;
 use engine::start;
@@ -186,6 +188,21 @@ pub extern "C" fn splitter_load(
         (now (numbers .exit)) (now (deques .exit)) (now (frames .exit)) (now (pool .exit)) (now (work .exit)) r ⌝ }
 {
     load(numbers, deques, frames, pool, work, image)
+}
+
+// R-9: a pool of nodes of four words becomes one of nodes of two words, in the middle of a search.
+#[no_mangle]
+pub extern "C" fn splitter_convert(
+    numbers: &[u32],
+    deques: &[u32],
+    frames: &[Frame],
+    pool: &mut [u32],
+    work: &mut [u32],
+) -> u32
+    ensures { λ r. ⌜ IsConvert (convertOn (parts (now (numbers .entry)) (now (deques .entry)) (now (frames .entry))) (now (pool .entry)) (now (work .entry)))
+        (now (pool .exit)) (now (work .exit)) r ⌝ }
+{
+    convert(numbers, deques, frames, pool, work)
 }
 
 // The bytes of an image of so many places and nodes.

@@ -3,6 +3,7 @@
 mod calls;
 mod queries;
 
+pub use calls::splitter_convert;
 pub use calls::splitter_image_bytes;
 pub use calls::splitter_load;
 pub use calls::splitter_report;

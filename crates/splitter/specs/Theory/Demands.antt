@@ -1,18 +1,22 @@
--- Demands 1 to 3 of document 01, and what R-1 to R-8 add, for the layout that the library's functions promise (twoWords). Crate semantics has them for every
--- layout whose pools have their laws (Theory.Pools), and two-word nodes have these (Theory.TwoPools). Its Demands, ReportDemands and Matching say what each means.
+-- Demands 1 to 3 of document 01, and what R-1 to R-9 add, for the layout that the library's functions promise (twoWords). Crate semantics has them for every
+-- layout whose pools have their laws (Theory.Pools), and two-word nodes have these (Theory.TwoPools). Its Demands, ReportDemands, ConvertDemands and Matching say what each means.
 use mathlib.Core.Path.{_≡_}
 use mathlib.Core.Logic.{_≢_}
 use mathlib.Core.Bool.{true, false}
 use mathlib.Core.List.{List}
 use Prim.Native.Nat.{ℕ, _*_, _<_, _≤_}
 use lib.ListN.{length}
-use Rattle.soundness.specs.Layout.{twoWords}
+use Rattle.words.specs.Below.{Words}
+use Rattle.soundness.specs.Layout.{fourWords, twoWords}
 use Rattle.semantics.specs.Entries.{State, fits, numbersOf, isSound, wholeNodes}
 use Rattle.semantics.specs.Images.{loadOn}
 use Rattle.semantics.specs.Report.{Lent}
-use Rattle.semantics.specs.Calls.{Start, startResult, HostCall, StateAndPool, saveResult, Call}
+use Rattle.semantics.specs.Calls.{Start, startResult, afterStart, HostCall, StateAndPool, saveResult, Call, begun}
 use Rattle.semantics.specs.Demands.{Demand2, MainReturned, Demand3, RestIsCounted, WritesAgain, SoundRun, StateWords, StartWords, AllCallWords, runFrom, RefusedStart, AcceptedStart, IsRefused, RefusedCall, SamePast, WorkAfter, AcceptedSave, WorkAfterSave, RefusedLoad, AcceptedLoad, WorkAfterLoad, writtenImage, ReadsBack}
 use Rattle.semantics.specs.ReportDemands.{reportResult, AloneFits, AloneReport, RefusedReport, ReportChecks, TapeRan, SameRun, ReportIs, NoOverflow, SamePair}
+use Rattle.semantics.specs.Convert.{convertOn, changeOver}
+use Rattle.semantics.specs.ConvertDemands.{ConvertChecks, RefusedConvert, WorkAfterConvert, AcceptedConvert, SameTwice, RefusedTwice, OldImageRefused, ChangedDemand2, ChangedReturned, ChangedDemand3, SameMachine, SameCalls, inPool, AsIfBegunSo}
+use Rattle.semantics.specs.Matching.{AsManyNodes}
 use Rattle.semantics.specs.Theory.TwoPools.{two-pools}
 use Rattle.semantics.specs.Theory.RefusedCalls as calls
 use Rattle.semantics.specs.Theory.Images as images
@@ -20,6 +24,12 @@ use Rattle.semantics.specs.Theory.StartedRuns as started
 use Rattle.semantics.specs.Theory.SoundRuns as runs
 use Rattle.semantics.specs.Theory.Reports as reports
 use Rattle.semantics.specs.Theory.SameReports as pairs
+use Rattle.semantics.specs.Theory.Converts as converts
+use Rattle.semantics.specs.Theory.ConvertTwice as twice
+use Rattle.semantics.specs.Theory.ChangedRuns as changed
+use Rattle.semantics.specs.Theory.SameMachine as machine
+use Rattle.semantics.specs.Theory.AsIfBegun as begun-so
+use Rattle.semantics.specs.Theory.OldImages as old
 
 -- ---- demand 1
 
@@ -101,3 +111,54 @@ same-report = pairs.same-report twoWords two-pools
 pub alone-report : (b : Start) (bytes : List ℕ) (l : Lent) (parts : State) (ws bytes₁ : List ℕ) (l₁ : Lent) → reportResult twoWords b bytes l .result ≡ 0 → AloneFits twoWords b bytes l parts ws bytes₁ l₁
     → AloneReport twoWords b bytes l parts ws bytes₁ l₁
 alone-report = pairs.alone-report twoWords two-pools
+
+-- ---- R-9's change-over
+
+pub convert-checks : (s : State) (ws work : List ℕ) → ConvertChecks s ws work
+convert-checks = converts.convert-checks
+
+pub refused-convert : (s : State) (ws work : List ℕ) → 0 < convertOn s ws work .result → RefusedConvert s ws work
+refused-convert = converts.refused-convert
+
+pub work-after-convert : (s : State) (ws work : List ℕ) → WorkAfterConvert s ws work
+work-after-convert = converts.work-after-convert
+
+pub accepted-convert : (s : State) (ws work : List ℕ) → convertOn s ws work .result ≡ 0 → AcceptedConvert s ws work
+accepted-convert = converts.accepted-convert
+
+pub convert-twice : (s : State) (ws work work′ : List ℕ) → convertOn s ws work .result ≡ 0 → SameTwice s ws work work′
+convert-twice = twice.convert-twice
+
+pub refused-twice : (s : State) (ws work work′ : List ℕ) → convertOn s ws work .result ≡ 0 → RefusedTwice s ws work work′
+refused-twice = twice.refused-twice
+
+pub old-image-refused : (s : State) (ws image : List ℕ) (parts : State) (lent work : List ℕ) → fits parts ≡ true → OldImageRefused s ws image parts lent work
+old-image-refused = old.old-image-refused
+
+-- a run in the old layout that has a state can be changed over
+pub changed-taken : (b : Start) (before : List Call) (work : List ℕ) → startResult fourWords b .result ≡ 0 → StartWords b → AllCallWords before → runFrom fourWords b before .stateless ≡ false → wholeNodes fourWords (b .pool) ≤ length work
+    → changeOver (runFrom fourWords b before .now) work .result ≡ 0
+changed-taken = changed.changed-taken
+
+pub changed-demand2 : (b : Start) (before : List Call) (work : List ℕ) (after : List Call) → startResult fourWords b .result ≡ 0 → StartWords b → AllCallWords before → changeOver (runFrom fourWords b before .now) work .result ≡ 0 → AllCallWords after
+    → ChangedDemand2 b before work after
+changed-demand2 = changed.changed-demand2
+
+pub changed-demand3 : (b : Start) (before : List Call) (work : List ℕ) (after : List Call) → startResult fourWords b .result ≡ 0 → StartWords b → AllCallWords before → changeOver (runFrom fourWords b before .now) work .result ≡ 0 → AllCallWords after
+    → ChangedReturned b before work after → (parts : State) (ws : List ℕ) (works : ℕ → List ℕ) → fits parts ≡ true → length (parts .frames) ≡ length (b .parts .frames) → wholeNodes twoWords ws ≡ wholeNodes fourWords (b .pool)
+    → ((j : ℕ) → wholeNodes fourWords (b .pool) ≤ length (works j)) → ChangedDemand3 b before work after parts ws works
+changed-demand3 = changed.changed-demand3
+
+-- a sound state handed in otherwise: `sound-run` goes on from the same plain machine
+pub same-machine : (h : StateAndPool) (work : List ℕ) → changeOver h work .result ≡ 0 → SameMachine h work
+same-machine = machine.same-machine
+
+pub as-if-begun-so : (b : Start) (before : List Call) (work : List ℕ) (after : List Call) (ws : List ℕ) (before₂ : List Call)
+    → startResult fourWords b .result ≡ 0 → StartWords b → Words ws → AsManyNodes ws (b .pool) → AllCallWords before → AllCallWords before₂ → AllCallWords after
+    → SameCalls (begun (afterStart twoWords (inPool b ws))) (begun (afterStart fourWords b)) before₂ before → changeOver (runFrom fourWords b before .now) work .result ≡ 0
+    → AsIfBegunSo b before work after ws before₂
+as-if-begun-so = begun-so.as-if-begun-so
+
+pub begun-so-too : (b : Start) (before : List Call) (ws : List ℕ) → startResult fourWords b .result ≡ 0 → StartWords b → Words ws → AsManyNodes ws (b .pool) → AllCallWords before
+    → (before₂ : List Call) × AllCallWords before₂ × SameCalls (begun (afterStart twoWords (inPool b ws))) (begun (afterStart fourWords b)) before₂ before
+begun-so-too = begun-so.begun-so-too

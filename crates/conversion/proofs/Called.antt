@@ -1,0 +1,12 @@
+pub mod numbers_in
+pub mod holds_old
+pub mod clear
+pub mod check_tables
+pub mod totals_right
+pub mod check_pool
+pub mod check_old
+pub mod check_number
+pub mod pack_nodes
+pub mod fit
+pub mod unfit
+pub mod convert_on
