@@ -15,3 +15,5 @@ pub mod SavedImages
 pub mod Reports
 -- R-8: nodes of two words
 pub mod TwoWords
+-- R-9: the change-over
+pub mod Changeover

@@ -29,12 +29,12 @@ use Rattle.semantics.specs.Matching.{unpackedPool}
 use Rattle.starred.specs.Tapes.{spawns, returns, steals, writes, partsWith, wordsOf}
 
 -- "left plus 65,536 times right"
-abbrev both : ℕ → ℕ → ℕ
+abbrev pub both : ℕ → ℕ → ℕ
 both l r = l + 65536 * r
 
 -- ---- starts: two workers, so many nodes, a word more, and a table of 8 places
 
-abbrev startsWith : Layout → List ℕ → ℕ → Start
+abbrev pub startsWith : Layout → List ℕ → ℕ → Start
 startsWith L values nodes = record { parts = partsWith 8; workers = 2; values = values; pool = replicate (L .words * nodes + 1) 7 }
 
 -- "A node becomes two words: holders, then left plus 65,536 times right for inner nodes with 65,535 for none, the value for a leaf, the next free node or
@@ -86,7 +86,7 @@ pub record TapeRow : Type 0 where
 abbrev runs : List ℕ → ℕ → List (List ℕ) → (answers two four : List ℕ) → TapeRow
 runs values nodes records answers two four = record { values = values; nodes = nodes; records = records; answers = answers; two = two; four = four }
 
-pub tapeRows : List TapeRow
+unfoldable pub tapeRows : List TapeRow
 tapeRows =
     -- worker 0 spawns, 1 steals Main; the child writes 91 on the left, in new nodes 3 and 4, and 92 on the right, in 5
     runs (10 ∷ 20 ∷ []) 7 (spawns 0 ∷ steals 1 0 ∷ writes 0 0 91 ∷ writes 0 1 92 ∷ [])
