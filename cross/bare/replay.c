@@ -9,7 +9,7 @@
 #include <string.h>
 
 enum { NUMBERS, DEQUES, FRAMES, POOL, WORK, ANSWERS, CLOCKS, REPORT, SLICES };
-enum { START = 1, STEP, TAPE, SAVE, LOAD, REPORTED };
+enum { START = 1, STEP, TAPE, SAVE, LOAD, REPORTED, CONVERT };
 
 static _Alignas(8) uint8_t arena[1 << 22];
 static size_t used;
@@ -104,6 +104,9 @@ static uint64_t make_call(const struct call *call) {
                                argument[0], call->value, call->values, slice[POOL], length[POOL], slice[WORK], length[WORK],
                                call->byte, call->bytes, slice[ANSWERS], length[ANSWERS], (uint64_t *)slice[CLOCKS], length[CLOCKS] / 2,
                                (uint64_t *)slice[REPORT], length[REPORT] / 2);
+    case CONVERT:
+        return splitter_convert(slice[NUMBERS], length[NUMBERS], slice[DEQUES], length[DEQUES], frames, places,
+                                slice[POOL], length[POOL], slice[WORK], length[WORK]);
     default:
         stop("no such entry");
     }

@@ -70,6 +70,7 @@ static void layout(void) {
     EXPECT(SPLITTER_DEQUE_PLACES, SPLITTER_MAX_PLACES);
     EXPECT(SPLITTER_NUMBERS_WORDS, SPLITTER_NUMBER_PLACES + 1);
     EXPECT(SPLITTER_REDUCERS, SPLITTER_REDUCER_AFFINE + 1);
+    EXPECT(SPLITTER_NODE_WORDS_OLD, 2 * SPLITTER_NODE_WORDS);
     EXPECT(SPLITTER_NONE, UINT32_MAX);
     EXPECT(sizeof(splitter_len), 8);
 }
@@ -233,6 +234,46 @@ static void images(const struct splitter_lent *lent) {
     ANSWER(splitter_write(lent, 0, 1, 98), SPLITTER_WRITTEN, 3);
     EXPECT(splitter_lent_load(lent, again, sizeof image), SPLITTER_OK);
     ANSWER(splitter_read(lent, 0, 1), SPLITTER_VALUE, 99);
+}
+
+/* A start's nodes in four words, changed over by lent memory and by a state; the run goes on. State and table are those of the same start. */
+static void change_overs(const struct splitter_lent *lent) {
+    static const uint32_t values[2] = {10, 20}, none = SPLITTER_NONE;
+    const uint32_t old[6 * SPLITTER_NODE_WORDS_OLD + 1] = {1, 1, 2, 0, 1, none, none, 10, 1, none, none, 20,
+                                                           0, 4, 0, 0, 0, 5, 0, 0, 0, none, 0, 0, 7};
+    uint32_t pool[6 * SPLITTER_NODE_WORDS_OLD + 1];
+    const struct splitter_lent changed = {lent->state, lent->frames, lent->places, pool, 6 * SPLITTER_NODE_WORDS_OLD, lent->work, 6};
+    EXPECT(splitter_lent_start(lent, 2, values, 2), SPLITTER_OK);
+    memcpy(pool, old, sizeof pool);
+    EXPECT(splitter_state_convert(lent->state, lent->frames, lent->places, pool, 6 * SPLITTER_NODE_WORDS_OLD, lent->work, 5), SPLITTER_SHORT_WORK);
+    EXPECT(splitter_state_convert(lent->state, lent->frames, lent->places, pool, 6 * SPLITTER_NODE_WORDS_OLD - 1, lent->work, 6), SPLITTER_UNSOUND);
+    EXPECT(splitter_state_convert(lent->state, lent->frames, lent->places - 1, pool, 6 * SPLITTER_NODE_WORDS_OLD, lent->work, 6), SPLITTER_UNSOUND);
+    EXPECT(splitter_lent_convert(lent), SPLITTER_UNSOUND); /* present nodes */
+    EXPECT(memcmp(pool, old, sizeof pool) == 0, 1);
+    EXPECT(splitter_state_convert(lent->state, lent->frames, lent->places, pool, 6 * SPLITTER_NODE_WORDS_OLD, lent->work, 6), SPLITTER_OK);
+    EXPECT(memcmp(pool, lent->pool, 6 * SPLITTER_NODE_WORDS * sizeof pool[0]) == 0, 1);
+    for (uint32_t i = 6 * SPLITTER_NODE_WORDS; i < 6 * SPLITTER_NODE_WORDS_OLD; i++) {
+        EXPECT(pool[i], 0);
+    }
+    EXPECT(splitter_lent_convert(&changed), SPLITTER_UNSOUND); /* once more */
+    EXPECT(memcmp(pool, lent->pool, 6 * SPLITTER_NODE_WORDS * sizeof pool[0]) == 0 && pool[6 * SPLITTER_NODE_WORDS_OLD] == 7, 1);
+    memcpy(pool, old, sizeof pool);
+    EXPECT(splitter_lent_convert(&changed), SPLITTER_OK);
+    steps(&changed);
+}
+
+/* NULL for each slice of a change-over, with lengths 0 and not 0; nothing changes. */
+static void nulls_of_change_overs(const struct splitter_lent *lent) {
+    for (splitter_len len = 0; len <= 24; len += 24) {
+        const struct splitter_lent no_table = {lent->state, NULL, len, lent->pool, lent->pool_len, lent->work, lent->work_len};
+        const struct splitter_lent no_pool = {lent->state, lent->frames, lent->places, NULL, len, lent->work, lent->work_len};
+        const struct splitter_lent no_work = {lent->state, lent->frames, lent->places, lent->pool, lent->pool_len, NULL, len};
+        const struct splitter_lent neither = {lent->state, lent->frames, lent->places, NULL, len, NULL, len};
+        EXPECT(splitter_lent_convert(&no_table), SPLITTER_UNSOUND);
+        EXPECT(splitter_lent_convert(&no_pool), SPLITTER_UNSOUND);
+        EXPECT(splitter_lent_convert(&no_work), SPLITTER_SHORT_WORK);
+        EXPECT(splitter_lent_convert(&neither), SPLITTER_SHORT_WORK);
+    }
 }
 
 /* A step's arguments are words: none is cut down to a record's field. */
@@ -401,6 +442,8 @@ int main(void) {
     tapes(&lent);
     images(&lent);
     wide_fields(&lent);
+    change_overs(&lent);
+    nulls_of_change_overs(&lent);
     EXPECT(splitter_lent_start(&lent, 2, values, 2), SPLITTER_OK);
     nulls(&lent);
     nulls_that_clear(&lent);

@@ -18,7 +18,9 @@ static uint8_t tape[RECORDS * SPLITTER_RECORD_BYTES];
 static uint32_t answers[2 * RECORDS];
 static uint8_t image[SPLITTER_IMAGE_BYTES(FRAMES, NODES)];
 static uint64_t clocks[SPLITTER_CLOCKS_WORDS(FRAMES)];
-static uint32_t saved, loaded, reported; /* what the calls answered */
+static uint32_t old_pool[NODES * SPLITTER_NODE_WORDS_OLD]; /* the same run's, with old nodes */
+static const struct splitter_lent old = {&state, table, FRAMES, old_pool, NODES * SPLITTER_NODE_WORDS_OLD, work, NODES};
+static uint32_t saved, loaded, reported, converted; /* what the calls answered */
 static uint32_t workers = 2;             /* of the next start or report */
 static unsigned char stack[1 << 17] __attribute__((aligned(16)));
 
@@ -77,6 +79,42 @@ static void save(void) {
 
 static void load(void) {
     loaded = splitter_lent_load(&lent, image, sizeof image);
+}
+
+static void convert(void) {
+    converted = splitter_lent_convert(&old);
+}
+
+static void put_old_node(uint32_t node, uint32_t left, uint32_t right, uint32_t value) {
+    uint32_t *to = old_pool + node * SPLITTER_NODE_WORDS_OLD;
+    to[0] = pool[node * SPLITTER_NODE_WORDS];
+    to[1] = left;
+    to[2] = right;
+    to[3] = value;
+}
+
+/* From a node of this level down; with 256 splitters every inner node has two links. */
+static void put_old_tree(uint32_t node, unsigned level) {
+    uint32_t word = pool[node * SPLITTER_NODE_WORDS + 1];
+    if (level == 0) {
+        put_old_node(node, SPLITTER_NONE, SPLITTER_NONE, word);
+        return;
+    }
+    put_old_node(node, word % 65536u, word / 65536u, 0);
+    put_old_tree(word % 65536u, level - 1);
+    put_old_tree(word / 65536u, level - 1);
+}
+
+/* The pool as the library before would have it: free nodes, then all that the live frames reach. */
+static void put_old_pool(void) {
+    for (uint32_t node = 0; node < NODES; node++) {
+        put_old_node(node, pool[node * SPLITTER_NODE_WORDS + 1], 0, 0);
+    }
+    for (unsigned place = 0; place < FRAMES; place++) {
+        if (table[place].live != 0) {
+            put_old_tree(table[place].root, 8);
+        }
+    }
 }
 
 static void tapes(void) {
@@ -168,6 +206,17 @@ static void check_image(void) {
     }
 }
 
+/* Changed over with all frames live; the nodes are those of the run itself. */
+static size_t stack_of_convert(void) {
+    put_old_pool();
+    size_t most = stack_of(convert);
+    if (converted != SPLITTER_OK || memcmp(old_pool, pool, sizeof pool) != 0) {
+        printf("surprise: the change-over answered %u, or left other nodes\n", converted);
+        exit(1);
+    }
+    return most;
+}
+
 static size_t stack_of_report(void) {
     size_t most = stack_of(reports);
     if (reported != SPLITTER_OK) {
@@ -183,6 +232,7 @@ int main(void) {
     size_t starts = stack_of(start), stepped = stack_of(steps_down);
     size_t saves = stack_of(save), loads = stack_of(load);
     check_image();
+    size_t converts = stack_of_convert();
     stepped = larger(stepped, stack_of(steps_up));
     check_end();
     start();
@@ -202,9 +252,9 @@ int main(void) {
     taped = larger(taped, stack_of(tapes));
     check_end();
     reporting = larger(reporting, stack_of_report());
-    printf("stack: a start takes %zu bytes, a step %zu, a tape %zu, a report %zu, a save %zu, a load %zu\n", starts, stepped, taped,
-           reporting, saves, loads);
-    if (larger(larger(starts, stepped), larger(larger(taped, reporting), larger(saves, loads))) > SPLITTER_STACK_BYTES) {
+    printf("stack: a start takes %zu bytes, a step %zu, a tape %zu, a report %zu, a save %zu, a load %zu, a change-over %zu\n", starts,
+           stepped, taped, reporting, saves, loads, converts);
+    if (larger(larger(larger(starts, converts), stepped), larger(larger(taped, reporting), larger(saves, loads))) > SPLITTER_STACK_BYTES) {
         printf("surprise: splitter.h promises at most %u\n", SPLITTER_STACK_BYTES);
         return 1;
     }

@@ -319,7 +319,7 @@ static void stress_image(void) {
     }
 }
 
-/* The five calls over parts of these lengths, one of them wrong; other refusals' conditions may hold as well. */
+/* The six calls over parts of these lengths, one of them wrong; other refusals' conditions may hold as well. */
 static void call_bad_state(uint32_t *const parts[2], const size_t lengths[2]) {
     const uint8_t tape[SPLITTER_RECORD_BYTES] = {0};
     uint32_t words[2] = {GUARD_WORD, GUARD_WORD};
@@ -336,10 +336,12 @@ static void call_bad_state(uint32_t *const parts[2], const size_t lengths[2]) {
                                lent->work, any(2), image, any(2)), SPLITTER_BAD_STATE);
     same("load", splitter_load(parts[0], lengths[0], parts[1], lengths[1], table, places, lent->pool, lent->pool_len,
                                lent->work, any(2), image, image_len - any(2) * (image_len > 0)), SPLITTER_BAD_STATE);
+    same("convert", splitter_convert(parts[0], lengths[0], parts[1], lengths[1], table, places, lent->pool, lent->pool_len,
+                                     lent->work, any(2)), SPLITTER_BAD_STATE);
     if (words[0] != GUARD_WORD || words[1] != GUARD_WORD) {
         surprise("a refused tape changed its answers");
     }
-    counts[SPLITTER_BAD_STATE] += 5;
+    counts[SPLITTER_BAD_STATE] += 6;
 }
 
 /* Any other length of a part, shorter or longer: nothing changes. */

@@ -20,7 +20,8 @@
  *             frame's view is a tree of T(n) nodes, and frames share what neither has written since the spawn. A spawn takes no node. On
  *             the path to its splitter, a write alters in place the nodes that only its frame has; from the first shared one on, the rest
  *             is new. A node's first word is its holders, the links to it. Its level tells the second: an inner node's left link plus
- *             65,536 times its right one, SPLITTER_NO_LINK for none; a leaf's value; a free node's next one, or SPLITTER_NONE.
+ *             65,536 times its right one, SPLITTER_NO_LINK for none; a leaf's value; a free node's next one, or SPLITTER_NONE. Nodes from
+ *             before, of SPLITTER_NODE_WORDS_OLD words, are for splitter_convert alone.
  *   work      a word for each node of the pool, for the check of state, table and pool; the words are zero afterwards.
  *   answers   two words for each record of a tape.
  *   target    the bytes of an image, to save a run in: splitter_image_bytes(places, nodes), SPLITTER_IMAGE_BYTES(places, nodes) for an
@@ -33,7 +34,7 @@
  * Order of calls: splitter_start, splitter_load or splitter_report, then any of splitter_step, splitter_tape and splitter_save, each with
  * the state, the table and the pool as the call before left them. Every call but the first three checks what it is handed: what is not
  * sound is refused (SPLITTER_UNSOUND), not used, and so is a table of another length than recorded. A foreign change that leaves all
- * sound, such as another value in a leaf, cannot be seen.
+ * sound, such as another value in a leaf, cannot be seen. A run that the library of header 0.2 has begun takes splitter_convert first.
  *
  * A return with a live child is no mistake: the frame waits for its children and ends when the last of them ends (SPLITTER_WAITS). So a
  * frame that has nothing to do after its children needs no sync.
@@ -58,7 +59,15 @@
  * places as the table has, and two words for each node. A reading takes no other: images from before, of versions 0 to 3, are refused by
  * SPLITTER_BAD_BLOCKS.
  *
- * The nine functions are the library. Below them are inline helpers: the same calls over struct splitter_state and over struct
+ * A search that is under way when this library takes the place of the one with header 0.2, whose nodes have four words, can go on: state and
+ * table are the same in both, and splitter_convert turns the pool's nodes into the present ones, in the same slice. It is safe to call
+ * after the last call to the old library and before the first one to this, for state, table and pool as the old one left them; the run must
+ * be in memory, for old images are refused. An earlier call would take the old words for present nodes and refuse them by SPLITTER_UNSOUND
+ * or, where they happen to be sound, as of a pool of 1 node, go on with other values. A second change-over of the same pool changes nothing:
+ * it is refused by SPLITTER_UNSOUND, unless Main has returned and the pool has 1 or 2 nodes. It is not for a pool that never had old nodes.
+ * While the call runs the pool is of neither kind: where memory outlives a reset, keep a copy of the pool until it has returned.
+ *
+ * The ten functions are the library. Below them are inline helpers: the same calls over struct splitter_state and over struct
  * splitter_lent, a call for each kind of step, queries, records, texts. A host needs no others than those over struct splitter_lent.
  */
 #ifndef SPLITTER_H
@@ -76,7 +85,7 @@ extern "C" {
  * something is added; while the major number is 0, nothing is released and any of them may change anything. The archive has no number:
  * link the one that came with this header. The form of images is counted apart, by SPLITTER_IMAGE_VERSION. */
 #define SPLITTER_VERSION_MAJOR 0u
-#define SPLITTER_VERSION_MINOR 3u
+#define SPLITTER_VERSION_MINOR 4u
 #define SPLITTER_VERSION (SPLITTER_VERSION_MAJOR * 1000u + SPLITTER_VERSION_MINOR)
 
 /* The length of a slice: 64 bits on every machine, also where size_t has 32. */
@@ -97,6 +106,7 @@ typedef uint64_t splitter_len;
 #define SPLITTER_DEQUES_WORDS 2056u     /* for each of 8 workers its deque's length, then SPLITTER_DEQUE_PLACES places from the top */
 #define SPLITTER_FRAME_RECORD_WORDS 12u /* of struct splitter_frame */
 #define SPLITTER_NODE_WORDS 2u          /* holders, then what the node's level tells */
+#define SPLITTER_NODE_WORDS_OLD 4u      /* of the library with header 0.2: holders, left, right, value; free: 0, the next one, 0, 0 */
 #define SPLITTER_NO_LINK 65535u         /* in the place of an inner node's left or right link */
 #define SPLITTER_MAX_NODES 16384u
 #define SPLITTER_MAX_SPLITTERS 256u
@@ -223,7 +233,8 @@ enum {
     SPLITTER_SHORT_WORK = 5,           /* the work slice has fewer words than the state's nodes; a report: than the pool's; a reading: than
                                         * the image's */
     SPLITTER_UNSOUND = 6,              /* state, table and pool are not sound, or the image's are not; the table has another length than
-                                        * recorded; a reading: the pool has fewer nodes than the image */
+                                        * recorded; a reading: the pool has fewer nodes than the image; a change-over: they are not
+                                        * sound with old nodes */
     /* Of one step or record: state, table and pool are as they were. */
     SPLITTER_BAD_RECORD = 7,           /* the kind is not 1 to 7, or an unused field is not zero */
     SPLITTER_UNKNOWN_WORKER = 8,       /* the worker does not exist */
@@ -316,6 +327,16 @@ uint32_t splitter_load(uint32_t *SPLITTER_RESTRICT numbers, splitter_len numbers
                        uint32_t *SPLITTER_RESTRICT work, splitter_len work_len,
                        const uint8_t *SPLITTER_RESTRICT image, splitter_len image_len);
 
+/* The change-over: turns a pool of old nodes, SPLITTER_NODE_WORDS_OLD words each, into one of as many present nodes in the front of the same
+ * slice. The old nodes' other words are zero then, and words past the old nodes never change. State and table are only read. SPLITTER_OK, and
+ * the run goes on as if it had begun with the present nodes; or a refusal: 99, 5, 6; then nothing has changed but, by 6, the work slice. The
+ * later calls may be lent the whole slice, or only its front, SPLITTER_NODE_WORDS words for each node. */
+uint32_t splitter_convert(const uint32_t *SPLITTER_RESTRICT numbers, splitter_len numbers_len,
+                          const uint32_t *SPLITTER_RESTRICT deques, splitter_len deques_len,
+                          const struct splitter_frame *SPLITTER_RESTRICT frames, splitter_len places,
+                          uint32_t *SPLITTER_RESTRICT pool, splitter_len pool_len,
+                          uint32_t *SPLITTER_RESTRICT work, splitter_len work_len);
+
 /* The bytes of an image that a save writes, of so many places and nodes, for any numbers: whole blocks. */
 uint64_t splitter_image_bytes(uint32_t places, uint32_t nodes);
 
@@ -343,7 +364,8 @@ static inline uint64_t splitter_answer(uint32_t kind, uint32_t number) {
     return (uint64_t)number << 32 | kind;
 }
 
-/* Is this number a refusal? For the result of a start, a tape, a report, a save or a reading, and for a first answer word. */
+/* Is this number a refusal? For the result of a start, a tape, a report, a save, a reading or a change-over, and for a first answer
+ * word. */
 static inline bool splitter_refused(uint32_t number) {
     return number != SPLITTER_OK && number < 100;
 }
@@ -455,6 +477,16 @@ static inline uint32_t splitter_state_load(struct splitter_state *state, struct 
                          image != NULL ? image : &byte, splitter_slice_len(image, image_len));
 }
 
+static inline uint32_t splitter_state_convert(const struct splitter_state *state, const struct splitter_frame *frames, splitter_len places,
+                                              uint32_t *pool, splitter_len pool_len, uint32_t *work, splitter_len work_len) {
+    struct splitter_frame record = {0, 0, 0, 0, 0, 0, 0, 0, 0, 0, 0, 0};
+    uint32_t word = 0;
+    return splitter_convert(state->numbers, SPLITTER_NUMBERS_WORDS, state->deques, SPLITTER_DEQUES_WORDS,
+                            frames != NULL ? frames : &record, splitter_slice_len(frames, places),
+                            pool != NULL ? pool : &word, splitter_slice_len(pool, pool_len),
+                            work != NULL ? work : &word, splitter_slice_len(work, work_len));
+}
+
 static inline uint64_t splitter_state_free_nodes(const struct splitter_state *state, const uint32_t *pool, splitter_len pool_len) {
     uint32_t word = 0;
     return splitter_free_nodes(state->numbers, SPLITTER_NUMBERS_WORDS, pool != NULL ? pool : &word, splitter_slice_len(pool, pool_len));
@@ -505,6 +537,10 @@ static inline uint32_t splitter_lent_save(const struct splitter_lent *lent, uint
 static inline uint32_t splitter_lent_load(const struct splitter_lent *lent, const uint8_t *image, splitter_len image_len) {
     return splitter_state_load(lent->state, lent->frames, lent->places, lent->pool, lent->pool_len, lent->work, lent->work_len,
                                image, image_len);
+}
+
+static inline uint32_t splitter_lent_convert(const struct splitter_lent *lent) {
+    return splitter_state_convert(lent->state, lent->frames, lent->places, lent->pool, lent->pool_len, lent->work, lent->work_len);
 }
 
 static inline uint64_t splitter_lent_free_nodes(const struct splitter_lent *lent) {

@@ -123,6 +123,24 @@
 //! assert_eq!(engine.read(0, 4)?, 99);
 //! # Ok::<(), splitter::Refusal>(())
 //! ```
+//!
+//! A run that the library before has begun, with four words to a node, goes on after a change-over. State and table are
+//! the same in both:
+//!
+//! ```
+//! use splitter::{Engine, Frame, State, NODE_WORDS, NODE_WORDS_OLD, NONE};
+//!
+//! # let (mut state, mut table, mut work) = (State::ZERO, [Frame::ZERO; 64], [0; 2]);
+//! # let (frames, pool) = (&mut table, &mut [0; 2 * NODE_WORDS]);
+//! # Engine { state: &mut state, frames, pool, work: &mut work }.start(1, &[7])?;
+//! // one splitter, two nodes: Main's leaf, holders, no links and its value; and a free node
+//! let mut pool: [u32; 2 * NODE_WORDS_OLD] = [1, NONE, NONE, 7, 0, NONE, 0, 0];
+//! let mut engine = Engine { state: &mut state, frames: &mut table, pool: &mut pool, work: &mut work };
+//! engine.convert()?;
+//! assert_eq!(engine.pool, [1, 7, 0, NONE, 0, 0, 0, 0]);
+//! assert_eq!(engine.read(0, 0)?, 7);
+//! # Ok::<(), splitter::Refusal>(())
+//! ```
 #![no_std]
 #![deny(unsafe_code)]
 
@@ -142,7 +160,7 @@ pub use step::{affine, Reducer, Step};
 /// The version of splitter.h that this binding follows; the package has the same.
 pub const VERSION_MAJOR: u32 = 0;
 /// Its minor number.
-pub const VERSION_MINOR: u32 = 3;
+pub const VERSION_MINOR: u32 = 4;
 /// Both, to compare.
 pub const VERSION: u32 = VERSION_MAJOR * 1000 + VERSION_MINOR;
 
@@ -156,6 +174,8 @@ pub const DEQUE_PLACES: usize = 256;
 pub const DEQUES_WORDS: usize = MAX_WORKERS * (1 + DEQUE_PLACES);
 /// The words of a node: its holders, then what its level tells.
 pub const NODE_WORDS: usize = 2;
+/// The words of a node of the library before, with header 0.2, which [`Engine::convert`] takes.
+pub const NODE_WORDS_OLD: usize = 4;
 /// In the place of an inner node's left or right link, in the low or high half of its second word: none.
 pub const NO_LINK: u32 = 65_535;
 /// The most nodes of a pool.
@@ -333,6 +353,15 @@ impl Engine<'_> {
     /// [`Refusal::Unsound`] every record of the table and every whole node of the pool zero as well.
     pub fn load(&mut self, image: &[u8]) -> Result<(), Refusal> {
         call(raw::load(self.state.parts(), self.frames, self.pool, self.work, image))
+    }
+
+    /// The change-over of a run that the library with header 0.2 has begun: turns its nodes, [`NODE_WORDS_OLD`] words
+    /// each, into as many of [`NODE_WORDS`] in the front of the same pool, and the run goes on as if it had begun with
+    /// these. The old nodes' other words are zero then; words past the old nodes never change. It is the first call for
+    /// such a run, with state, table and pool as the old library left them; splitter.h says more. Refused, nothing has
+    /// changed but the work slice.
+    pub fn convert(&mut self) -> Result<(), Refusal> {
+        call(raw::convert(self.state.parts(), self.frames, self.pool, self.work))
     }
 }
 

@@ -1,4 +1,4 @@
-//! The library's nine functions, over slices of any length and with their numbers: for tests and
+//! The library's ten functions, over slices of any length and with their numbers: for tests and
 //! measurements. A product needs only [`Engine`](crate::Engine). The C functions are declared here and
 //! nowhere else in Rust.
 //!
@@ -115,6 +115,19 @@ mod c {
             work_len: Len,
             image: *const u8,
             image_len: Len,
+        ) -> u32;
+
+        pub fn splitter_convert(
+            numbers: *const u32,
+            numbers_len: Len,
+            deques: *const u32,
+            deques_len: Len,
+            frames: *const Frame,
+            places: Len,
+            pool: *mut u32,
+            pool_len: Len,
+            work: *mut u32,
+            work_len: Len,
         ) -> u32;
 
         pub fn splitter_image_bytes(places: u32, nodes: u32) -> u64;
@@ -295,6 +308,25 @@ pub fn load(state: Parts, frames: &mut [Frame], pool: &mut [u32], work: &mut [u3
             len(work),
             image.as_ptr(),
             len(image),
+        )
+    }
+}
+
+/// 0, with present nodes in the front of the pool instead of old ones, or a refusal.
+pub fn convert(state: Parts, frames: &[Frame], pool: &mut [u32], work: &mut [u32]) -> u32 {
+    // SAFETY: each pointer and length is a borrowed slice's.
+    unsafe {
+        c::splitter_convert(
+            state.numbers.as_ptr(),
+            len(state.numbers),
+            state.deques.as_ptr(),
+            len(state.deques),
+            frames.as_ptr(),
+            len(frames),
+            pool.as_mut_ptr(),
+            len(pool),
+            work.as_mut_ptr(),
+            len(work),
         )
     }
 }

@@ -5,7 +5,7 @@ use splitter::{
     Synced, Totals,
 };
 use splitter::{clocks_words, image_array_bytes, image_bytes, BLOCK_BYTES, BLOCK_WORDS, IMAGE_VERSION, NONE};
-use splitter::{DEQUES_WORDS, DEQUE_PLACES, NODE_WORDS, NO_LINK, NUMBERS_WORDS};
+use splitter::{DEQUES_WORDS, DEQUE_PLACES, NODE_WORDS, NODE_WORDS_OLD, NO_LINK, NUMBERS_WORDS};
 use splitter::{MAX_NODES, MAX_PLACES, MAX_SPLITTERS, MAX_WORKERS, REDUCERS};
 use splitter::{VERSION, VERSION_MAJOR, VERSION_MINOR};
 use std::mem::{offset_of, size_of};
@@ -90,6 +90,7 @@ fn the_header_has_the_same_sizes() {
         ("DEQUE_PLACES", DEQUE_PLACES),
         ("FRAME_RECORD_WORDS", Frame::WORDS),
         ("NODE_WORDS", NODE_WORDS),
+        ("NODE_WORDS_OLD", NODE_WORDS_OLD),
         ("NO_LINK", NO_LINK as usize),
         ("MAX_NODES", MAX_NODES),
         ("MAX_SPLITTERS", MAX_SPLITTERS),
@@ -114,7 +115,7 @@ fn the_package_has_the_same_version() {
     assert_eq!(env!("CARGO_PKG_VERSION_MAJOR"), VERSION_MAJOR.to_string());
     assert_eq!(env!("CARGO_PKG_VERSION_MINOR"), VERSION_MINOR.to_string());
     assert!(HEADER.contains("#define SPLITTER_VERSION (SPLITTER_VERSION_MAJOR * 1000u + SPLITTER_VERSION_MINOR)"));
-    assert_eq!(VERSION, 3);
+    assert_eq!(VERSION, 4);
 }
 
 /// As in the header, the parts lie one after the other.
@@ -522,6 +523,86 @@ fn the_form_of_an_image() {
     });
 }
 
+/// The nodes of a run in four words, as the library before had them: an inner node's links and 0, no links and a leaf's
+/// value, a free node's next one and zeros.
+fn old_nodes(engine: &Engine) -> Vec<u32> {
+    let height = engine.state.splitters().next_power_of_two().trailing_zeros();
+    let mut old: Vec<u32> = engine.pool.chunks(NODE_WORDS).flat_map(|node| [node[0], node[1], 0, 0]).collect();
+    for frame in engine.frames.iter().filter(|frame| frame.live == 1) {
+        put_old_tree(engine.pool, frame.root, height, &mut old);
+    }
+    old
+}
+
+fn put_old_tree(pool: &[u32], node: u32, level: u32, old: &mut [u32]) {
+    let word = pool[NODE_WORDS * node as usize + 1];
+    let links = [word & NO_LINK, word >> 16].map(|link| if link == NO_LINK { NONE } else { link });
+    let words = if level == 0 { [NONE, NONE, word] } else { [links[0], links[1], 0] };
+    old[NODE_WORDS_OLD * node as usize + 1..][..3].copy_from_slice(&words);
+    for link in links.into_iter().filter(|link| level > 0 && *link != NONE) {
+        put_old_tree(pool, link, level - 1, old);
+    }
+}
+
+/// Document 02's R-9: the example, changed over before each step and after the last, goes on with its answers.
+#[test]
+fn the_example_changed_over_at_each_step() {
+    for at in 0..=EXAMPLE.len() {
+        with_example(|engine| {
+            for (step, answer) in &EXAMPLE[..at] {
+                assert_eq!(engine.step(*step), *answer);
+            }
+            let (state, frames, nodes) = (engine.state.clone(), engine.frames.to_vec(), engine.pool.to_vec());
+            let mut pool = old_nodes(engine);
+            pool.extend([7; 5]);
+            let mut work = [9; 21];
+            let mut changed = Engine { state: engine.state, frames: engine.frames, pool: &mut pool, work: &mut work };
+            changed.convert().expect("a run of the library before");
+            assert!(*changed.state == state && changed.frames == frames);
+            assert_eq!(changed.pool[..20 * NODE_WORDS], nodes);
+            assert!(changed.pool[20 * NODE_WORDS..20 * NODE_WORDS_OLD].iter().all(|word| *word == 0));
+            assert_eq!(changed.pool[20 * NODE_WORDS_OLD..], [7; 5]);
+            assert!(changed.work[..20].iter().all(|word| *word == 0) && changed.work[20] == 9);
+            for (step, answer) in &EXAMPLE[at..] {
+                assert_eq!(changed.step(*step), *answer);
+            }
+            assert_eq!(changed.free_nodes(), 20);
+        });
+    }
+}
+
+/// By 5, and by 6 for a pool that is too short, for present nodes, for a damaged node and for one that was changed over
+/// before: state, table and pool are as they were.
+#[test]
+fn what_refused_change_overs_leave() {
+    with_example(|engine| {
+        assert_eq!(engine.spawn(0), Ok(1));
+        let (state, frames) = (engine.state.clone(), engine.frames.to_vec());
+        let whole = old_nodes(engine);
+        let mut damaged = whole.clone();
+        damaged[NODE_WORDS_OLD * 7 + 3] ^= 4; // a leaf's value may be any
+        damaged[NODE_WORDS_OLD * 7 + 2] ^= 4; // but it has no links
+        let mut again = engine.pool.to_vec();
+        again.resize(20 * NODE_WORDS_OLD, 0);
+        let short = &whole[..20 * NODE_WORDS_OLD - 1];
+        for (words, pool, refusal) in [
+            (19, &whole[..], Refusal::ShortWork),
+            (20, short, Refusal::Unsound),
+            (20, &engine.pool.to_vec(), Refusal::Unsound),
+            (20, &damaged, Refusal::Unsound),
+            (20, &again, Refusal::Unsound),
+        ] {
+            let (mut old, mut work) = (pool.to_vec(), vec![9; words]);
+            let frames = &mut *engine.frames;
+            let mut run = Engine { state: engine.state, frames, pool: &mut old, work: &mut work };
+            assert_eq!(run.convert(), Err(refusal));
+            assert!(old == pool && work == vec![if words < 20 { 9 } else { 0 }; words]);
+        }
+        assert!(*engine.state == state && engine.frames == frames);
+        assert_eq!(engine.read(0, 4), Ok(50));
+    });
+}
+
 /// Takes a digit into all reducers: the affine map multiplies by ten and adds it, so that the addend shows the
 /// order.
 fn digit(engine: &mut Engine, worker: u8, digit: u16) {
@@ -621,6 +702,9 @@ fn a_part_of_another_length_is_refused() {
             let mut parts = engine.state.parts();
             cut(&mut parts);
             assert_eq!(raw::load(parts, engine.frames, engine.pool, engine.work, &[]), 99);
+            let mut parts = engine.state.parts();
+            cut(&mut parts);
+            assert_eq!(raw::convert(parts, engine.frames, engine.pool, engine.work), 99);
             assert_eq!(*engine.state, old);
         }
         assert_eq!(engine.spawn(0), Ok(1));
