@@ -68,6 +68,9 @@ static void call(FILE *file, uint32_t entry, unsigned long number)
                               argument[0], value, values, slice[POOL], length[POOL], slice[WORK], length[WORK], byte, bytes,
                               slice[ANSWERS], length[ANSWERS], (uint64_t *)slice[CLOCKS], length[CLOCKS] / 2,
                               (uint64_t *)slice[REPORT], length[REPORT] / 2);
+    else if (entry == 7)
+        got = splitter_convert(slice[NUMBERS], length[NUMBERS], slice[DEQUES], length[DEQUES], frames, places,
+                               slice[POOL], length[POOL], slice[WORK], length[WORK]);
     else
         stop("no such entry", number);
     if ((uint32_t)got != result[0] || (uint32_t)(got >> 32) != result[1])

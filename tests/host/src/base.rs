@@ -1,20 +1,47 @@
 //! Sound pairs of a state, with its table, and a pool, as runs of plain.rs leave them.
 
 use crate::corrupt::Pair;
-use crate::plain::{self, Frame, State, NODE_WORDS, SPAWN};
+use crate::layouts;
+use crate::plain::{self, Frame, Layout, OldNode, State, SPAWN};
 use crate::random::Random;
 use crate::sketch::Sketch;
 use crate::steps::{self, Driver, StepWords};
 
 /// Mostly a small one.
 pub fn any(random: &Random) -> Pair {
+    let (splitters, nodes) = any_size(random);
+    played(splitters, nodes, random)
+}
+
+fn any_size(random: &Random) -> (usize, u32) {
     let splitters = match random.below(120) {
         0 => random.pick(&[100, 255, 256]),
         1..12 => 1 + random.below(40),
         _ => 1 + random.below(9),
     };
     let tree = plain::tree_nodes(splitters as u32);
-    played(splitters, tree + random.word_below(5 * tree), random)
+    (splitters, tree + random.word_below(5 * tree))
+}
+
+/// A pair of four-word nodes, as a run of plain.rs's older layout leaves it; one in three is what a pair of two-word nodes unpacks to.
+pub fn of_four_words(random: &Random) -> Pair<OldNode> {
+    if random.one_in(3) {
+        let pair = any(random);
+        let pool = layouts::unpack(&pair.state, &pair.pool).unwrap_or_default();
+        return Pair::new(pair.state, pool);
+    }
+    let (splitters, nodes) = match random.below(40) {
+        0 => (1, 1 + random.word_below(3)),
+        1 => (random.pick(&[1, 5, 256]), plain::MAX_NODES as u32),
+        _ => any_size(random),
+    };
+    let places = any_places(random);
+    let mut pair = begun::<OldNode>(places, splitters, nodes, random);
+    play(&mut pair, random.below(150), random);
+    if random.one_in(8) {
+        take(&mut pair, places, steps::homeward);
+    }
+    pair
 }
 
 /// The length of a table: mostly short, and every length is met.
@@ -35,15 +62,7 @@ pub fn played(splitters: usize, nodes: u32, random: &Random) -> Pair {
 
 /// The same in a table of so many places.
 pub fn played_in(places: usize, splitters: usize, nodes: u32, random: &Random) -> Pair {
-    let workers = 1 + random.word_below(8);
-    let mut pool = vec![0; NODE_WORDS * nodes as usize];
-    let table = vec![Frame::default(); places];
-    let (state, _) = plain::start(workers, &random.words(splitters), table, &mut pool);
-    let mut pair = Pair {
-        state,
-        pool,
-        turn: 0,
-    };
+    let mut pair = begun(places, splitters, nodes, random);
     play(&mut pair, random.below(150), random);
     let homeward = |state: &State| steps::homeward(state);
     match random.below(24) {
@@ -58,6 +77,15 @@ pub fn played_in(places: usize, splitters: usize, nodes: u32, random: &Random) -
     pair
 }
 
+/// After a start.
+fn begun<N: Layout>(places: usize, splitters: usize, nodes: u32, random: &Random) -> Pair<N> {
+    let workers = 1 + random.word_below(8);
+    let mut pool = vec![0; N::WORDS * nodes as usize];
+    let table = vec![Frame::default(); places];
+    let (state, _) = plain::start_of::<N>(workers, &random.words(splitters), table, &mut pool);
+    Pair::new(state, pool)
+}
+
 /// Frames that wait one for the other, or with several children.
 fn sketch(pair: &mut Pair, random: &Random, draw: impl FnOnce(&mut Sketch)) {
     let mut sketch = Sketch::new(pair.state.clone(), pair.pool.clone(), random);
@@ -66,17 +94,17 @@ fn sketch(pair: &mut Pair, random: &Random, draw: impl FnOnce(&mut Sketch)) {
 }
 
 /// Goes on with so many steps.
-pub fn play(pair: &mut Pair, steps: usize, random: &Random) {
+pub fn play<N: Layout>(pair: &mut Pair<N>, steps: usize, random: &Random) {
     let mut driver = Driver::new(200, 100);
     take(pair, steps, |state| driver.next(state, random));
 }
 
-fn take(pair: &mut Pair, steps: usize, mut choose: impl FnMut(&State) -> StepWords) {
+fn take<N: Layout>(pair: &mut Pair<N>, steps: usize, mut choose: impl FnMut(&State) -> StepWords) {
     let mut work = vec![0; pair.state.nodes as usize];
-    let mut free_nodes = plain::sound(&pair.state, &pair.pool, &mut work).unwrap_or(0);
+    let mut free_nodes = plain::sound_of::<N>(&pair.state, &pair.pool, &mut work).unwrap_or(0);
     for _ in 0..steps {
         let record = steps::record(choose(&pair.state));
-        free_nodes = plain::run_tape(
+        free_nodes = plain::run_tape_of::<N>(
             &mut pair.state,
             free_nodes,
             &mut pair.pool,

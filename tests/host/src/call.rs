@@ -15,12 +15,24 @@ pub const REPORT_WORDS: usize = 4;
 
 #[derive(Clone)]
 pub enum Entry {
-    Start { workers: u32, values: Vec<u32> },
+    Start {
+        workers: u32,
+        values: Vec<u32>,
+    },
     Step([u32; 4]),
-    Tape { bytes: Vec<u8>, answers: Vec<u32> },
+    Tape {
+        bytes: Vec<u8>,
+        answers: Vec<u32>,
+    },
     Report(Reporting),
-    Save { target: Vec<u8> },
-    Load { image: Vec<u8> },
+    Save {
+        target: Vec<u8>,
+    },
+    Load {
+        image: Vec<u8>,
+    },
+    /// The pool has four-word nodes.
+    Convert,
 }
 
 /// What a report takes and is lent, beside state, table, pool and work.
@@ -103,7 +115,7 @@ impl Call {
 
     pub fn bytes(&self) -> &[u8] {
         match &self.entry {
-            Entry::Start { .. } | Entry::Step(_) => &[],
+            Entry::Start { .. } | Entry::Step(_) | Entry::Convert => &[],
             Entry::Tape { bytes, .. } | Entry::Report(Reporting { bytes, .. }) => bytes,
             Entry::Save { target } => target,
             Entry::Load { image } => image,
@@ -163,6 +175,7 @@ impl Call {
                 after.result[0] = image::load(&mut after.state, pool, work, image);
                 return after;
             }
+            Entry::Convert => after.result[0] = plain::convert(&state, pool, work),
         }
         after.state = Parts::of(&state);
         after
@@ -242,6 +255,7 @@ impl Call {
             }
             Entry::Save { .. } => [raw::save(state, frames, pool, work, bytes), 0],
             Entry::Load { .. } => [raw::load(state, frames, pool, work, bytes), 0],
+            Entry::Convert => [raw::convert(state, frames, pool, work), 0],
         }
     }
 }
@@ -314,6 +328,7 @@ impl fmt::Display for Call {
             )?,
             Entry::Save { target } => write!(f, "save, {} target bytes", target.len())?,
             Entry::Load { image } => write!(f, "load, {} image bytes", image.len())?,
+            Entry::Convert => write!(f, "convert")?,
         }
         write!(
             f,

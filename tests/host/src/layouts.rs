@@ -67,6 +67,16 @@ impl Older {
         Older(Vec::new())
     }
 
+    /// These words.
+    pub fn with(pool: Vec<u32>) -> Older {
+        Older(pool)
+    }
+
+    /// Its nodes, after a call that left a run.
+    pub fn words(&self) -> &[u32] {
+        &self.0
+    }
+
     /// Beside a sound pair.
     pub fn of(state: &State, pool: &[u32]) -> Result<Older, Failure> {
         let unpacked = unpack(state, pool).ok_or("a sound pool is not unpacked")?;

@@ -2,6 +2,7 @@
 
 pub mod base;
 pub mod call;
+pub mod changeover;
 pub mod clocks;
 pub mod corrupt;
 pub mod damage;

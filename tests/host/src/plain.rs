@@ -1,6 +1,6 @@
-//! Document 01's engine, with of document 02, in plain, fast, safe Rust: copying of what is shared of a path, reference
+//! Document 01's engine, with of document 02, in plain, fast, safe Rust: copying of what is shared of a path, reference
 //! counts, free lists, recursive release, returns that wait, views that join, a lent frame table, clocks. Written from the documents alone, but that how a link is chosen, and that retain and
-//! release leave alone what is no node, were tuned for R-8 by someone who had read crate packed. It is what the library is compared with,
+//! release leave alone what is no node, were tuned for R-8 by someone who had read crate packed, and that the change-over was written by someone who had read its definition. It is what the library is compared with,
 //! and the peer it is timed against: what a tape and a single step share is inlined in both, so that each is as fast as if the other
 //! were not there. The functions that end in `_of` are the same with nodes of either layout.
 
@@ -27,7 +27,8 @@ pub const DEQUES_WORDS: usize = MAX_WORKERS * DEQUE_WORDS;
 pub type Node = [u32; NODE_WORDS];
 pub const NODE_WORDS: usize = 2;
 /// Those from before R-8.
-pub type OldNode = [u32; 4];
+pub type OldNode = [u32; OLD_NODE_WORDS];
+pub const OLD_NODE_WORDS: usize = 4;
 pub const HOLDERS: usize = 0;
 
 pub const RECORD_BYTES: usize = 8;
@@ -515,7 +516,18 @@ pub fn run_tape(
     bytes: &[u8],
     answers: &mut [u32],
 ) -> u32 {
-    let mut engine = Engine::<Node, _>::new(state, free_nodes, pool, Untimed);
+    run_tape_of::<Node>(state, free_nodes, pool, bytes, answers)
+}
+
+#[inline(always)]
+pub fn run_tape_of<N: Layout>(
+    state: &mut State,
+    free_nodes: u32,
+    pool: &mut [u32],
+    bytes: &[u8],
+    answers: &mut [u32],
+) -> u32 {
+    let mut engine = Engine::<N, _>::new(state, free_nodes, pool, Untimed);
     engine.run(bytes, answers);
     engine.free_nodes
 }
@@ -576,6 +588,34 @@ pub fn report_of<N: Layout>(
     }
     *report = [work, span, work / span, work % span];
     (state, 0)
+}
+
+/// R-9's change-over, of a sound state with four-word nodes: 0, with two-word nodes in the front of the same pool, the old nodes' other words
+/// zero and words past them as they were; or a refusal, with the pool as it was.
+pub fn convert(state: &State, pool: &mut [u32], work: &mut [u32]) -> u32 {
+    if let Err(refusal) = admit::<OldNode>(state, pool, work) {
+        return refusal as u32;
+    }
+    pack(&mut OldNode::nodes_mut(pool)[..state.nodes as usize]);
+    0
+}
+
+/// The change-over of nodes that are known to be sound, front to back: a new node's words are those of an old one that has been read.
+pub fn pack(nodes: &mut [OldNode]) {
+    for number in 0..nodes.len() {
+        let old = mem::take(&mut nodes[number]);
+        nodes.as_flattened_mut().as_chunks_mut().0[number] = packed(old);
+    }
+}
+
+/// What a node of a sound pool is can be told without its level: a free one has no holders, and of the others a leaf has no left link.
+fn packed(old: OldNode) -> Node {
+    let second = match old.holders() {
+        0 => old.next_free(),
+        _ if old.link(0) == OldNode::NO_LINK => old.value(),
+        _ => Node::inner(old.link(0), old.link(1) & Node::NO_LINK)[1],
+    };
+    [old.holders(), second]
 }
 
 /// Refusals 5 and 6; else the number of free nodes.

@@ -1,5 +1,5 @@
 //! Calls and their outcomes written to a file, for sanitized.c to make them again. All but the bytes is little-endian words: the entry
-//! (1 start, 2 step, 3 tape, 4 save, 5 load, 6 report), four words (the workers of a start or a report, or a step's entry), the two words of
+//! (1 start, 2 step, 3 tape, 4 save, 5 load, 6 report, 7 convert), four words (the workers of a start or a report, or a step's entry), the two words of
 //! the result, the values, the bytes (tape, target or image), then numbers, deques, frames, pool, work, answers, clocks and report, the last two of
 //! 64 bits, as two words each. Each of these has its length in words of 32 bits first; all but the values are followed by what the call left
 //! there. Calls with large pools are left out, for the file's size.
@@ -28,6 +28,7 @@ impl Recorder {
             Entry::Save { .. } => (4, [0; 4]),
             Entry::Load { .. } => (5, [0; 4]),
             Entry::Report(ref asked) => (6, [asked.workers, 0, 0, 0]),
+            Entry::Convert => (7, [0; 4]),
         };
         self.words(&[entry])?;
         self.words(&arguments)?;

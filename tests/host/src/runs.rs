@@ -2,6 +2,7 @@
 
 use crate::base;
 use crate::call::{Call, Entry, Outcome};
+use crate::changeover::{self, IN_RUNS};
 use crate::family::Family;
 use crate::layouts::Older;
 use crate::parts::Parts;
@@ -265,7 +266,18 @@ impl Run {
             self.family.take(&taken, &mut session.families);
         });
         self.adopt(after)?;
-        self.family.check(&self.typed())
+        self.family.check(&self.typed())?;
+        self.change_over(session)
+    }
+
+    /// Now and then, the older layout's run is changed over, and goes on beside this one; it has random numbers of its own.
+    fn change_over(&self, session: &mut Session) -> Result<(), Failure> {
+        let random = Random::new(session.calls);
+        if !random.one_in(IN_RUNS) {
+            return Ok(());
+        }
+        let (old, new) = (self.older.words(), &self.pool);
+        changeover::in_a_run(&self.typed(), old, new, &random, session)
     }
 
     /// A tape of what is sketched.

@@ -1,6 +1,6 @@
 //! Document 01's "Soundness", with what of document 02 ask, sentence by sentence, over the words of a state, a table
 //! and a pool: for clarity, not for speed. It shares nothing with plain.rs. Every sentence can be asked of every state, so that one can tell which
-//! ones are broken.
+//! ones are broken. A node has R-8's two words or, for R-9's change-over, document 01's four.
 
 use crate::parts::Parts;
 use std::collections::{HashMap, HashSet};
@@ -124,7 +124,16 @@ pub const SENTENCES: [Sentence; 25] = [
 
 /// The numbers of the sentences that are broken, as indexes of SENTENCES. Sound means none.
 pub fn broken(state: &Parts, pool: &[u32]) -> Vec<usize> {
-    let pair = Pair::new(state, pool);
+    broken_of(state, read_nodes(pool))
+}
+
+/// The same of a pool with four-word nodes.
+pub fn broken_four_words(state: &Parts, pool: &[u32]) -> Vec<usize> {
+    broken_of(state, read_four_words(pool))
+}
+
+fn broken_of(state: &Parts, nodes: Vec<Node>) -> Vec<usize> {
+    let pair = Pair::new(state, nodes);
     (0..SENTENCES.len())
         .filter(|&sentence| !(SENTENCES[sentence].holds)(&pair))
         .collect()
@@ -143,20 +152,58 @@ struct Frame {
     next_younger: u32,
 }
 
-/// "A node becomes two words: holders, then .." what its level tells.
+/// "A node becomes two words: holders, then .." what its level tells. Before, "A node is four words: holders, left, right, value."
 struct Node {
     holders: u32,
-    second: u32,
+    rest: Rest,
 }
 
+enum Rest {
+    Second(u32),
+    Words { left: u32, right: u32, value: u32 },
+}
+
+use Rest::{Second, Words};
+
 impl Node {
-    /// "left plus 65,536 times right for inner nodes with 65,535 for none"
+    /// "left plus 65,536 times right for inner nodes with 65,535 for none"; of four words "None is 4,294,967,295."
     fn left(&self) -> Option<u32> {
-        Some(self.second % 65_536).filter(|&left| left != 65_535)
+        match self.rest {
+            Second(second) => Some(second % 65_536).filter(|&left| left != 65_535),
+            Words { left, .. } => Some(left).filter(|&left| left != NONE),
+        }
     }
 
     fn right(&self) -> Option<u32> {
-        Some(self.second / 65_536).filter(|&right| right != 65_535)
+        match self.rest {
+            Second(second) => Some(second / 65_536).filter(|&right| right != 65_535),
+            Words { right, .. } => Some(right).filter(|&right| right != NONE),
+        }
+    }
+
+    /// "Inner nodes have value 0, leaves have no links." Two words say neither, and a leaf has any value.
+    fn may_be_inner(&self) -> bool {
+        !matches!(self.rest, Words { value, .. } if value != 0)
+    }
+
+    fn may_be_leaf(&self) -> bool {
+        matches!(self.rest, Second(_)) || self.left().is_none() && self.right().is_none()
+    }
+
+    /// "A free node holds 0, the next free node or none, 0, 0."; of two words, 0, then "the next free node or none".
+    fn is_free(&self) -> bool {
+        let others_zero = match self.rest {
+            Second(_) => true,
+            Words { right, value, .. } => right == 0 && value == 0,
+        };
+        self.holders == 0 && others_zero
+    }
+
+    fn next_free(&self) -> u32 {
+        match self.rest {
+            Second(second) => second,
+            Words { left, .. } => left,
+        }
     }
 }
 
@@ -187,7 +234,7 @@ struct Pair {
 }
 
 impl Pair {
-    fn new(state: &Parts, pool: &[u32]) -> Pair {
+    fn new(state: &Parts, nodes: Vec<Node>) -> Pair {
         let numbers = &state.numbers;
         let deques: Vec<&[u32]> = state.deques.chunks(DEQUE_WORDS).collect();
         let places = (numbers[9] as usize).min(MOST_PLACES);
@@ -205,7 +252,7 @@ impl Pair {
             queued: deques.iter().map(|d| d[1..end(d)].to_vec()).collect(),
             past: deques.iter().map(|d| d[end(d)..].to_vec()).collect(),
             frames: read_frames(&state.frames, numbers[9] as usize),
-            nodes: read_nodes(pool),
+            nodes,
             shaped: true,
             reached: HashMap::new(),
         };
@@ -275,9 +322,21 @@ fn read_frames(words: &[u32], recorded: usize) -> Vec<Frame> {
 fn read_nodes(words: &[u32]) -> Vec<Node> {
     let read = |node: &[u32]| Node {
         holders: node[0],
-        second: node[1],
+        rest: Second(node[1]),
     };
     words.chunks_exact(2).map(read).collect()
+}
+
+fn read_four_words(words: &[u32]) -> Vec<Node> {
+    let read = |node: &[u32]| Node {
+        holders: node[0],
+        rest: Words {
+            left: node[1],
+            right: node[2],
+            value: node[3],
+        },
+    };
+    words.chunks_exact(4).map(read).collect()
 }
 
 /// "H is the least number with 2^H at least n."
@@ -309,7 +368,7 @@ fn walk(
     };
     reached.entry(number).or_default().insert(level);
     if level == 0 {
-        return true; // any value
+        return node.may_be_leaf();
     }
     let left = walk(pair, node.left(), level - 1, 2 * group, reached);
     let right = if 2 * group + 1 < width(pair.splitters, level - 1) {
@@ -317,7 +376,7 @@ fn walk(
     } else {
         node.right().is_none()
     };
-    left && right
+    node.may_be_inner() && left && right
 }
 
 /// "Workers are 1 to 8"
@@ -495,7 +554,7 @@ fn holders_are_right(pair: &Pair) -> bool {
     })
 }
 
-/// "all others are free and lie once on the free chain." A free node holds 0, then "the next free node or none".
+/// "all others are free and lie once on the free chain."
 fn other_nodes_are_free(pair: &Pair) -> bool {
     if !pair.numbers_are_right() {
         return true;
@@ -503,11 +562,10 @@ fn other_nodes_are_free(pair: &Pair) -> bool {
     let others: HashSet<u32> = (0..pair.recorded_nodes)
         .filter(|number| !pair.reached.contains_key(number))
         .collect();
-    let is_free = |node: &Node| node.holders == 0;
     let all_free = others
         .iter()
-        .all(|&number| pair.node(number).is_some_and(is_free));
-    let next = |number| pair.node(number).map(|node| node.second);
+        .all(|&number| pair.node(number).is_some_and(Node::is_free));
+    let next = |number| pair.node(number).map(Node::next_free);
     all_free && chained_once(pair.first_free_node, next) == Some(others)
 }
 

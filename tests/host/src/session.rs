@@ -1,6 +1,7 @@
 //! A comparison under way: makes each call on both sides and stops at the first difference.
 
 use crate::call::{Call, Entry, Outcome};
+use crate::changeover;
 use crate::family;
 use crate::layouts;
 use crate::plain::{Refusal, RECORD_BYTES};
@@ -25,6 +26,7 @@ pub struct Session {
     pub tables: Tables,
     pub families: family::Counts,
     pub layouts: layouts::Counts,
+    pub changeovers: changeover::Counts,
     pub calls: u64,
     pub records: u64,
 }
@@ -40,6 +42,7 @@ impl Session {
             tables: Tables::default(),
             families: family::Counts::default(),
             layouts: layouts::Counts::default(),
+            changeovers: changeover::Counts::default(),
             calls: 0,
             records: 0,
         }

@@ -1,6 +1,7 @@
-//! Document 01's example and edges, as change them, and R-7's, through plain.rs and the library, and the sentences on
+//! Document 01's example and edges, as change them, and R-7's and R-9's, through plain.rs and the library, and the sentences on
 //! states corrupted by hand.
 
+mod changeover;
 mod reducers;
 mod report;
 mod tables;

@@ -1,5 +1,6 @@
-//! The library beside plain.rs, call by call and word for word: seeded runs, reports, corrupted states, images.
+//! The library beside plain.rs, call by call and word for word: seeded runs, reports, corrupted states, change-overs, images.
 
+use host_tests::changeover;
 use host_tests::corrupt::KINDS;
 use host_tests::images;
 use host_tests::record::Recorder;
@@ -12,7 +13,7 @@ use splitter::raw;
 use std::process::ExitCode;
 use std::time::Instant;
 
-const USAGE: &str = "usage: compare [--runs N] [--reports N] [--corrupt N] [--images N] [--damaged N] [--seed S] [--quick] [--record FILE]
+const USAGE: &str = "usage: compare [--runs N] [--reports N] [--corrupt N] [--four-words N] [--images N] [--damaged N] [--seed S] [--quick] [--record FILE]
 --quick: few runs, and each slice a heap block of its own, for memcheck
 --record: writes all calls and what they left to FILE, for sanitized.c";
 
@@ -26,6 +27,7 @@ const ENOUGH_POOLS: u64 = 20_000;
 const ENOUGH_WRITES: u64 = 4_000;
 const ENOUGH_REPORTS: u64 = 5_000;
 const ENOUGH_PAIRS: usize = 150_000;
+const ENOUGH_OLD_PAIRS: usize = 100_000;
 const ENOUGH_IMAGES: u64 = 10_000;
 const ENOUGH_DAMAGED: usize = 50_000;
 
@@ -33,6 +35,7 @@ struct Options {
     runs: u64,
     reports: u64,
     corrupt: usize,
+    four_words: usize,
     images: u64,
     damaged: usize,
     seed: u64,
@@ -45,6 +48,7 @@ fn options() -> Option<Options> {
         runs: 5_000,
         reports: 5_000,
         corrupt: 150_000,
+        four_words: 100_000,
         images: 20_000,
         damaged: 120_000,
         seed: 1,
@@ -57,11 +61,12 @@ fn options() -> Option<Options> {
             "--quick" => {
                 (options.runs, options.corrupt, options.guard) = (150, 3_000, 0);
                 (options.images, options.damaged) = (100, 1_500);
-                options.reports = 150;
+                (options.reports, options.four_words) = (150, 2_000);
             }
             "--runs" => options.runs = arguments.next()?.parse().ok()?,
             "--reports" => options.reports = arguments.next()?.parse().ok()?,
             "--corrupt" => options.corrupt = arguments.next()?.parse().ok()?,
+            "--four-words" => options.four_words = arguments.next()?.parse().ok()?,
             "--images" => options.images = arguments.next()?.parse().ok()?,
             "--damaged" => options.damaged = arguments.next()?.parse().ok()?,
             "--seed" => options.seed = arguments.next()?.parse().ok()?,
@@ -100,6 +105,7 @@ fn compare(options: &Options) -> Result<(), Failure> {
     compare_runs(options, &mut session)?;
     compare_reports(options, &mut session)?;
     compare_corrupted(options, &mut session)?;
+    compare_changeovers(options, &mut session)?;
     compare_images(options, &mut session)?;
     in_both_layouts(options, &session)?;
     match session.recorder {
@@ -136,7 +142,7 @@ fn compare_runs(options: &Options, session: &mut Session) -> Result<(), Failure>
     for run in 0..options.runs {
         let seed = options.seed.wrapping_add(run);
         runs::run(seed, session).map_err(|failure| {
-            format!("{failure}\n(--runs 1 --reports 0 --corrupt 0 --images 0 --damaged 0 --seed {seed})")
+            format!("{failure}\n(--runs 1 --reports 0 --corrupt 0 --four-words 0 --images 0 --damaged 0 --seed {seed})")
         })?;
     }
     println!(
@@ -183,7 +189,7 @@ fn compare_reports(options: &Options, session: &mut Session) -> Result<(), Failu
     for report in 0..options.reports {
         let seed = options.seed.wrapping_add(report);
         reports::report(seed, session, &mut counts).map_err(|failure| {
-            format!("{failure}\n(--runs 0 --reports 1 --corrupt 0 --images 0 --damaged 0 --seed {seed})")
+            format!("{failure}\n(--runs 0 --reports 1 --corrupt 0 --four-words 0 --images 0 --damaged 0 --seed {seed})")
         })?;
     }
     if options.reports > 0 {
@@ -204,7 +210,7 @@ fn compare_corrupted(options: &Options, session: &mut Session) -> Result<(), Fai
     while left > 0 {
         soundness::group(seed, left, session, &mut counts).map_err(|failure| {
             format!(
-                "{failure}\n(--runs 0 --reports 0 --corrupt {PER_SEED} --images 0 --damaged 0 --seed {seed})"
+                "{failure}\n(--runs 0 --reports 0 --corrupt {PER_SEED} --four-words 0 --images 0 --damaged 0 --seed {seed})"
             )
         })?;
         left -= left.min(PER_SEED);
@@ -217,6 +223,38 @@ fn compare_corrupted(options: &Options, session: &mut Session) -> Result<(), Fai
         return all_met(&counts);
     }
     Ok(())
+}
+
+/// Those in the middle of the runs are made with the runs.
+fn compare_changeovers(options: &Options, session: &mut Session) -> Result<(), Failure> {
+    let began = Instant::now();
+    let mut left = options.four_words;
+    let mut seed = options.seed;
+    while left > 0 {
+        changeover::group(seed, left, session).map_err(|failure| {
+            let most = changeover::PER_SEED;
+            format!("{failure}\n(--runs 0 --reports 0 --corrupt 0 --four-words {most} --images 0 --damaged 0 --seed {seed})")
+        })?;
+        left -= left.min(changeover::PER_SEED);
+        seed = seed.wrapping_add(1);
+    }
+    if options.four_words > 0 {
+        let seconds = began.elapsed().as_secs_f64();
+        println!(
+            "{} corrupted pairs of four-word nodes: {seconds:.1} s",
+            options.four_words
+        );
+        session
+            .changeovers
+            .lines()
+            .iter()
+            .for_each(|line| println!("{line}"));
+    }
+    let enough = options.runs >= ENOUGH_RUNS && options.four_words >= ENOUGH_OLD_PAIRS;
+    match session.changeovers.missing() {
+        Some(missing) if enough => Err(missing),
+        _ => Ok(()),
+    }
 }
 
 fn compare_images(options: &Options, session: &mut Session) -> Result<(), Failure> {
@@ -248,7 +286,7 @@ fn saved_images(
     for image in 0..options.images {
         let seed = options.seed.wrapping_add(image);
         images::image(seed, session, counts).map_err(|failure| {
-            format!("{failure}\n(--runs 0 --reports 0 --corrupt 0 --images 1 --damaged 0 --seed {seed})")
+            format!("{failure}\n(--runs 0 --reports 0 --corrupt 0 --four-words 0 --images 1 --damaged 0 --seed {seed})")
         })?;
     }
     Ok(())
@@ -264,7 +302,7 @@ fn damaged_images(
     while left > 0 {
         images::group(seed, left, session, counts).map_err(|failure| {
             let most = images::PER_SEED;
-            format!("{failure}\n(--runs 0 --reports 0 --corrupt 0 --images 0 --damaged {most} --seed {seed})")
+            format!("{failure}\n(--runs 0 --reports 0 --corrupt 0 --four-words 0 --images 0 --damaged {most} --seed {seed})")
         })?;
         left -= left.min(images::PER_SEED);
         seed = seed.wrapping_add(1);

@@ -1,33 +1,33 @@
 //! Changes of frames and deques.
 
 use super::Pair;
-use crate::plain::{Deque, Frame, View, MAX_PLACES, MAX_WORKERS, NONE};
+use crate::plain::{Deque, Frame, Layout, View, MAX_PLACES, MAX_WORKERS, NONE};
 use crate::random::Random;
 
 /// Words that no flag can have.
 const OVER_1: [u32; 5] = [2, 3, 256, NONE, 1 << 31];
 
-fn workers(pair: &Pair, test: impl Fn(&Deque) -> bool) -> Vec<usize> {
+fn workers<N: Layout>(pair: &Pair<N>, test: impl Fn(&Deque) -> bool) -> Vec<usize> {
     (0..pair.state.workers as usize)
         .filter(|&worker| test(&pair.state.deques[worker]))
         .collect()
 }
 
-fn idle(pair: &Pair, random: &Random) -> Option<usize> {
+fn idle<N: Layout>(pair: &Pair<N>, random: &Random) -> Option<usize> {
     random.some(&workers(pair, |deque| deque.length == 0))
 }
 
-fn busy(pair: &Pair, random: &Random) -> Option<usize> {
+fn busy<N: Layout>(pair: &Pair<N>, random: &Random) -> Option<usize> {
     random.some(&workers(pair, |deque| deque.length > 0))
 }
 
-pub fn free_places(pair: &Pair) -> Vec<usize> {
+pub fn free_places<N: Layout>(pair: &Pair<N>) -> Vec<usize> {
     (0..pair.state.frames.len())
         .filter(|&place| pair.state.frames[place].live == 0)
         .collect()
 }
 
-fn suspended(pair: &Pair) -> Vec<usize> {
+fn suspended<N: Layout>(pair: &Pair<N>) -> Vec<usize> {
     let mut frames = pair.live();
     frames.retain(|&place| pair.state.frames[place].suspended != 0);
     frames
@@ -43,7 +43,7 @@ fn queued(deque: &Deque) -> Vec<u32> {
     deque.places[..deque.length as usize].to_vec()
 }
 
-pub fn past_the_end(pair: &mut Pair, random: &Random) -> Option<()> {
+pub fn past_the_end<N: Layout>(pair: &mut Pair<N>, random: &Random) -> Option<()> {
     let deque = &mut pair.state.deques[random.below(MAX_WORKERS)];
     let past = &mut deque.places[deque.length as usize..];
     let place = (!past.is_empty()).then(|| random.below(past.len()))?;
@@ -52,7 +52,7 @@ pub fn past_the_end(pair: &mut Pair, random: &Random) -> Option<()> {
 }
 
 /// A worker that has frames is no longer one of the workers.
-pub fn absent_worker(pair: &mut Pair, random: &Random) -> Option<()> {
+pub fn absent_worker<N: Layout>(pair: &mut Pair<N>, random: &Random) -> Option<()> {
     let worker = busy(pair, random)?;
     if worker > 0 && random.one_in(2) {
         pair.state.workers = worker as u32;
@@ -64,7 +64,7 @@ pub fn absent_worker(pair: &mut Pair, random: &Random) -> Option<()> {
 }
 
 /// A length that no deque can have. A full deque is the place for it, if there is one.
-pub fn deque_too_long(pair: &mut Pair, random: &Random) -> Option<()> {
+pub fn deque_too_long<N: Layout>(pair: &mut Pair<N>, random: &Random) -> Option<()> {
     let places = pair.state.places;
     let full = workers(pair, |deque| deque.length == places);
     let worker = random
@@ -82,13 +82,13 @@ pub fn deque_too_long(pair: &mut Pair, random: &Random) -> Option<()> {
     Some(())
 }
 
-pub fn deques_swapped(pair: &mut Pair, random: &Random) -> Option<()> {
+pub fn deques_swapped<N: Layout>(pair: &mut Pair<N>, random: &Random) -> Option<()> {
     let (a, b) = (random.below(MAX_WORKERS), random.below(MAX_WORKERS));
     pair.state.deques.swap(a, b);
     Some(())
 }
 
-pub fn workers_swapped(pair: &mut Pair, random: &Random) -> Option<()> {
+pub fn workers_swapped<N: Layout>(pair: &mut Pair<N>, random: &Random) -> Option<()> {
     let workers = pair.state.workers as usize;
     let (a, b) = (random.below(workers), random.below(workers));
     pair.state.deques.swap(a, b);
@@ -96,7 +96,7 @@ pub fn workers_swapped(pair: &mut Pair, random: &Random) -> Option<()> {
 }
 
 /// Another link in the chain of free places.
-pub fn place_relinked(pair: &mut Pair, random: &Random) -> Option<()> {
+pub fn place_relinked<N: Layout>(pair: &mut Pair<N>, random: &Random) -> Option<()> {
     let places = pair.state.places;
     let next = random.pick(&[NONE, places, random.word_below(places), random.word()]);
     let link = match random.some(&free_places(pair)) {
@@ -107,7 +107,7 @@ pub fn place_relinked(pair: &mut Pair, random: &Random) -> Option<()> {
     (old != next).then_some(())
 }
 
-pub fn place_not_zero(pair: &mut Pair, random: &Random) -> Option<()> {
+pub fn place_not_zero<N: Layout>(pair: &mut Pair<N>, random: &Random) -> Option<()> {
     let place = random.some(&free_places(pair))?;
     let word = random.pick(&[1, NONE, random.word() | 1]);
     let frame = &mut pair.state.frames[place];
@@ -123,7 +123,7 @@ pub fn place_not_zero(pair: &mut Pair, random: &Random) -> Option<()> {
 }
 
 /// Moves frame places about, with all links to them put right.
-pub fn places_renumbered(pair: &mut Pair, random: &Random) -> Option<()> {
+pub fn places_renumbered<N: Layout>(pair: &mut Pair<N>, random: &Random) -> Option<()> {
     let mut places: Vec<u32> = (0..pair.state.places).collect();
     random.shuffle(&mut places);
     let place = |link: u32| match link {
@@ -149,7 +149,7 @@ pub fn places_renumbered(pair: &mut Pair, random: &Random) -> Option<()> {
 }
 
 /// A frame is also in the deque of a worker that was idle, or twice in its own.
-pub fn in_two_places(pair: &mut Pair, random: &Random) -> Option<()> {
+pub fn in_two_places<N: Layout>(pair: &mut Pair<N>, random: &Random) -> Option<()> {
     let from = busy(pair, random)?;
     let frame = random.some(&queued(&pair.state.deques[from]))?;
     let to = idle(pair, random).unwrap_or(from);
@@ -160,7 +160,7 @@ pub fn in_two_places(pair: &mut Pair, random: &Random) -> Option<()> {
     Some(())
 }
 
-pub fn dead_frame_queued(pair: &mut Pair, random: &Random) -> Option<()> {
+pub fn dead_frame_queued<N: Layout>(pair: &mut Pair<N>, random: &Random) -> Option<()> {
     let free = random.some(&free_places(pair))? as u32;
     let frame = random.pick(&[free, free, pair.state.places, NONE, random.word() | 256]);
     let worker = idle(pair, random)?;
@@ -169,7 +169,7 @@ pub fn dead_frame_queued(pair: &mut Pair, random: &Random) -> Option<()> {
 }
 
 /// A worker's only frame leaves its deque, suspended or not. This is sound for a suspended frame with a child.
-pub fn put_to_sleep(pair: &mut Pair, random: &Random) -> Option<()> {
+pub fn put_to_sleep<N: Layout>(pair: &mut Pair<N>, random: &Random) -> Option<()> {
     let worker = random.some(&workers(pair, |deque| deque.length == 1))?;
     let frame = pair.state.deques[worker].take_top();
     pair.state.frames[frame as usize].suspended = u32::from(!random.one_in(4));
@@ -178,7 +178,7 @@ pub fn put_to_sleep(pair: &mut Pair, random: &Random) -> Option<()> {
 }
 
 /// A suspended frame goes on, on an idle worker. This is sound if it is no longer called suspended, nor returning.
-pub fn woken(pair: &mut Pair, random: &Random) -> Option<()> {
+pub fn woken<N: Layout>(pair: &mut Pair<N>, random: &Random) -> Option<()> {
     let frame = random.some(&suspended(pair))?;
     let worker = idle(pair, random)?;
     pair.state.frames[frame].suspended = u32::from(random.one_in(4));
@@ -190,7 +190,7 @@ pub fn woken(pair: &mut Pair, random: &Random) -> Option<()> {
 }
 
 /// One deque is put below another. This is sound if its top is a child of the other's bottom and both may lie so.
-pub fn deques_joined(pair: &mut Pair, random: &Random) -> Option<()> {
+pub fn deques_joined<N: Layout>(pair: &mut Pair<N>, random: &Random) -> Option<()> {
     let upper = busy(pair, random)?;
     let bottom = pair.state.deques[upper].bottom()?;
     let parent =
@@ -214,17 +214,17 @@ pub fn deques_joined(pair: &mut Pair, random: &Random) -> Option<()> {
 }
 
 /// All but a deque's top go to an idle worker.
-pub fn top_left_alone(pair: &mut Pair, random: &Random) -> Option<()> {
+pub fn top_left_alone<N: Layout>(pair: &mut Pair<N>, random: &Random) -> Option<()> {
     cut(pair, random, 1)
 }
 
 /// The same, but two or more frames stay, and so the last of them has a child elsewhere.
-pub fn cut_below_the_top(pair: &mut Pair, random: &Random) -> Option<()> {
+pub fn cut_below_the_top<N: Layout>(pair: &mut Pair<N>, random: &Random) -> Option<()> {
     cut(pair, random, 2)
 }
 
 /// At least so many frames stay, just one if it is the top that stays.
-fn cut(pair: &mut Pair, random: &Random, least: usize) -> Option<()> {
+fn cut<N: Layout>(pair: &mut Pair<N>, random: &Random, least: usize) -> Option<()> {
     let longer = |deque: &Deque| deque.length as usize > least;
     let from = random.some(&workers(pair, longer))?;
     let to = idle(pair, random)?;
@@ -239,7 +239,7 @@ fn cut(pair: &mut Pair, random: &Random, least: usize) -> Option<()> {
     Some(())
 }
 
-pub fn deque_out_of_order(pair: &mut Pair, random: &Random) -> Option<()> {
+pub fn deque_out_of_order<N: Layout>(pair: &mut Pair<N>, random: &Random) -> Option<()> {
     let worker = random.some(&workers(pair, |deque| deque.length >= 2))?;
     let deque = &mut pair.state.deques[worker];
     let length = deque.length as usize;
@@ -250,7 +250,7 @@ pub fn deque_out_of_order(pair: &mut Pair, random: &Random) -> Option<()> {
 
 /// A live frame gets another parent, with the outstanding counts put right, and mostly the links. This is sound if depths and deques allow
 /// it.
-pub fn another_parent(pair: &mut Pair, random: &Random) -> Option<()> {
+pub fn another_parent<N: Layout>(pair: &mut Pair<N>, random: &Random) -> Option<()> {
     let live = pair.live();
     let mut children = live.clone();
     children.retain(|&place| pair.state.frames[place].parent != NONE);
@@ -278,13 +278,13 @@ pub fn another_parent(pair: &mut Pair, random: &Random) -> Option<()> {
 }
 
 /// The links go past this frame.
-fn leave_siblings(pair: &mut Pair, place: u32) {
+fn leave_siblings<N: Layout>(pair: &mut Pair<N>, place: u32) {
     let mut siblings = pair.children(pair.state.frames[place as usize].parent);
     siblings.retain(|&sibling| sibling != place);
     pair.chain_siblings(&siblings);
 }
 
-pub fn depth_changed(pair: &mut Pair, random: &Random) -> Option<()> {
+pub fn depth_changed<N: Layout>(pair: &mut Pair<N>, random: &Random) -> Option<()> {
     let live = pair.live();
     let one = random.some(&live)?;
     if random.one_in(4) {
@@ -298,7 +298,7 @@ pub fn depth_changed(pair: &mut Pair, random: &Random) -> Option<()> {
     Some(())
 }
 
-pub fn outstanding_moved(pair: &mut Pair, random: &Random) -> Option<()> {
+pub fn outstanding_moved<N: Layout>(pair: &mut Pair<N>, random: &Random) -> Option<()> {
     let live = pair.live();
     let (more, fewer) = (random.some(&live)?, random.some(&live)?);
     let (a, b) = (
@@ -312,7 +312,7 @@ pub fn outstanding_moved(pair: &mut Pair, random: &Random) -> Option<()> {
 }
 
 /// A frame without a child gets depth 0 and no parent.
-pub fn second_main(pair: &mut Pair, random: &Random) -> Option<()> {
+pub fn second_main<N: Layout>(pair: &mut Pair<N>, random: &Random) -> Option<()> {
     let mut frames = pair.live();
     frames.retain(|&place| {
         let frame = &pair.state.frames[place];
@@ -329,7 +329,7 @@ pub fn second_main(pair: &mut Pair, random: &Random) -> Option<()> {
 }
 
 /// A new frame, child of any live one, alone on an idle worker. This is sound if the parent may have a child elsewhere.
-pub fn child_by_hand(pair: &mut Pair, random: &Random) -> Option<()> {
+pub fn child_by_hand<N: Layout>(pair: &mut Pair<N>, random: &Random) -> Option<()> {
     let parent = random.some(&pair.live())?;
     let worker = idle(pair, random)?;
     let place = pair.state.vacant;
@@ -357,7 +357,7 @@ pub fn child_by_hand(pair: &mut Pair, random: &Random) -> Option<()> {
     Some(())
 }
 
-pub fn flag_over_1(pair: &mut Pair, random: &Random) -> Option<()> {
+pub fn flag_over_1<N: Layout>(pair: &mut Pair<N>, random: &Random) -> Option<()> {
     let place = random.some(&pair.live())?;
     let word = random.pick(&OVER_1);
     let frame = &mut pair.state.frames[place];
@@ -370,7 +370,7 @@ pub fn flag_over_1(pair: &mut Pair, random: &Random) -> Option<()> {
 }
 
 /// A frame in a deque is called returning.
-pub fn returning_awake(pair: &mut Pair, random: &Random) -> Option<()> {
+pub fn returning_awake<N: Layout>(pair: &mut Pair<N>, random: &Random) -> Option<()> {
     let mut frames = pair.live();
     frames.retain(|&place| pair.state.frames[place].suspended == 0);
     pair.state.frames[random.some(&frames)?].returning = 1;
@@ -378,7 +378,7 @@ pub fn returning_awake(pair: &mut Pair, random: &Random) -> Option<()> {
 }
 
 /// A suspended frame, or any live one, has a word that is neither 0 nor 1 there.
-pub fn returning_over_1(pair: &mut Pair, random: &Random) -> Option<()> {
+pub fn returning_over_1<N: Layout>(pair: &mut Pair<N>, random: &Random) -> Option<()> {
     let live = random.some(&pair.live())?;
     let place = random.some(&suspended(pair)).unwrap_or(live);
     pair.state.frames[place].returning = random.pick(&OVER_1);
@@ -386,7 +386,7 @@ pub fn returning_over_1(pair: &mut Pair, random: &Random) -> Option<()> {
 }
 
 /// A free place is called returning, and perhaps suspended too.
-pub fn free_place_returning(pair: &mut Pair, random: &Random) -> Option<()> {
+pub fn free_place_returning<N: Layout>(pair: &mut Pair<N>, random: &Random) -> Option<()> {
     let place = random.some(&free_places(pair))?;
     pair.state.frames[place].returning = random.pick(&[1, 1, 2, NONE]);
     pair.state.frames[place].suspended = random.word_below(2);
@@ -394,7 +394,7 @@ pub fn free_place_returning(pair: &mut Pair, random: &Random) -> Option<()> {
 }
 
 /// A frame that waits at a sync waits as returning, or the other way round.
-pub fn wait_turned(pair: &mut Pair, random: &Random) -> Option<()> {
+pub fn wait_turned<N: Layout>(pair: &mut Pair<N>, random: &Random) -> Option<()> {
     let place = random.some(&suspended(pair))?;
     pair.state.frames[place].returning ^= 1;
     Some(())

@@ -2,14 +2,14 @@
 
 use super::trees::renumber;
 use super::Pair;
-use crate::plain::{MAX_NODES, NODE_WORDS};
+use crate::plain::{Layout, MAX_NODES};
 use crate::random::Random;
 
 /// Enough for 257 splitters, were there such a tree.
 const ENOUGH_NODES: usize = 521;
 
 /// Other numbers of workers, splitters or nodes, which the state may or may not stand.
-pub fn moved(pair: &mut Pair, random: &Random) -> Option<()> {
+pub fn moved<N: Layout>(pair: &mut Pair<N>, random: &Random) -> Option<()> {
     match random.below(4) {
         0 => pair.state.workers = random.word_below(10),
         1 => {
@@ -30,13 +30,13 @@ pub fn moved(pair: &mut Pair, random: &Random) -> Option<()> {
 }
 
 /// Just as many nodes as a pool may have, or one more.
-pub fn brink(pair: &mut Pair, random: &Random) -> Option<()> {
+pub fn brink<N: Layout>(pair: &mut Pair<N>, random: &Random) -> Option<()> {
     record_nodes(pair, MAX_NODES + random.below(2));
     Some(())
 }
 
 /// Another recorded number of nodes, at least those in use: these are numbered first, the others are free.
-fn record_nodes(pair: &mut Pair, nodes: usize) {
+fn record_nodes<N: Layout>(pair: &mut Pair<N>, nodes: usize) {
     let old = pair.state.nodes;
     let used: Vec<u32> = pair.standings().iter().map(|at| at.node).collect();
     let mut numbers = vec![0; old as usize];
@@ -45,8 +45,7 @@ fn record_nodes(pair: &mut Pair, nodes: usize) {
         numbers[old as usize] = new;
     }
     renumber(pair, &numbers);
-    pair.pool
-        .resize((NODE_WORDS * nodes).max(pair.pool.len()), 0);
+    pair.pool.resize((N::WORDS * nodes).max(pair.pool.len()), 0);
     pair.state.nodes = nodes as u32;
     let free: Vec<u32> = (used.len() as u32..nodes as u32).collect();
     pair.rechain(&free);

@@ -3,11 +3,11 @@
 
 use super::frames::free_places;
 use super::Pair;
-use crate::plain::{View, NONE};
+use crate::plain::{Layout, View, NONE};
 use crate::random::Random;
 
 /// The live children of some frame, eldest first: at least so many.
-fn family(pair: &Pair, random: &Random, least: usize) -> Option<Vec<u32>> {
+fn family<N: Layout>(pair: &Pair<N>, random: &Random, least: usize) -> Option<Vec<u32>> {
     let parents = pair.live().into_iter().map(|place| place as u32);
     let mut families: Vec<Vec<u32>> = parents.map(|parent| pair.children(parent)).collect();
     families.retain(|children| children.len() >= least);
@@ -15,7 +15,7 @@ fn family(pair: &Pair, random: &Random, least: usize) -> Option<Vec<u32>> {
     Some(families.swap_remove(choice))
 }
 
-fn link(pair: &mut Pair, from: u32, to: u32) {
+fn link<N: Layout>(pair: &mut Pair<N>, from: u32, to: u32) {
     pair.state.frames[from as usize].younger = to;
 }
 
@@ -51,8 +51,8 @@ fn not_zero(random: &Random) -> View {
 }
 
 /// Every other time the child that its parent has below it in a deque, and that is the youngest in every run, is the eldest.
-pub fn reordered(pair: &mut Pair, random: &Random) -> Option<()> {
-    let queued_below = |pair: &Pair, place: u32| {
+pub fn reordered<N: Layout>(pair: &mut Pair<N>, random: &Random) -> Option<()> {
+    let queued_below = |pair: &Pair<N>, place: u32| {
         let deques = pair.state.deques.iter();
         let below = deques.map(|deque| &deque.places[..deque.length as usize]);
         below
@@ -69,7 +69,7 @@ pub fn reordered(pair: &mut Pair, random: &Random) -> Option<()> {
 }
 
 /// Nothing is asked of a live frame's view.
-pub fn view_words(pair: &mut Pair, random: &Random) -> Option<()> {
+pub fn view_words<N: Layout>(pair: &mut Pair<N>, random: &Random) -> Option<()> {
     let place = random.some(&pair.live())?;
     let view = &mut pair.state.frames[place].view;
     *view = other_words(*view, random);
@@ -77,7 +77,7 @@ pub fn view_words(pair: &mut Pair, random: &Random) -> Option<()> {
 }
 
 /// Nothing is asked of the totals if no frame lives.
-pub fn totals_after_main(pair: &mut Pair, random: &Random) -> Option<()> {
+pub fn totals_after_main<N: Layout>(pair: &mut Pair<N>, random: &Random) -> Option<()> {
     if pair.state.main_lives() {
         return None;
     }
@@ -85,7 +85,7 @@ pub fn totals_after_main(pair: &mut Pair, random: &Random) -> Option<()> {
     Some(())
 }
 
-pub fn totals_too_early(pair: &mut Pair, random: &Random) -> Option<()> {
+pub fn totals_too_early<N: Layout>(pair: &mut Pair<N>, random: &Random) -> Option<()> {
     if !pair.state.main_lives() {
         return None;
     }
@@ -94,7 +94,7 @@ pub fn totals_too_early(pair: &mut Pair, random: &Random) -> Option<()> {
 }
 
 /// The youngest links to an elder sibling.
-pub fn cycle(pair: &mut Pair, random: &Random) -> Option<()> {
+pub fn cycle<N: Layout>(pair: &mut Pair<N>, random: &Random) -> Option<()> {
     let children = family(pair, random, 2)?;
     let last = children.len() - 1;
     link(pair, children[last], children[random.below(last)]);
@@ -102,7 +102,7 @@ pub fn cycle(pair: &mut Pair, random: &Random) -> Option<()> {
 }
 
 /// Some of the siblings are a chain that ends, the others go round.
-pub fn chain_and_cycle(pair: &mut Pair, random: &Random) -> Option<()> {
+pub fn chain_and_cycle<N: Layout>(pair: &mut Pair<N>, random: &Random) -> Option<()> {
     let children = family(pair, random, 3)?;
     let (chain, round) = children.split_at(1 + random.below(children.len() - 2));
     pair.chain_siblings(chain);
@@ -111,21 +111,21 @@ pub fn chain_and_cycle(pair: &mut Pair, random: &Random) -> Option<()> {
     Some(())
 }
 
-pub fn link_to_itself(pair: &mut Pair, random: &Random) -> Option<()> {
+pub fn link_to_itself<N: Layout>(pair: &mut Pair<N>, random: &Random) -> Option<()> {
     let place = random.some(&pair.live())? as u32;
     link(pair, place, place);
     Some(())
 }
 
 /// None too early: two chains.
-pub fn cut_in_two(pair: &mut Pair, random: &Random) -> Option<()> {
+pub fn cut_in_two<N: Layout>(pair: &mut Pair<N>, random: &Random) -> Option<()> {
     let children = family(pair, random, 2)?;
     link(pair, children[random.below(children.len() - 1)], NONE);
     Some(())
 }
 
 /// A link goes past a sibling, which has its own link as before, or none.
-pub fn skipped(pair: &mut Pair, random: &Random) -> Option<()> {
+pub fn skipped<N: Layout>(pair: &mut Pair<N>, random: &Random) -> Option<()> {
     let children = family(pair, random, 3)?;
     let place = random.below(children.len() - 2);
     link(pair, children[place], children[place + 2]);
@@ -136,7 +136,7 @@ pub fn skipped(pair: &mut Pair, random: &Random) -> Option<()> {
 }
 
 /// A link leads to a frame that is no sibling, to a free place or to none of the table.
-pub fn link_to_a_stranger(pair: &mut Pair, random: &Random) -> Option<()> {
+pub fn link_to_a_stranger<N: Layout>(pair: &mut Pair<N>, random: &Random) -> Option<()> {
     let children = family(pair, random, 1)?;
     let places = pair.state.places;
     let others = (0..places).filter(|place| !children.contains(place));
@@ -159,7 +159,7 @@ pub fn link_to_a_stranger(pair: &mut Pair, random: &Random) -> Option<()> {
     (old != to).then_some(())
 }
 
-pub fn main_linked(pair: &mut Pair, random: &Random) -> Option<()> {
+pub fn main_linked<N: Layout>(pair: &mut Pair<N>, random: &Random) -> Option<()> {
     let mut mains = pair.live();
     mains.retain(|&place| pair.state.frames[place].parent == NONE);
     let main = random.some(&mains)? as u32;
@@ -171,7 +171,7 @@ pub fn main_linked(pair: &mut Pair, random: &Random) -> Option<()> {
 }
 
 /// Two frames of two families have each other's link.
-pub fn links_exchanged(pair: &mut Pair, random: &Random) -> Option<()> {
+pub fn links_exchanged<N: Layout>(pair: &mut Pair<N>, random: &Random) -> Option<()> {
     let live = pair.live();
     let (one, two) = (random.some(&live)?, random.some(&live)?);
     let [first, second] = [one, two].map(|place| pair.state.frames[place]);
@@ -184,7 +184,7 @@ pub fn links_exchanged(pair: &mut Pair, random: &Random) -> Option<()> {
 }
 
 /// A free place has view words, or a link: also those that a frame begins with.
-pub fn free_place_view(pair: &mut Pair, random: &Random) -> Option<()> {
+pub fn free_place_view<N: Layout>(pair: &mut Pair<N>, random: &Random) -> Option<()> {
     let place = random.some(&free_places(pair))?;
     let frame = &mut pair.state.frames[place];
     match random.below(3) {

@@ -1,11 +1,11 @@
 //! Changes of the frame table's length, and of what is recorded of it (document 02, R-6).
 
 use super::Pair;
-use crate::plain::{of_record, Frame, FRAME_WORDS, MAX_PLACES, NONE};
+use crate::plain::{of_record, Frame, Layout, FRAME_WORDS, MAX_PLACES, NONE};
 use crate::random::Random;
 
 /// The free places, from the first.
-fn vacant(pair: &Pair) -> Vec<u32> {
+fn vacant<N: Layout>(pair: &Pair<N>) -> Vec<u32> {
     let next = |place: u32| pair.state.frames.get(place as usize).map(|f| f.parent);
     std::iter::successors(Some(pair.state.vacant), |&place| next(place))
         .take_while(|&place| place != NONE)
@@ -13,7 +13,7 @@ fn vacant(pair: &Pair) -> Vec<u32> {
 }
 
 /// Makes these places free and the chain of free places, in this order.
-fn rechain(pair: &mut Pair, chain: &[u32]) {
+fn rechain<N: Layout>(pair: &mut Pair<N>, chain: &[u32]) {
     let mut next = NONE;
     for &place in chain.iter().rev() {
         pair.state.frames[place as usize] = Frame {
@@ -26,7 +26,7 @@ fn rechain(pair: &mut Pair, chain: &[u32]) {
 }
 
 /// So many places, recorded too; the new ones are free.
-fn grow(pair: &mut Pair, places: usize, random: &Random) {
+fn grow<N: Layout>(pair: &mut Pair<N>, places: usize, random: &Random) {
     let mut chain = vacant(pair);
     chain.extend(pair.state.frames.len() as u32..places as u32);
     if random.one_in(2) {
@@ -37,7 +37,7 @@ fn grow(pair: &mut Pair, places: usize, random: &Random) {
     rechain(pair, &chain);
 }
 
-pub fn grown(pair: &mut Pair, random: &Random) -> Option<()> {
+pub fn grown<N: Layout>(pair: &mut Pair<N>, random: &Random) -> Option<()> {
     let places = pair.state.frames.len();
     let room = MAX_PLACES.checked_sub(places + 1)?;
     let more = 1 + random.pick(&[0, room, random.below(room + 1), room.min(random.below(20))]);
@@ -46,14 +46,14 @@ pub fn grown(pair: &mut Pair, random: &Random) -> Option<()> {
 }
 
 /// More places than a table has, all in order.
-pub fn too_long(pair: &mut Pair, random: &Random) -> Option<()> {
+pub fn too_long<N: Layout>(pair: &mut Pair<N>, random: &Random) -> Option<()> {
     let places = MAX_PLACES + random.pick(&[1, 1, 2, 1 + random.below(40)]);
     grow(pair, places, random);
     Some(())
 }
 
 /// Some of the last places, if they are free, are given up and recorded no more; one place stays.
-pub fn shrunk(pair: &mut Pair, random: &Random) -> Option<()> {
+pub fn shrunk<N: Layout>(pair: &mut Pair<N>, random: &Random) -> Option<()> {
     let last_live = pair.live().last().map_or(0, |place| place + 1).max(1);
     let free = pair.state.frames.len() - last_live;
     let places = last_live + random.below((free > 0).then_some(free)?);
@@ -66,7 +66,7 @@ pub fn shrunk(pair: &mut Pair, random: &Random) -> Option<()> {
 }
 
 /// No place at all, all in order: no frame lives.
-pub fn none_left(pair: &mut Pair, _: &Random) -> Option<()> {
+pub fn none_left<N: Layout>(pair: &mut Pair<N>, _: &Random) -> Option<()> {
     if pair.state.main_lives() {
         return None;
     }
@@ -76,7 +76,7 @@ pub fn none_left(pair: &mut Pair, _: &Random) -> Option<()> {
 }
 
 /// The lent table is longer than recorded; what it has more holds anything.
-pub fn lengthened(pair: &mut Pair, random: &Random) -> Option<()> {
+pub fn lengthened<N: Layout>(pair: &mut Pair<N>, random: &Random) -> Option<()> {
     let more = random.pick(&[1, 1, 2, 1 + random.below(300)]);
     for _ in 0..more {
         let words = [0; FRAME_WORDS].map(|_| random.word());
@@ -87,7 +87,7 @@ pub fn lengthened(pair: &mut Pair, random: &Random) -> Option<()> {
 }
 
 /// The lent table is shorter than recorded.
-pub fn cut_off(pair: &mut Pair, random: &Random) -> Option<()> {
+pub fn cut_off<N: Layout>(pair: &mut Pair<N>, random: &Random) -> Option<()> {
     let places = pair.state.frames.len();
     let left = random.pick(&[0, places - 1, places - 1, random.below(places)]);
     pair.state.frames.truncate(left);
@@ -95,7 +95,7 @@ pub fn cut_off(pair: &mut Pair, random: &Random) -> Option<()> {
 }
 
 /// Another length is recorded than the table has.
-pub fn length_recorded(pair: &mut Pair, random: &Random) -> Option<()> {
+pub fn length_recorded<N: Layout>(pair: &mut Pair<N>, random: &Random) -> Option<()> {
     let old = pair.state.places;
     let others = [
         0,
@@ -113,7 +113,7 @@ pub fn length_recorded(pair: &mut Pair, random: &Random) -> Option<()> {
 }
 
 /// The last places are given up and recorded no more, whatever they hold: a frame, or a link of the free chain, is missed.
-pub fn cut_and_recorded(pair: &mut Pair, random: &Random) -> Option<()> {
+pub fn cut_and_recorded<N: Layout>(pair: &mut Pair<N>, random: &Random) -> Option<()> {
     let last = pair
         .state
         .frames
@@ -128,7 +128,7 @@ pub fn cut_and_recorded(pair: &mut Pair, random: &Random) -> Option<()> {
 
 /// A number that no place of the table has, in a deque, as a parent, as a sibling, or on the free chain: the next after the last, or further
 /// on, up to where the longest table would have it.
-pub fn number_past_it(pair: &mut Pair, random: &Random) -> Option<()> {
+pub fn number_past_it<N: Layout>(pair: &mut Pair<N>, random: &Random) -> Option<()> {
     let places = pair.state.places;
     let longest = MAX_PLACES as u32;
     let past = random.pick(&[

@@ -1,7 +1,7 @@
 //! Words changed without regard to what they mean.
 
 use super::Pair;
-use crate::plain::{self, View, Words, DEQUES_WORDS, FRAME_WORDS, NODE_WORDS, NONE, NUMBERS_WORDS};
+use crate::plain::{self, Layout, View, Words, DEQUES_WORDS, FRAME_WORDS, NONE, NUMBERS_WORDS};
 use crate::random::Random;
 use crate::steps;
 use std::array;
@@ -31,19 +31,19 @@ fn another(old: u32, random: &Random) -> u32 {
 }
 
 /// The state word whose turn it is.
-pub fn state_word(pair: &mut Pair, random: &Random) -> Option<()> {
+pub fn state_word<N: Layout>(pair: &mut Pair<N>, random: &Random) -> Option<()> {
     change_state(pair, pair.turn, random);
     Some(())
 }
 
 /// Any word of any record.
-pub fn record_word(pair: &mut Pair, random: &Random) -> Option<()> {
+pub fn record_word<N: Layout>(pair: &mut Pair<N>, random: &Random) -> Option<()> {
     let words = pair.state.frames.len() * FRAME_WORDS;
     change_state(pair, TURNS + random.below(words), random);
     Some(())
 }
 
-fn change_state(pair: &mut Pair, position: usize, random: &Random) {
+fn change_state<N: Layout>(pair: &mut Pair<N>, position: usize, random: &Random) {
     let mut words = plain::to_words(&pair.state);
     let mut all = (words.numbers.iter_mut())
         .chain(&mut words.deques)
@@ -54,13 +54,13 @@ fn change_state(pair: &mut Pair, position: usize, random: &Random) {
     pair.state = plain::from_words(&words);
 }
 
-pub fn pool_word(pair: &mut Pair, random: &Random) -> Option<()> {
+pub fn pool_word<N: Layout>(pair: &mut Pair<N>, random: &Random) -> Option<()> {
     let position = random.below(pair.pool.len());
     pair.pool[position] = another(pair.pool[position], random);
     Some(())
 }
 
-pub fn two_words(pair: &mut Pair, random: &Random) -> Option<()> {
+pub fn two_words<N: Layout>(pair: &mut Pair<N>, random: &Random) -> Option<()> {
     for _ in 0..2 {
         if random.one_in(2) {
             let words = TURNS + pair.state.frames.len() * FRAME_WORDS;
@@ -73,12 +73,12 @@ pub fn two_words(pair: &mut Pair, random: &Random) -> Option<()> {
 }
 
 /// All words random, but often with numbers that lead the check on.
-pub fn garbage(pair: &mut Pair, random: &Random) -> Option<()> {
+pub fn garbage<N: Layout>(pair: &mut Pair<N>, random: &Random) -> Option<()> {
     fill(pair, random, |random| random.word());
     Some(())
 }
 
-pub fn small_garbage(pair: &mut Pair, random: &Random) -> Option<()> {
+pub fn small_garbage<N: Layout>(pair: &mut Pair<N>, random: &Random) -> Option<()> {
     let limit = random.pick(&[2, 3, 10, 64, 257]);
     fill(pair, random, |random| match random.below(12) {
         0 => NONE,
@@ -87,7 +87,7 @@ pub fn small_garbage(pair: &mut Pair, random: &Random) -> Option<()> {
     Some(())
 }
 
-fn fill(pair: &mut Pair, random: &Random, word: impl Fn(&Random) -> u32) {
+fn fill<N: Layout>(pair: &mut Pair<N>, random: &Random, word: impl Fn(&Random) -> u32) {
     let old = pair.state.clone();
     let words = Words {
         numbers: array::from_fn(|_| word(random)),
@@ -107,7 +107,7 @@ fn fill(pair: &mut Pair, random: &Random, word: impl Fn(&Random) -> u32) {
 }
 
 /// Some records replaced by random ones, the pool as it was.
-pub fn garbage_frames(pair: &mut Pair, random: &Random) -> Option<()> {
+pub fn garbage_frames<N: Layout>(pair: &mut Pair<N>, random: &Random) -> Option<()> {
     let places = pair.state.places;
     for frame in &mut pair.state.frames {
         if random.one_in(4) {
@@ -126,12 +126,13 @@ pub fn garbage_frames(pair: &mut Pair, random: &Random) -> Option<()> {
 }
 
 /// The state as it was, the pool full of links that may lead anywhere.
-pub fn garbage_pool(pair: &mut Pair, random: &Random) -> Option<()> {
+pub fn garbage_pool<N: Layout>(pair: &mut Pair<N>, random: &Random) -> Option<()> {
     let nodes = pair.state.nodes;
     let values = random.one_in(2);
-    for node in pair.pool.chunks_mut(NODE_WORDS) {
+    for node in pair.pool.chunks_mut(N::WORDS) {
         node.fill_with(|| match random.below(4) {
             0 if values => random.word_below(nodes + 1),
+            _ if N::NO_LINK == NONE => random.pick(&[NONE, random.word_below(nodes)]),
             _ => steps::like_links(nodes, random),
         });
         node[0] = random.word_below(3);
@@ -140,15 +141,15 @@ pub fn garbage_pool(pair: &mut Pair, random: &Random) -> Option<()> {
 }
 
 /// The lent pool has fewer nodes than are recorded.
-pub fn pool_cut_off(pair: &mut Pair, random: &Random) -> Option<()> {
-    let whole = NODE_WORDS * pair.state.nodes as usize;
+pub fn pool_cut_off<N: Layout>(pair: &mut Pair<N>, random: &Random) -> Option<()> {
+    let whole = N::WORDS * pair.state.nodes as usize;
     let left = random.pick(&[0, whole - 1, whole - 2, random.below(whole)]);
     pair.pool.truncate(left);
     Some(())
 }
 
 /// Words after the recorded nodes are nobody's.
-pub fn pool_lengthened(pair: &mut Pair, random: &Random) -> Option<()> {
+pub fn pool_lengthened<N: Layout>(pair: &mut Pair<N>, random: &Random) -> Option<()> {
     let more = 1 + random.below(9);
     pair.pool.extend(random.words(more));
     Some(())

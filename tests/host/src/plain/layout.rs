@@ -5,6 +5,7 @@ use super::NONE;
 
 /// A node's words in a pool. The first is its holders (the reference count).
 pub trait Layout: Copy {
+    const WORDS: usize;
     /// A link to no node.
     const NO_LINK: u32;
 
@@ -35,6 +36,7 @@ pub trait Layout: Copy {
 
 /// Holders, then left plus 65,536 times right, the value, or the next free node.
 impl Layout for [u32; 2] {
+    const WORDS: usize = 2;
     const NO_LINK: u32 = 65_535;
 
     #[inline(always)]
@@ -113,6 +115,7 @@ impl Layout for [u32; 2] {
 
 /// Holders, left, right, value; a free node is 0, the next free node, 0, 0.
 impl Layout for [u32; 4] {
+    const WORDS: usize = 4;
     const NO_LINK: u32 = NONE;
 
     fn nodes(pool: &[u32]) -> &[Self] {
