@@ -1,6 +1,7 @@
 //! Every peer must answer as the library does, before anything is measured.
 
 use crate::case::{path_nodes, Case, Workload, SHARED_WRITES, WAITING};
+use crate::converts;
 use crate::filling::{Filled, FullStep, FILLINGS, FULL_STEPS, POOL_FULL, WRITTEN};
 use crate::images;
 use crate::job::FULL_CALLS;
@@ -148,12 +149,13 @@ fn assert_kind(kind: Kind) {
 /// Random runs with folds.
 const RUNS: u64 = 300;
 
-/// Every workload at every size, the kinds of records, the single steps, the filled pools, the images, the reports, and the totals and pairs of
-/// random runs.
+/// Every workload at every size, the kinds of records, the single steps, the filled pools, the images, the change-overs, the reports, and the totals
+/// and pairs of random runs.
 pub fn all(workloads: &[Workload], sizes: &[usize]) {
     runs::compare(&compared().collect::<Vec<_>>(), RUNS);
     FOLDS.into_iter().chain(CONTROLS).for_each(assert_kind);
     images::compare();
+    converts::compare();
     reports::compare();
     assert_filled();
     assert_full_steps();

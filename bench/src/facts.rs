@@ -37,6 +37,23 @@ fn archive() -> String {
     )
 }
 
+/// The archive's text before R-9, at this commit.
+const TEXT_BEFORE: (u64, &str) = (20_571, "884d316");
+
+/// The bytes of code and constants in the archive, by binutils.
+fn text() -> String {
+    let totals = said("size", &["-t", ARCHIVE]);
+    let text = totals
+        .lines()
+        .last()
+        .and_then(|line| line.split_whitespace().next());
+    let (before, commit) = TEXT_BEFORE;
+    format!(
+        "{} bytes; before R-9, commit {commit}: {before}",
+        text.unwrap_or("-")
+    )
+}
+
 /// What git says of the repository that this bench is of, or a dash.
 fn git(words: &[&str]) -> String {
     let at = ["-C", env!("CARGO_MANIFEST_DIR")];
@@ -88,6 +105,7 @@ pub fn list() -> String {
         ),
         ("commit", commit()),
         ("libsplitter.a", archive()),
+        ("its text", text()),
         ("rustc", said("rustc", &["--version"])),
         ("valgrind", said("valgrind", &["--version"])),
         (

@@ -3,6 +3,7 @@
 use crate::case::{Standing, LONG_WORKLOADS, PLACES, WORKLOADS};
 use crate::checks::{self, CheckCost};
 use crate::compare;
+use crate::converts::{self, ConvertCost};
 use crate::facts;
 use crate::filled::{self, FilledCost, FullStepCost};
 use crate::images::{self, ImageCost};
@@ -58,6 +59,8 @@ pub struct Figures {
     pub reports: Vec<ReportCost>,
     /// Saving and reading.
     pub images: Vec<ImageCost>,
+    /// Changing over.
+    pub converts: Vec<ConvertCost>,
     /// Folds, spawns and returns.
     pub kinds: Vec<KindCost>,
     /// Records in tables of both lengths, and searches for siblings by places.
@@ -130,6 +133,8 @@ fn measure() -> Figures {
     let full_steps = filled::count_steps();
     eprintln!("bench: instructions of saving and reading");
     let images = images::count();
+    eprintln!("bench: instructions of the change-over");
+    let converts = converts::count();
     Figures {
         facts,
         stack: stack::measure(),
@@ -139,6 +144,7 @@ fn measure() -> Figures {
         steps,
         reports,
         images,
+        converts,
         kinds,
         places,
         searches,

@@ -2,6 +2,7 @@
 
 use crate::case::{Workload, MAX_PLACES, PLACES};
 use crate::checks::CheckCost;
+use crate::converts::ConvertCost;
 use crate::full::Figures;
 use crate::images::ImageCost;
 use crate::kind::{Kind, FOLDS};
@@ -99,6 +100,7 @@ pub fn list(figures: &Figures, checks: &[f64]) -> String {
         linear_goal(&figures.empty_tables, &figures.full_tables),
         images_goal(images),
         blocks_goal(images),
+        convert_goal(&figures.converts),
     ];
     goals.extend(figures.stack.as_ref().map(stack_goal));
     let line = |goal: Goal| {
@@ -336,5 +338,19 @@ fn blocks_goal(images: &[ImageCost]) -> Goal {
         what: "checks of the blocks: at least three times fewer instructions per block than before R-4",
         met: images.iter().map(times).all(|times| times >= BEFORE_LIMIT),
         figures: format!("before / library: {}", figures.join(", ")),
+    }
+}
+
+/// R-9, in every pool measured.
+fn convert_goal(costs: &[ConvertCost]) -> Goal {
+    let shown = |cost: &ConvertCost| {
+        let [used, nodes] = [cost.used, cost.nodes].map(|number| grouped(number as u64));
+        format!("{used} of {nodes} nodes in use: {:.3}", cost.ratio())
+    };
+    let figures: Vec<String> = costs.iter().map(shown).collect();
+    Goal {
+        what: "change-over: no more instructions than plain Rust's, the soundness check included",
+        met: costs.iter().all(|cost| cost.ratio() <= 1.0),
+        figures: format!("library / plain: {}", figures.join("; ")),
     }
 }

@@ -1,6 +1,7 @@
 //! A case by name, so that another process can be asked to run it.
 
 use crate::case::{Case, Standing, Workload, RECORDS};
+use crate::converts::{ConvertCall, OldPool};
 use crate::filling::{Filled, Filling, FullStep};
 use crate::kind::Kind;
 
@@ -34,6 +35,8 @@ pub enum Job {
     Report(Workload, usize),
     /// The prelude alone.
     ReportRest(Workload, usize),
+    /// What is done with a pool of nodes of four words.
+    Convert(ConvertCall, OldPool),
 }
 
 /// Single steps in a full pool.
@@ -96,6 +99,7 @@ impl Job {
             Job::KindRest(kind, places) => kind.rest().in_table(places),
             Job::Report(workload, n) => Case::records(workload, n).from_start(),
             Job::ReportRest(workload, n) => Case::records(workload, n).rest(workload).from_start(),
+            Job::Convert(_, pool) => pool.case(),
         }
     }
 
@@ -121,6 +125,9 @@ impl Job {
                 vec!["report".into(), workload.name().into(), n.to_string()]
             }
             Job::ReportRest(workload, n) => with_rest(Job::Report(workload, n)),
+            Job::Convert(call, pool) => ["convert", call.name(), pool.name()]
+                .map(String::from)
+                .into(),
         }
     }
 
@@ -167,6 +174,10 @@ impl Job {
             ["report", workload, n, "rest"] => {
                 Some(Job::ReportRest(Workload::named(workload)?, number(n)?))
             }
+            ["convert", call, pool] => Some(Job::Convert(
+                ConvertCall::named(call)?,
+                OldPool::named(pool)?,
+            )),
             [workload, n, places] => Some(Job::Records(
                 Workload::named(workload)?,
                 number(n)?,

@@ -5,6 +5,7 @@ mod case;
 mod checks;
 mod compare;
 mod contents;
+mod converts;
 mod facts;
 mod filled;
 mod filling;

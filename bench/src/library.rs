@@ -1,6 +1,8 @@
 //! libsplitter.a through its C interface, as the binding declares it.
 
 use crate::work::Work;
+use host_tests::parts::Parts;
+use host_tests::plain;
 use splitter::{clocks_words, raw, Frame, Report, State, NODE_WORDS};
 
 /// The memory that the calls are lent.
@@ -25,6 +27,25 @@ impl Library {
         let refusal = raw::start(state.parts(), table, workers as u32, values, pool);
         assert_eq!(refusal, 0, "library: the start is refused");
         library
+    }
+
+    /// Such a state and its table, with this pool, whatever its nodes are.
+    pub fn of(state: &plain::State, pool: Vec<u32>) -> Self {
+        let plain::Words {
+            numbers,
+            deques,
+            frames,
+        } = plain::to_words(state);
+        let (records, _) = frames.as_chunks();
+        Library {
+            state: State { numbers, deques },
+            table: records
+                .iter()
+                .map(|&words| Frame::from_words(words))
+                .collect(),
+            pool,
+            work: Work::of(state.nodes as usize),
+        }
     }
 
     pub fn tape(&mut self, tape: &[u8], answers: &mut [u32]) -> u32 {
@@ -53,6 +74,27 @@ impl Library {
     pub fn load(&mut self, image: &[u8]) -> u32 {
         let (state, work) = (self.state.parts(), self.work.words());
         raw::load(state, &mut self.table, &mut self.pool, work, image)
+    }
+
+    pub fn convert(&mut self) -> u32 {
+        let (state, work) = (self.state.parts(), self.work.words());
+        raw::convert(state, &self.table, &mut self.pool, work)
+    }
+
+    pub fn parts(&self) -> Parts {
+        Parts {
+            numbers: self.state.numbers.into(),
+            deques: self.state.deques.into(),
+            frames: self
+                .table
+                .iter()
+                .flat_map(|frame| frame.to_words())
+                .collect(),
+        }
+    }
+
+    pub fn pool(&mut self) -> &mut [u32] {
+        &mut self.pool
     }
 }
 

@@ -1,12 +1,14 @@
-//! What is measured: one call with a tape, single steps, a report, or one call with an image.
+//! What is measured: one call with a tape, single steps, a report, one call with an image, or a change-over.
 
 use crate::case::Case;
+use crate::converts::{self, ConvertCall, UNSOUND};
 use crate::images;
 use crate::job::{ImageCall, Job};
-use crate::peer::{Images, Peer, Reporter, Run};
+use crate::peer::{Conversion, Images, Peer, Reporter, Run};
 use crate::plain_image::WRONG_CHECK;
 use crate::reports::{self, NO_SPAN};
 use crate::tape::fields;
+use host_tests::plain::OLD_NODE_WORDS;
 
 /// The function that callgrind counts in; by its symbol, so it must stay a function of its own.
 #[no_mangle]
@@ -59,11 +61,32 @@ pub fn bench_measured_bare_load(run: &mut dyn Images, image: &[u8]) -> u32 {
     run.bare_load(image)
 }
 
-/// The same for a plain copy.
+/// The same for a plain copy, of an image or of a pool.
 #[no_mangle]
 #[inline(never)]
-pub fn bench_measured_copy(image: &[u8], target: &mut [u8]) {
-    target.copy_from_slice(image);
+pub fn bench_measured_copy(bytes: &[u8], target: &mut [u8]) {
+    target.copy_from_slice(bytes);
+}
+
+/// The same for a change-over.
+#[no_mangle]
+#[inline(never)]
+pub fn bench_measured_convert(run: &mut dyn Conversion) -> u32 {
+    run.convert()
+}
+
+/// The same for its pass over the nodes.
+#[no_mangle]
+#[inline(never)]
+pub fn bench_measured_pack(run: &mut dyn Conversion) {
+    run.pack();
+}
+
+/// The same for the soundness check of nodes of four words.
+#[no_mangle]
+#[inline(never)]
+pub fn bench_measured_old_check(run: &mut dyn Conversion) -> u32 {
+    run.old_check()
 }
 
 /// What is not measured, to warm the allocator up, then the same on a fresh run, measured.
@@ -86,6 +109,10 @@ pub fn once(peer: Peer, job: Job) {
             let mut reporter = peer.reporter(&case).expect("it reports");
             let refusal = bench_measured_report(reporter.as_mut(), &case.tape, &mut answers);
             assert_eq!(refusal, NO_SPAN, "{}: the report's answer", peer.name());
+        }
+        Job::Convert(call, pool) => {
+            converts::compare_peer(peer, &case, pool.name());
+            convert_call(peer, &case, call);
         }
         _ => {
             let mut answers = answers(peer, &case);
@@ -125,6 +152,33 @@ fn image_call(peer: Peer, case: &Case, call: ImageCall, image: &[u8]) {
         "{}: saves other bytes",
         peer.name()
     );
+}
+
+/// One change-over, measured, on a fresh run with nodes of four words.
+fn convert_call(peer: Peer, case: &Case, call: ConvertCall) {
+    let mut run = converts::conversion(peer, case);
+    let run = run.as_mut();
+    let (refusal, expected) = match call {
+        ConvertCall::Convert => (bench_measured_convert(run), 0),
+        ConvertCall::Refused => {
+            converts::end_chain_elsewhere(run.pool());
+            (bench_measured_convert(run), UNSOUND)
+        }
+        ConvertCall::Pack => {
+            bench_measured_pack(run);
+            (0, 0)
+        }
+        ConvertCall::Check => (bench_measured_old_check(run), 0),
+        ConvertCall::Copy => {
+            let words = &run.pool()[..OLD_NODE_WORDS * case.nodes];
+            let bytes: Vec<u8> = words.iter().flat_map(|word| word.to_le_bytes()).collect();
+            let mut target = vec![0; bytes.len()];
+            bench_measured_copy(&bytes, &mut target);
+            assert!(target == bytes, "another copy");
+            (0, 0)
+        }
+    };
+    assert_eq!(refusal, expected, "{}: the call's answer", peer.name());
 }
 
 /// The answers to the case's tape on a fresh run.

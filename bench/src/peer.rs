@@ -1,13 +1,15 @@
 //! The peers: the same tapes go in, the same answer words come out.
 
 use crate::case::Case;
+use crate::converts::PAST;
 use crate::library::{Library, LibraryReport};
 use crate::machine::Machine;
 use crate::plain_image::{self, Sum};
 use crate::tape::record;
 use crate::values::Values;
 use crate::work::Work;
-use host_tests::plain::{self, OldNode};
+use host_tests::parts::Parts;
+use host_tests::plain::{self, Layout, OldNode, Refusal, OLD_NODE_WORDS};
 use splitter::NODE_WORDS;
 
 #[derive(Clone, Copy, PartialEq, Eq, Debug)]
@@ -74,6 +76,30 @@ pub trait Images {
     }
 }
 
+/// R-9's call, on a run with nodes of four words.
+pub trait Conversion {
+    /// 0 with nodes of two words in the front of the pool, or the refusal.
+    fn convert(&mut self) -> u32;
+
+    /// The pass over the nodes alone. The library has no call for it, nor for the next.
+    fn pack(&mut self) {
+        unimplemented!("a change-over has its soundness check")
+    }
+
+    /// The soundness check alone, of nodes of four words: 0 or 6.
+    fn old_check(&mut self) -> u32 {
+        unimplemented!("the check is part of the change-over")
+    }
+
+    /// State and table.
+    fn parts(&self) -> Parts;
+
+    fn pool(&mut self) -> &mut [u32];
+
+    /// The run after the change-over. (A tape call of its own here would be a second one of plain Rust's, which the compiler then makes slower.)
+    fn go_on(self: Box<Self>) -> Box<dyn Run>;
+}
+
 /// R-7's call, which makes a start of its own.
 pub trait Reporter {
     /// The refusal, or 0.
@@ -112,11 +138,20 @@ impl Peer {
     /// A run that has had the case's prelude, all of it accepted.
     pub fn begin(self, case: &Case) -> Box<dyn Run> {
         let mut run = self.start(case);
-        let mut answers = vec![0; case.prelude.len() / 4];
-        let refusal = run.tape(&case.prelude, &mut answers);
-        let accepted = refusal == 0 && answers.chunks(2).all(|pair| pair[0] > 100);
-        assert!(accepted, "{}: the prelude is refused", self.name());
+        run_prelude(run.as_mut(), case, self.name());
         run
+    }
+
+    /// The same in a pool of nodes of four words, with words past them, if it changes over from these.
+    pub fn conversion(self, case: &Case) -> Option<Box<dyn Conversion>> {
+        let mut old = FourWords::start(case);
+        run_prelude(&mut old, case, Peer::FourWords.name());
+        old.pool.extend(PAST);
+        match self {
+            Peer::Library => Some(Box::new(Library::of(&old.state, old.pool))),
+            Peer::Plain => Some(Box::new(old)),
+            _ => None,
+        }
     }
 
     /// Reports of the case's start, if it makes them.
@@ -165,6 +200,20 @@ impl Peer {
     }
 }
 
+fn run_prelude(run: &mut dyn Run, case: &Case, name: &str) {
+    let mut answers = vec![0; case.prelude.len() / 4];
+    let refusal = run.tape(&case.prelude, &mut answers);
+    let accepted = refusal == 0 && answers.chunks(2).all(|pair| pair[0] > 100);
+    assert!(accepted, "{name}: the prelude is refused");
+}
+
+/// State, table and pool of a run in plain Rust that has had the case's prelude.
+pub fn left_by_plain(case: &Case) -> (Parts, Vec<u32>) {
+    let mut run = Plain::start(case, Sum::ByWords);
+    run_prelude(&mut run, case, Peer::Plain.name());
+    (Parts::of(&run.state), run.pool)
+}
+
 impl Run for Library {
     fn tape(&mut self, tape: &[u8], answers: &mut [u32]) -> u32 {
         Library::tape(self, tape, answers)
@@ -190,6 +239,24 @@ impl Images for Library {
 
     fn load(&mut self, image: &[u8]) -> u32 {
         Library::load(self, image)
+    }
+}
+
+impl Conversion for Library {
+    fn convert(&mut self) -> u32 {
+        Library::convert(self)
+    }
+
+    fn parts(&self) -> Parts {
+        Library::parts(self)
+    }
+
+    fn pool(&mut self) -> &mut [u32] {
+        Library::pool(self)
+    }
+
+    fn go_on(self: Box<Self>) -> Box<dyn Run> {
+        self
     }
 }
 
@@ -294,10 +361,7 @@ impl Images for Plain {
     }
 }
 
-/// The words of a node before R-8.
-const FOUR_WORDS: usize = size_of::<OldNode>() / size_of::<u32>();
-
-/// The same engine on such nodes.
+/// The same engine on nodes of four words.
 struct FourWords {
     state: plain::State,
     pool: Vec<u32>,
@@ -306,7 +370,7 @@ struct FourWords {
 
 impl FourWords {
     fn start(case: &Case) -> Self {
-        let mut pool = vec![0; FOUR_WORDS * case.nodes];
+        let mut pool = vec![0; OLD_NODE_WORDS * case.nodes];
         let table = vec![plain::Frame::default(); case.places];
         let workers = case.workers as u32;
         let (state, refusal) = plain::start_of::<OldNode>(workers, &case.values, table, &mut pool);
@@ -327,6 +391,42 @@ impl Run for FourWords {
 
     fn totals(&mut self) -> Option<[u32; 4]> {
         (!self.state.main_lives()).then(|| self.state.totals.words())
+    }
+}
+
+impl Conversion for FourWords {
+    fn convert(&mut self) -> u32 {
+        plain::convert(&self.state, &mut self.pool, self.work.words())
+    }
+
+    fn pack(&mut self) {
+        let nodes = OldNode::nodes_mut(&mut self.pool);
+        plain::pack(&mut nodes[..self.state.nodes as usize]);
+    }
+
+    fn old_check(&mut self) -> u32 {
+        match plain::sound_of::<OldNode>(&self.state, &self.pool, self.work.words()) {
+            Some(_) => 0,
+            None => Refusal::Unsound as u32,
+        }
+    }
+
+    fn parts(&self) -> Parts {
+        Parts::of(&self.state)
+    }
+
+    fn pool(&mut self) -> &mut [u32] {
+        &mut self.pool
+    }
+
+    fn go_on(self: Box<Self>) -> Box<dyn Run> {
+        let FourWords { state, pool, work } = *self;
+        Box::new(Plain {
+            state,
+            pool,
+            work,
+            sum: Sum::ByWords,
+        })
     }
 }
 

@@ -3,6 +3,7 @@
 use crate::case::{Standing, MAX_NODES, PLACES, WORKLOADS};
 use crate::checks;
 use crate::compare;
+use crate::converts;
 use crate::filled;
 use crate::images;
 use crate::kind;
@@ -47,6 +48,8 @@ pub fn run() {
         "{}",
         tables::block_instructions(&images::count()).markdown()
     );
+    println!("Instructions of the change-over:\n");
+    println!("{}", tables::converts(&converts::count()).markdown());
     println!("Instructions of a call with an empty tape, that is of the soundness check:\n");
     println!(
         "{}",

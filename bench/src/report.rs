@@ -39,7 +39,8 @@ All are fed the same tapes and give the same answer words, which the bench compa
   first node with more (R-2); a return waits for the frame's children, and the last child's end ends the waiting frames above it in a
   loop (R-3). An only child's view joins its parent's; where siblings live, the table is searched for the one that names the ended
   frame, and the next frame is found by going down the eldest children (R-5). Its nodes have two words (R-8).
-- four words: plain, compiled for nodes of four words, those from before R-8; only in \"Half the pool\".
+- four words: plain, compiled for nodes of four words, those from before R-8; only in \"Half the pool\". It also makes the old pools of
+  \"The change-over\".
 - copying: a machine in Rust that keeps a `Vec<u32>` of values for each live frame; spawn copies it into the buffer of its frame's
   place, which later frames in this place use again. Its live frames are linked in R-5's order, both ways, so that no sibling is
   searched for.
@@ -85,6 +86,7 @@ pub fn text(figures: &Figures) -> String {
         check(figures),
         filled(figures),
         saving(figures),
+        converting(figures),
         PICTURES.to_string(),
     ]
     .concat()
@@ -363,5 +365,33 @@ Instructions per block of 512 bytes; ratios below 1: the library needs fewer.",
         "Saving and reading",
         &intro,
         tables::block_instructions(&figures.images),
+    )
+}
+
+fn converting(figures: &Figures) -> String {
+    let intro = "\
+R-9's call, `splitter_convert`: it checks a state with nodes of four words, then turns the pool into nodes of two words in the front of the
+same slice and clears the old nodes' remaining words. It is made once in the life of a run. The old pools are made by plain Rust on nodes of four
+words; library and plain are lent the same state, table and pool. n is 16 with 1,024 nodes and 256 with 16,384. In 64 places Main lives alone,
+without a write, and the other nodes are free; in 256 places a line of frames from Main down has written until fewer nodes are free than the
+next write needs: with 1,024 nodes one write in each frame, with 16,384 the pool \"full, 256 places\" from above. Before anything is counted
+the bench compares: each peer leaves the pool of a run in the new layout at the same record, word for word, zeros after it, and the words past
+the old nodes, state and table as they were; a tape that follows is answered as in that run. Refused, a peer changes nothing of these.
+
+- plain: `convert` of `tests/host/src/plain.rs`, with the soundness check of \"four words\". Then one pass from the front, in place: the four
+  words of a node are read and cleared, then its two are stored.
+- copy: `copy_from_slice` of the old nodes' bytes, 16 for each, and no check of any kind.
+
+\"Change-over\" is accepted and has the soundness check in it. \"Refused by 6\" is the same call on a pool whose last free node names a node
+in place of none: library and plain see it in their last test, so that this is the whole check, and no node is turned. \"Less the check\" is
+the pass over the nodes. The library's check of nodes of four words cannot be called by itself, nor its pass: its figure is the change-over
+less the refused one, which make the same tests. Plain's pass is counted in a call of its own, and so is its check, in \"check alone\"; compiled
+into the change-over they take some instructions more or less per node.
+
+Instructions of one call; ratios below 1: the library needs fewer. \"Per node\" is per node of the pool.";
+    section(
+        "The change-over (R-9)",
+        intro,
+        tables::converts(&figures.converts),
     )
 }

@@ -2,6 +2,7 @@
 
 use crate::case::{Standing, MAX_NODES};
 use crate::checks::CheckCost;
+use crate::converts;
 use crate::filled::{self, FilledCost, FullStepCost, TIMED, TIMED_POOLS};
 use crate::filling::{FullStep, N};
 use crate::full::Figures;
@@ -52,6 +53,7 @@ pub fn text(figures: &Figures) -> String {
         per_place,
     } = Bound::of(figures);
     let step = |step| single(&figures.full_steps, step);
+    let [untouched_change, full_change] = converts::large(&figures.converts);
     let read = step(FullStep::Read);
     format!(
         "
@@ -70,6 +72,9 @@ far apart ({apart}; these pools differ in their values only) {apart_time:.0}. Re
 A save pays the check too, and a reading, for what it has read. In the full pool of \"Steps in a full pool\" a read in a call of its own
 takes {single} instructions, nearly all of them the check; as one of 8,192 records of a tape it takes {taped:.0}, its share of the check
 included. The costliest step there is a return that ends all frames and frees all nodes: {end} instructions.
+
+R-9's change-over, once in the life of a run, pays a check of nodes of four words and then passes over the nodes: with {nodes} nodes
+{untouched_change} instructions while the pool is untouched and {full_change} when it is full, with 256 places.
 ",
         first = grouped(first),
         nodes = grouped(MAX_NODES as u64),
@@ -84,6 +89,8 @@ included. The costliest step there is a return that ends all frames and frees al
         single = whole(read.single[0]),
         taped = read.taped.map_or(0.0, |[library, _]| library),
         end = whole(step(FullStep::EndAll).single[0]),
+        untouched_change = grouped(untouched_change),
+        full_change = grouped(full_change),
     )
 }
 

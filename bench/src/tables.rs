@@ -2,6 +2,7 @@
 
 use crate::case::{Workload, BOTH, LONG_WORKLOADS};
 use crate::checks::CheckCost;
+use crate::converts::ConvertCost;
 use crate::filled::{self, FilledCost, FullStepCost};
 use crate::filling::Filling;
 use crate::images::{CallCosts, ImageCost};
@@ -401,6 +402,56 @@ pub fn block_instructions(images: &[ImageCost]) -> Table {
                 grouped(image.blocks()),
             ];
             table.row([&first[..], &figures, &ratios].concat());
+        }
+    }
+    table
+}
+
+/// The instructions of a call with a pool of nodes of four words, of library and plain Rust, if they have it.
+type ConvertCount = fn(&ConvertCost) -> [Option<u64>; 2];
+
+/// The change-over, whole, refused and less its check, and the check alone.
+const CONVERT_CALLS: [(&str, ConvertCount); 4] = [
+    ("change-over", |cost| cost.convert.map(Some)),
+    ("refused by 6", |cost| cost.refused.map(Some)),
+    ("less the check", |cost| cost.pack.map(Some)),
+    ("check alone", |cost| [None, Some(cost.check)]),
+];
+
+/// R-9's call, a row for each old pool: library and plain Rust, the library against plain Rust, all per node too, and a copy of the old pool.
+pub fn converts(costs: &[ConvertCost]) -> Table {
+    let header = [
+        "call",
+        "nodes",
+        "in use",
+        "places",
+        "library",
+        "plain",
+        "library / plain",
+        "library per node",
+        "plain per node",
+        "copy per node",
+    ];
+    let mut table = Table::new(header.map(String::from).into());
+    let shown = |figure: Option<String>| figure.unwrap_or_else(|| "-".into());
+    for (call, instructions) in CONVERT_CALLS {
+        for cost in costs {
+            let counts = instructions(cost);
+            let [library, plain] = counts;
+            let ratio = library.zip(plain).map(|(a, b)| a as f64 / b as f64);
+            let per_node = |count: u64| format!("{:.1}", cost.per_node(count));
+            let numbers = [cost.nodes, cost.used, cost.places].map(|number| grouped(number as u64));
+            table.row(
+                [
+                    vec![call.to_string()],
+                    numbers.to_vec(),
+                    counts.map(|count| shown(count.map(grouped))).to_vec(),
+                    vec![shown(ratio.map(|ratio| format!("{ratio:.2}")))],
+                    counts.map(|count| shown(count.map(per_node))).to_vec(),
+                    vec![per_node(cost.copy)],
+                ]
+                .concat(),
+            );
         }
     }
     table

@@ -1,5 +1,6 @@
 //! Runs one peer on one case, for callgrind: see `USAGE`; `rest` is the tape without the records that are counted; a report's tape has the
-//! prelude too; an image is that of the state that `check` has; a filling, a step in a full pool and a kind of records go by their names in the tables, each as one word.
+//! prelude too; an image is that of the state that `check` has; a filling, a step in a full pool and a kind of records go by their names in the tables, each as one word, an old pool
+//! by its name in converts.rs.
 //! By hand: `valgrind --tool=callgrind --dump-instr=yes --toggle-collect=bench_measured one library mix 16 64`.
 
 use bench::job::Job;
@@ -17,6 +18,7 @@ one PEER filled FILLING
 one PEER full_steps|full_tape STEP
 one PEER kind KIND PLACES [rest]
 one PEER report WORKLOAD N [rest]
+one PEER convert convert|refused|pack|check|copy POOL
 one PEER save|load|bare_save|bare_load|checks|copy N NODES PLACES FRAMES WRITES LINES";
 
 fn main() -> ExitCode {
